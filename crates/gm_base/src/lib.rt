@@ -1,0 +1,15 @@
+//! What all other crates stand on: places in a text, the rules that a text may break, statuses, lists and
+//! texts that contracts see as lists, and the traits through which the program reads and writes.
+#![tactic(auto)]
+
+mod lists;
+mod places;
+mod rules;
+mod statuses;
+mod wants;
+
+pub use lists::{Items, Text};
+pub use places::Place;
+pub use rules::{Refusal, Rule, Stop};
+pub use statuses::Status;
+pub use wants::{Failed, NoMemory};
