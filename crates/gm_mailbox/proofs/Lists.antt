@@ -1,8 +1,10 @@
 -- Lists of pairs, and lists of numbers from which one is struck.
-use Rattle.std.proofs.Common.{◌≡◌, ◌≢◌, ℕ, zero, suc, ◌<◌, Bool, true, false, ◌⊎◌, List, [], ◌∷◌, ◌++◌, length, eq-eqb, ne_eqb, sym, refl, ap, ◌∙◌, inl, inr, ⊎_elim, length-append, arith}
+use Rattle.std.proofs.Common.{◌≡◌, ◌≢◌, ℕ, zero, suc, ◌+◌, ◌<◌, Bool, true, false, ◌⊎◌, List, [], ◌∷◌, ◌++◌, length, eq-eqb, ne_eqb, sym, refl, ap, ◌∙◌, subst, inl, inr, ⊎_elim, length-append, arith}
 use Rattle.std.specs.Prelude.{◌==◌, if◌then◌else◌}
 use Rattle.std.proofs.lemmas.Bool.{eqb-true}
+use mathlib.Core.Logic.{dite}
 use mathlib.Core.Option.{some, some-injective, some-ne-none}
+use native.Mathlib.Decide.{ℕ_discrete}
 use lib.ListN.{get_elem?}
 use Rattle.gm_base.specs.Merge.{of, IsMerge, listed}
 use Rattle.gm_mailbox.specs.Rule.{times}
@@ -74,8 +76,8 @@ pub length_erase : (n : ℕ) (xs : List ℕ) → 0 < times n xs → suc (length 
 length_erase n [] h = absurd (omega arith)
 length_erase n (x ∷ xs) h = length_erase_at n x xs (length_erase n xs) (x == n) h
 
-times_here : (n : ℕ) (xs : List ℕ) → times n (n ∷ xs) ≡ suc (times n xs)
-times_here n xs = ap (λ b. (if b then suc (times n xs) else times n xs)) (eq-eqb n n refl)
+times_here : (n x : ℕ) (xs : List ℕ) → x ≡ n → times n (x ∷ xs) ≡ suc (times n xs)
+times_here n x xs same = ap (λ b. (if b then suc (times n xs) else times n xs)) (eq-eqb x n same)
 
 times_else : (n x : ℕ) (xs : List ℕ) → x ≢ n → times n (x ∷ xs) ≡ times n xs
 times_else n x xs other = ap (λ b. (if b then suc (times n xs) else times n xs)) (ne_eqb x n other)
@@ -88,8 +90,37 @@ pub times_erase : (n m : ℕ) (xs : List ℕ) → m ≢ n → times m (erase n x
 times_erase n m [] other = refl
 times_erase n m (x ∷ xs) other = times_erase_at n m x xs (times_erase n m xs other) other (x == n) refl
 
+times_struck_at : (n x : ℕ) (xs : List ℕ) → (0 < times n xs → suc (times n (erase n xs)) ≡ times n xs) → (b : Bool) → (x == n) ≡ b
+    → 0 < (if b then suc (times n xs) else times n xs) → suc (times n (if b then xs else x ∷ erase n xs)) ≡ (if b then suc (times n xs) else times n xs)
+times_struck_at n x xs rest true e h = refl
+times_struck_at n x xs rest false e h = let k = times n (erase n xs) in ap (λ c. suc (if c then suc k else k)) e ∙ rest h
+
+times_struck : (n : ℕ) (xs : List ℕ) → 0 < times n xs → suc (times n (erase n xs)) ≡ times n xs
+times_struck n [] h = absurd (omega arith)
+times_struck n (x ∷ xs) h = times_struck_at n x xs (times_struck n xs) (x == n) refl h
+
+-- a number that goes from one list to another leaves the sum of how often each stands in them
+pub times_moved : (n m p : ℕ) (xs ys : List ℕ) → m ≡ n → 0 < times n xs → times p (erase n xs) + times p (m ∷ ys) ≡ times p xs + times p ys
+times_moved n m p xs ys is h =
+    dite (ℕ_discrete p n)
+    (λ same.
+    let here = times_here p m ys (is ∙ sym same) in
+    let struck : suc (times p (erase n xs)) ≡ times p xs = subst (λ k. suc (times k (erase n xs)) ≡ times k xs) (sym same) (times_struck n xs h) in
+    omega arith)
+    (λ differs.
+    let kept = times_erase n p xs differs in
+    let away = times_else p m ys (λ same. differs (sym same ∙ is)) in
+    omega arith)
+
+-- one number more in the list
+pub times_added : (n p : ℕ) (xs : List ℕ) (k : ℕ) → n ≡ p → times p xs + k ≡ 0 → times p (n ∷ xs) + k ≡ 1
+times_added n p xs k same none = let here = times_here p n xs same in omega arith
+
+pub times_unmoved : (n p : ℕ) (xs : List ℕ) (k m : ℕ) → n ≢ p → times p xs + k ≡ m → times p (n ∷ xs) + k ≡ m
+times_unmoved n p xs k m away is = let rest = times_else p n xs away in omega arith
+
 pub times_first : (n : ℕ) (xs : List ℕ) → 0 < times n (n ∷ xs)
-times_first n xs = let e = times_here n xs in omega arith
+times_first n xs = let e = times_here n n xs refl in omega arith
 
 times_more_at : (k : ℕ) (b : Bool) → 0 < k → 0 < (if b then suc k else k)
 times_more_at k true h = omega arith

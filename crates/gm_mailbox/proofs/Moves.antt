@@ -12,9 +12,9 @@ use Rattle.crossbeam_queue.proofs.Lists.{at_set}
 use Rattle.gm_mailbox.specs.declared.rule.Known.{Known}
 use Rattle.gm_mailbox.specs.Known.{known, newcomer, spent}
 use Rattle.gm_base.specs.Merge.{of, IsMerge, listed}
-use Rattle.gm_mailbox.specs.Rule.{times, KnowsAll, Fits, Delivers, Shows}
+use Rattle.gm_mailbox.specs.Rule.{times, numbers_of, KnowsAll, Fits, Delivers, Shows}
 use Rattle.gm_mailbox.specs.Sender.{Sender, sent_by, IsAlone}
-use Rattle.gm_mailbox.proofs.Lists.{nothing_more, of_front, of_snoc, of_snoc_else, listed_here, listed_else, erase, length_erase, times_erase, times_first, times_more, times_none, at_below, at_end}
+use Rattle.gm_mailbox.proofs.Lists.{nothing_more, of_front, of_snoc, of_snoc_else, listed_here, listed_else, erase, length_erase, times_erase, times_moved, times_added, times_unmoved, times_first, times_more, times_none, at_below, at_end}
 
 module _ {T : Type 0} where
   -- what has to hold of each pass
@@ -30,7 +30,7 @@ module _ {T : Type 0} where
       (at_set views place j w u e)
 
   knows_nothing : KnowsAll {T = T} [] [] [] 0 (newcomer 0)
-  knows_nothing = record { taken_is = refl; splits_is = refl; counted = refl; back = λ p _. inr refl }
+  knows_nothing = record { taken_is = refl; splits_is = refl; counted = refl; once = λ p some_pass below. absurd (omega arith); no_other = λ p _. refl; back = λ p _. inr refl }
 
   pub begins : Delivers {T = T} [] (newcomer 0 ∷ [])
   begins = record {
@@ -52,6 +52,8 @@ module _ {T : Type 0} where
     taken_is = t ∙ k.taken_is;
     splits_is = s ∙ k.splits_is;
     counted = ap (λ l. length out + length l) e ∙ k.counted;
+    once = λ p some_pass below. ap (λ l. times p out + times p (numbers_of l)) e ∙ k.once p some_pass below;
+    no_other = λ p none. ap (λ l. times p out + times p (numbers_of l)) e ∙ k.no_other p none;
     back = λ p some_pass.
         dite (ℕ_discrete p place)
         (λ same. inl (subst (λ n. 0 < times n out) (sym same) (other (subst (λ n. 0 < n) same some_pass))))
@@ -120,7 +122,7 @@ module _ {T : Type 0} where
                 number_is = mine.number_is;
                 sent_is = mine.sent_is;
                 other = mine.other;
-                first = λ _. record { taken_is = ap (λ l. l ++ x ∷ []) knows.taken_is; splits_is = knows.splits_is; counted = knows.counted; back = knows.back };
+                first = λ _. record { taken_is = ap (λ l. l ++ x ∷ []) knows.taken_is; splits_is = knows.splits_is; counted = knows.counted; once = knows.once; no_other = knows.no_other; back = knows.back };
               })
               (λ j u away e live.
               let fits = h.each j u e live in
@@ -155,6 +157,12 @@ module _ {T : Type 0} where
           taken_is = knows.taken_is;
           splits_is = next;
           counted = let c = knows.counted in omega arith;
+          once = λ p some_pass below.
+              dite (ℕ_discrete made p)
+              (λ same. times_added made p h.out _ same (knows.no_other p (inr (omega arith))))
+              (λ away. times_unmoved made p h.out _ 1 away (knows.once p some_pass (omega arith)));
+          no_other = λ p none. times_unmoved made p h.out _ 0 (⊎_elim (λ (z : p ≡ 0). λ same. omega arith) (λ (past : made < p). λ same. omega arith) none)
+              (knows.no_other p (⊎_elim inl (λ (past : made < p). inr (omega arith)) none));
           back = λ p some_pass. ⊎_elim (λ t. inl (times_more p made h.out t)) inr (knows.back p some_pass);
         };
       })
@@ -203,6 +211,8 @@ module _ {T : Type 0} where
           taken_is = knows.taken_is;
           splits_is = knows.splits_is;
           counted = let c = knows.counted in let l = length_erase other h.out is_out in omega arith;
+          once = λ p some_pass below. times_moved other u.number p h.out (numbers_of v.ended) there is_out ∙ knows.once p some_pass below;
+          no_other = λ p none. times_moved other u.number p h.out (numbers_of v.ended) there is_out ∙ knows.no_other p none;
           back = λ p some_pass.
               dite (ℕ_discrete p other)
               (λ same. inr (listed_here (u.number, u.sent) v.ended p (there ∙ sym same) ∙ theirs.sent_is ∙ ap (of h.all) (sym same)))

@@ -1,5 +1,5 @@
 -- The rule of a mailbox, over what the queue holds and what each pass knows.
-use Rattle.std.specs.Prelude.{◌≡◌, ℕ, suc, ◌+◌, ◌<◌, true, List, [], ◌∷◌, ◌++◌, length, ◌==◌, if◌then◌else◌, ◌⊎◌}
+use Rattle.std.specs.Prelude.{◌≡◌, ℕ, suc, ◌+◌, ◌<◌, ◌≤◌, true, List, [], ◌∷◌, ◌++◌, length, ◌==◌, if◌then◌else◌, ◌⊎◌}
 use mathlib.Core.Option.{some}
 use lib.ListN.{get_elem?}
 use Rattle.gm_mailbox.specs.declared.rule.Known.{Known}
@@ -11,15 +11,23 @@ times n [] = 0
 times n (x ∷ xs) = (if x == n then suc (times n xs) else times n xs)
 
 module _ {T : Type 0} where
+  -- the numbers of the passes that were joined back
+  abbrev pub numbers_of : List (ℕ × List T) → List ℕ
+  numbers_of [] = []
+  numbers_of (x ∷ xs) = x.0 ∷ numbers_of xs
+
   -- what each number has sent, as far as this pass knows
   abbrev pub known_by : Known T → ℕ → List T
   known_by v p = (if v.number == p then v.sent else listed v.ended p)
 
-  -- Pass 0 knows what was taken and how many passes were split off. Of each other number it has the list, or the pass is still out
+  -- Pass 0 knows what was taken and how many passes were split off. Each number from 1 up to that is out or was joined back, once, and no
+  -- other number is. Of a number that is not out it has the list
   pub record KnowsAll (all taken : List (ℕ × T)) (out : List ℕ) (made : ℕ) (v : Known T) : Type 0 where
     pub taken_is : v.taken ≡ taken
     pub splits_is : v.splits ≡ made
     pub counted : length out + length v.ended ≡ made
+    pub once : (p : ℕ) → 0 < p → p ≤ made → times p out + times p (numbers_of v.ended) ≡ 1
+    pub no_other : (p : ℕ) → (p ≡ 0) ⊎ (made < p) → times p out + times p (numbers_of v.ended) ≡ 0
     pub back : (p : ℕ) → 0 < p → (0 < times p out) ⊎ (listed v.ended p ≡ of all p)
 
   -- a pass that was not joined back has the number of its place, and knows what it has sent
