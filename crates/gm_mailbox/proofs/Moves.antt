@@ -1,5 +1,5 @@
 -- Each kind of step keeps the rule.
-use Rattle.std.proofs.Common.{◌≡◌, ◌≢◌, ℕ, suc, ◌+◌, ◌<◌, ◌≤◌, true, true≢false, List, [], ◌∷◌, ◌++◌, length, set, eq-eqb, ne_eqb, sym, refl, ap, ◌∙◌, subst, inl, inr, ⊎_elim, append_assoc, append-nil, length-append, arith}
+use Rattle.std.proofs.Common.{◌≡◌, ◌≢◌, ℕ, suc, ◌+◌, ◌<◌, ◌≤◌, true, true≢false, List, [], ◌∷◌, ◌++◌, length, set, eq-eqb, ne_eqb, sym, refl, ap, ◌∙◌, subst, inl, inr, ⊎_elim, append_assoc, length-append, arith}
 use Rattle.std.specs.Prelude.{if◌then◌else◌}
 use Rattle.std.proofs.lemmas.Bool.{cases_lt}
 use Rattle.std.proofs.lemmas.List.{length-set}
@@ -128,10 +128,13 @@ module _ {T : Type 0} where
               let fits = h.each j u e live in
               record { number_is = fits.number_is; sent_is = fits.sent_is; other = fits.other; first = λ zeroth. absurd (away (zeroth ∙ sym here)) });
         },
-        (refl, ⊎_elim
-        (λ above. absurd (of_front h.taken x items (ap (λ l. of l x.0) (sym h.whole) ∙ h.later x.0 above)))
-        (λ below. subst (λ n. x.0 ≤ n) (sym knows.splits_is) below)
-        (cases_lt h.made x.0)),
+        (
+          refl,
+          ⊎_elim
+              (λ above. absurd (of_front h.taken x items (ap (λ l. of l x.0) (sym h.whole) ∙ h.later x.0 above)))
+              (λ below. subst (λ n. x.0 ≤ n) (sym knows.splits_is) below)
+              (cases_lt h.made x.0),
+        ),
       )
 
   pub splits : (place : ℕ) (v : Known T) → v.live ≡ true → v.number ≡ 0

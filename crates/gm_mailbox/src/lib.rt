@@ -100,19 +100,13 @@ impl<T: Drop> Mailbox<T> {
     }
 
     // Puts a batch at the back, beside the number of the pass.
-    fn push<R: Wait>(
-        &self,
-        rt: &R,
-        post: &mut Post<T>,
-        numbered: (u32, T),
-    ) -> Result<(), (u32, T)>
+    fn push<R: Wait>(&self, rt: &R, post: &mut Post<T>, numbered: (u32, T)) -> Result<(), (u32, T)>
         requires post { post.old.mailbox ≡ self.now }
         requires number { numbered.0 ≡ post.old.number }
         ensures ok { OnOk result (post.new ≡ record post.old { sent = post.old.sent ++ numbered.1 ∷ [] }) }
         ensures err { IfErr result (λ x. (x ≡ numbered) × (post.new ≡ post.old)) }
     {
-        self.queue
-            .push_as::<Sends, R>(rt, &mut post.seat, numbered)
+        self.queue.push_as::<Sends, R>(rt, &mut post.seat, numbered)
     }
 
     /// Sends a batch: puts it at the back of the queue, under the number of the pass. Where there is not

@@ -81,18 +81,16 @@ fn send_each<R: Threads + Wait + Sync>(rt: &R, mailbox: &Mailbox<u64>, posts: &m
     ensures len { length posts.new ≡ length posts.old }
     ensures posts { All (λ p. (p.mailbox ≡ mailbox.now) × (0 < p.number)) posts.new }
 {
-    thread::for_each_mut(rt, posts, 64, &|place, post| {
-        send_numbers(rt, mailbox, place, post)
-    });
+    thread::for_each_mut(
+        rt,
+        posts,
+        64,
+        &|place, post| { send_numbers(rt, mailbox, place, post) },
+    );
 }
 
 // Joins the passes back.
-fn join_all<R: Wait>(
-    rt: &R,
-    mailbox: &Mailbox<u64>,
-    zero: &mut Post<u64>,
-    posts: Vec<Post<u64>>,
-)
+fn join_all<R: Wait>(rt: &R, mailbox: &Mailbox<u64>, zero: &mut Post<u64>, posts: Vec<Post<u64>>)
     requires zero { (zero.old.mailbox ≡ mailbox.now) × (zero.old.number ≡ 0) }
     requires posts { All (λ p. (p.mailbox ≡ mailbox.now) × (0 < p.number)) posts.items }
     ensures same { (zero.new.mailbox ≡ mailbox.now) × (zero.new.number ≡ 0) × (zero.new.splits ≡ zero.old.splits) }
