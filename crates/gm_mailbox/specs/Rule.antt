@@ -37,7 +37,8 @@ module _ {T : Type 0} where
     pub other : 0 < place → 0 < times place out
     pub first : place ≡ 0 → KnowsAll all taken out made v
 
-  -- What was sent is what was taken, and then what the queue holds. There are as many passes as were made, and no later number has sent anything
+  -- What was sent, `all`, is what was taken, and then what the queue holds. `made` passes were split off from pass 0, and no later number has
+  -- sent anything. `out` has the numbers of those that were not joined back
   pub record Delivers (items : List (ℕ × T)) (views : List (Known T)) : Type 0 where
     pub all : List (ℕ × T)
     pub taken : List (ℕ × T)
