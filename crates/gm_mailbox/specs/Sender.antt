@@ -4,7 +4,7 @@ use Rattle.std.specs.declared.alloc.Global.{Global}
 use Rattle.crossbeam_queue.specs.SegTies.{SegId}
 use Rattle.gm_base.specs.Merge.{listed}
 
--- which mailbox it is
+-- which mailbox it is: two values are equal where they stand for one mailbox
 abbrev pub MailboxId : Type 0
 MailboxId = SegId Global
 
@@ -27,6 +27,6 @@ module _ {T : Type 0} where
   abbrev pub sent_by : Sender T → ℕ → List T
   sent_by s p = (if s.number == p then s.sent else listed s.ended p)
 
-  -- each pass that was split off was joined back
+  -- pass 0, where each pass that was split off was joined back
   abbrev pub IsAlone : Sender T → Type 0
   IsAlone s = (s.number ≡ 0) × (length s.ended ≡ s.splits)
