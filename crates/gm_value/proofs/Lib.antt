@@ -5,3 +5,4 @@ pub mod NumberLaws
 pub mod TotalLaws
 pub mod TakingLaws
 pub mod RekeyingLaws
+mod Rows

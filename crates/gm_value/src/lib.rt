@@ -6,6 +6,8 @@ mod faults;
 mod laws;
 mod operations;
 mod reductions;
+#[cfg(test)]
+mod tests;
 mod totals;
 mod values;
 
