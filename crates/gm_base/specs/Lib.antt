@@ -4,3 +4,4 @@ pub mod Statuses
 pub mod Merge
 pub mod Streams
 pub mod Memory
+pub mod Stops

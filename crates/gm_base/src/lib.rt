@@ -22,3 +22,6 @@ pub use statuses::Status;
 pub use streams::{Sink, Source};
 pub use wants::{Failed, NoMemory};
 pub use whole::{ReadStop, read_all, write_all};
+
+#[cfg(test)]
+mod tests;

@@ -1,9 +1,10 @@
 //! Reading all that a source has, and writing all of some bytes.
 
-ghost use Rattle.std.specs.Prelude.{◌≡◌, ◌≢◌, ◌≤◌, ◌<◌, ◌+◌, IfOk, IfErr, IfSome, OnOk, OnErr, Ok, Err, length, take, drop, vec_len};
+ghost use Rattle.std.specs.Prelude.{Some, ◌≡◌, ◌≢◌, ◌≤◌, ◌<◌, ◌+◌, IfOk, IfErr, IfSome, OnOk, OnErr, Ok, Err, length, take, drop, vec_len};
 ghost use Rattle.gm_base.specs.declared.whole.ReadStop.TheVariants.{NoMemory};
 ghost use Rattle.gm_base.specs.Streams.{Rises, ReadsAll, ReadsPast, GrowsByPrefix, with_more};
 ghost use Rattle.gm_base.specs.Streams.{AppendsFront};
+ghost use Rattle.gm_base.specs.Stops.{read_stop_text};
 
 use crate::streams::{Sink, Source};
 use crate::wants::Failed;
@@ -26,6 +27,8 @@ pub enum ReadStop {
 }
 
 impl fmt::Display for ReadStop {
+    ghost output = { λ stop. Some (read_stop_text stop) };
+
     fn fmt<W: fmt::Write>(&self, f: &mut fmt::Formatter<W>) -> fmt::Result {
         match self {
             ReadStop::Failed => write!(f, "a read failed"),
