@@ -1,6 +1,8 @@
 use super::*;
 use std::test::Fail;
 
+mod by_name;
+
 #[test]
 fn reads_all_in_pieces(rt: HostRuntime) -> Result<(), Fail> {
     // the piece, the limit, the call that fails, what comes out, and what a second reading gives
@@ -120,6 +122,12 @@ fn prints(rt: HostRuntime) -> Result<(), Fail> {
         (ReadStop::Failed.to_string(alloc)?, "a read failed"),
         (ReadStop::TooLong.to_string(alloc)?, "too long"),
         (ReadStop::NoMemory.to_string(alloc)?, "out of memory"),
+        (FileFault::Absent.to_string(alloc)?, "there is no such file"),
+        (FileFault::Failed.to_string(alloc)?, "a read failed"),
+        (FileStop::Absent.to_string(alloc)?, "there is no such file"),
+        (FileStop::Failed.to_string(alloc)?, "a read failed"),
+        (FileStop::TooLong.to_string(alloc)?, "too long"),
+        (FileStop::NoMemory.to_string(alloc)?, "out of memory"),
     ];
     for (printed, text) in &table {
         assert_eq!(rt; printed.as_str(), *text);

@@ -12,8 +12,8 @@ use std::alloc::{AllocError, Global};
 use std::error::Error;
 use std::fmt;
 
-// How many bytes are asked of a source at once.
-const PIECE: usize = 65536;
+// How many bytes are asked for at once.
+pub const PIECE: usize = 65536;
 
 /// Why a source was not read to its end.
 #[derive(Clone, Copy, Debug, PartialEq, Eq)]
@@ -49,7 +49,7 @@ impl From<AllocError> for ReadStop {
 }
 
 // So many zero bytes.
-fn zeros(alloc: Global, count: usize) -> Result<Vec<u8>, AllocError>
+pub fn zeros(alloc: Global, count: usize) -> Result<Vec<u8>, AllocError>
     ensures { IfOk result (λ bytes. vec_len bytes ≡ count) }
 {
     vec![in alloc; 0u8; count]
