@@ -1,15 +1,8 @@
 //! Graphs in flat rows.
 
 use crate::columns::Column;
+use crate::groups::Groups;
 use std::marker::Model;
-
-// The edges grouped by the node at one of their ends: the group of node n stands in `edges` from `starts[n]`
-// up to `starts[n + 1]`, in the order of the edges.
-#[derive(Debug, Drop)]
-pub(crate) struct Groups {
-    pub(crate) starts: Vec<u32>,
-    pub(crate) edges: Vec<u32>,
-}
 
 /// A graph. Contracts see its ascending node numbers, its edges between node indices, in the order of their
 /// lines, and the values of its columns.

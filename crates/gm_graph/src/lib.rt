@@ -4,6 +4,7 @@
 mod builds;
 mod columns;
 mod graphs;
+mod groups;
 mod outcomes;
 
 pub use builds::{RawGraph, Shape, build};
