@@ -1,5 +1,5 @@
 -- Values as whole numbers, and the range of each type.
-use Rattle.std.specs.Prelude.{Bool, true, false, ◌&&◌, ℤ, pos, negsuc, Some, None, Result, Ok, Err, if◌then◌else◌}
+use Rattle.std.specs.Prelude.{◌≡◌, Bool, true, false, IsTrue, ◌&&◌, ℤ, pos, negsuc, Some, None, Result, Ok, Err, if◌then◌else◌}
 use Rattle.std.specs.Prelude.{int_lt, int_le}
 use Rattle.gm_value.specs.declared.values.VType.{VType}
 use Rattle.gm_value.specs.declared.values.VType.TheVariants.{I32, I64, Flag, Node}
@@ -64,3 +64,7 @@ zero_of I32 = I32 (pos 0)
 zero_of I64 = I64 (pos 0)
 zero_of Flag = Flag false
 zero_of Node = At None
+
+-- a value of a type, whose number is in the type's range
+abbrev pub IsOf : VType → Value → Type 0
+IsOf t v = (type_of v ≡ t) × IsTrue (fits t (number_of v))
