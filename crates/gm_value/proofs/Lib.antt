@@ -1,0 +1,5 @@
+pub mod BagLaws
+pub mod ProductLaws
+pub mod MonoidLaws
+pub mod NumberLaws
+pub mod TotalLaws

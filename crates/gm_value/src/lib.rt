@@ -1,0 +1,15 @@
+//! Values, their types, and the operations and reductions on them, with exact checked arithmetic: a result
+//! out of its type's range is a fault, and nothing wraps. No call takes memory.
+#![tactic(auto)]
+
+mod faults;
+mod operations;
+mod reductions;
+mod totals;
+mod values;
+
+pub use faults::FaultKind;
+pub use operations::{Op1, Op2, apply1, apply2};
+pub use reductions::{Reduce, fold_in, unit};
+pub use totals::{Total, total_add, total_close, total_unit};
+pub use values::{VType, Value};
