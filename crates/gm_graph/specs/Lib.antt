@@ -1,0 +1,5 @@
+pub mod Columns
+pub mod Cells
+pub mod Graphs
+pub mod Builds
+pub mod Rows
