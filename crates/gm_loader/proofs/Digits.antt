@@ -1,0 +1,100 @@
+-- Numbers that are read digit by digit.
+use Rattle.std.proofs.Common.{◌≡◌, ◌≤◌, ◌<◌, ◌+◌, ◌-◌, ◌*◌, ℕ, zero, suc, Bool, true, false, cond, not, ◌&&◌, min, eqb, leb, List, [], ◌∷◌, length, drop, get_or, fold, refl, ap, sym, ◌∙◌, arith, drop-cons, add-one}
+use Rattle.std.specs.Prelude.{Option, Some, None, option_map, ℤ, pos, negsuc, neg_ℤ, Result, Ok, Err}
+use Rattle.std.specs.List.{list_all}
+use Rattle.std.proofs.lemmas.Bool.Decides.{nat_tests}
+use Rattle.gm_value.specs.declared.values.VType.{VType}
+use Rattle.gm_value.specs.declared.values.VType.TheVariants.{I32, I64, Flag, Node}
+use Rattle.gm_value.specs.declared.values.Value.{Value}
+use Rattle.gm_value.specs.declared.faults.FaultKind.{FaultKind}
+use Rattle.gm_value.specs.Numbers.{fits, value_at, checked}
+use Rattle.gm_loader.specs.declared.faults.LineFault.{LineFault}
+use Rattle.gm_loader.specs.declared.faults.LineFault.TheVariants.{OutOfRange}
+use Rattle.gm_loader.specs.Fields.{is_digit, is_some_part, with_digit, decimal, number_in, node_number, whole_value, top_number}
+use Rattle.gm_loader.specs.Tables.{IsWholeType, clipped}
+
+-- the greatest number of 64 bits
+abbrev pub top : ℕ
+top = 18446744073709551615
+
+-- one digit more, as the code adds it
+abbrev pub next : ℕ → ℕ → ℕ
+next n b = min (min (n * 10) top + (b - 48)) top
+
+-- the rest of the reading, from the number so far
+abbrev pub go : ℕ → List ℕ → Option ℕ
+go n [] = Some n
+go n (b ∷ bs) = cond (is_digit b) (go (next n b) bs) None
+
+-- one step of it, and its end
+pub go_step : (field : List ℕ) (n i : ℕ) → i < length field → is_digit (get_or field i 0) ≡ true → go n (drop i field) ≡ go (next n (get_or field i 0)) (drop (i + 1) field)
+go_step field n i h digit =
+    let first : drop i field ≡ get_or field i 0 ∷ drop (i + 1) field = rw add-one (drop-cons field i 0 h) in
+    ap (go n) first ∙ ap (λ v. cond v (go (next n (get_or field i 0)) (drop (i + 1) field)) None) digit
+
+pub go_stop : (field : List ℕ) (n i : ℕ) → i < length field → is_digit (get_or field i 0) ≡ false → go n (drop i field) ≡ None
+go_stop field n i h digit =
+    let first : drop i field ≡ get_or field i 0 ∷ drop (i + 1) field = rw add-one (drop-cons field i 0 h) in
+    ap (go n) first ∙ ap (λ v. cond v (go (next n (get_or field i 0)) (drop (i + 1) field)) None) digit
+
+-- what a byte is
+pub digit_yes : (b : ℕ) → 48 ≤ b → b ≤ 57 → is_digit b ≡ true
+digit_yes b low high = grind (arith, nat_tests)
+
+pub digit_low : (b : ℕ) → b < 48 → is_digit b ≡ false
+digit_low b h = grind (arith, nat_tests)
+
+pub digit_high : (b : ℕ) → 57 < b → is_digit b ≡ false
+digit_high b h = grind (arith, nat_tests)
+
+-- one digit more, beside the number without a bound
+next_is : (n m b : ℕ) → n ≡ min top m → next n b ≡ min top (with_digit m b)
+next_is n m b e = omega (arith, e)
+
+-- the reading gives the number that the digits spell, or the greatest
+pub go_is : (n m : ℕ) (bs : List ℕ) → n ≡ min top m → go n bs ≡ cond (list_all is_digit bs) (Some (min top (fold with_digit m bs))) None
+go_is n m [] e = ap Some e
+go_is n m (b ∷ bs) e =
+    let more : go (next n b) bs ≡ cond (list_all is_digit bs) (Some (min top (fold with_digit (with_digit m b) bs))) None = go_is (next n b) (with_digit m b) bs (next_is n m b e) in
+    elim (is_digit b) as (λ v. cond v (go (next n b) bs) None ≡ cond (v && list_all is_digit bs) (Some (min top (fold with_digit (with_digit m b) bs))) None) [
+      | true ↦ more
+      | false ↦ refl
+    ]
+
+mapped : (b : Bool) (n : ℕ) → option_map (min top) (cond b (Some n) None) ≡ cond b (Some (min top n)) None
+mapped true n = refl
+mapped false n = refl
+
+pub number_go : (field : List ℕ) → 0 < length field → go 0 field ≡ option_map (min top) (number_in field)
+number_go [] h = absurd (omega (arith, h))
+number_go (b ∷ bs) h = go_is 0 0 (b ∷ bs) refl ∙ sym (mapped (list_all is_digit (b ∷ bs)) (decimal (b ∷ bs)))
+
+-- node numbers of 64 bits and past them
+pub node_number_min : (o : Option ℕ) → node_number (option_map (min top) o) ≡ node_number o
+node_number_min None = refl
+node_number_min (Some n) =
+    elim (leb n top_number) as (λ v. leb n top_number ≡ v → cond (leb (min top n) top_number) (Ok (min top n)) (Err OutOfRange) ≡ cond v (Ok n) (Err OutOfRange)) [
+      | true ↦ λ is.
+          let small : n ≤ top_number = grind (arith, nat_tests, is) in
+          let same : min top n ≡ n = omega (arith, small) in
+          rw (same, is) refl
+      | false ↦ λ is.
+          let large : top_number < n = grind (arith, nat_tests, is) in
+          let over : leb (min top n) top_number ≡ false = grind (arith, nat_tests) in
+          rw over refl
+    ] refl
+
+-- whole numbers that are brought near
+pub clipped_neg : (n : ℕ) → clipped (neg_ℤ (pos n)) ≡ neg_ℤ (pos (min top n))
+clipped_neg zero = refl
+clipped_neg (suc k) =
+    let same : min top (suc k) ≡ suc (min 18446744073709551614 k) = omega arith in
+    rw same refl
+
+pub neg_map : (o : Option ℕ) → option_map clipped (option_map (λ n. neg_ℤ (pos n)) o) ≡ option_map (λ n. neg_ℤ (pos n)) (option_map (min top) o)
+neg_map None = refl
+neg_map (Some n) = ap Some (clipped_neg n)
+
+pub pos_map : (o : Option ℕ) → option_map clipped (option_map pos o) ≡ option_map pos (option_map (min top) o)
+pos_map None = refl
+pos_map (Some n) = refl

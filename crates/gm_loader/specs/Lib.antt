@@ -1,0 +1,6 @@
+pub mod Fields
+pub mod Lines
+pub mod GraphText
+pub mod Sets
+pub mod Tables
+pub mod Loads

@@ -1,0 +1,167 @@
+//! The tables that are filled line by line.
+
+ghost use Rattle.std.specs.Prelude.{◌≡◌, ◌∷◌, ◌++◌, [], ℕ, List, drop, MatchResult, IfOk, IfErr, OnOk, Ok, Err};
+ghost use Rattle.gm_graph.specs.declared.builds.Shape.{Shape as ShapeValue};
+ghost use Rattle.gm_loader.specs.declared.limits.Limits.{Limits as LimitsValue};
+ghost use Rattle.gm_loader.specs.Fields.{fields};
+ghost use Rattle.gm_loader.specs.Lines.{Line, first_number, node_line, edge_line, line_of};
+ghost use Rattle.gm_loader.specs.GraphText.{columns_of, raw_of};
+ghost use Rattle.gm_loader.specs.Tables.{IfFault, Holds, Takes, ReadsValue, ReadsNumber, row_added};
+
+use crate::faults::{LineFault, LineStop};
+use crate::fields::{cut_field, first_byte, is_word, node_number, value_in};
+use crate::limits::Limits;
+use crate::sets::NumberSet;
+use gm_base::{Items, NoMemory};
+use gm_graph::{Column, RawGraph, Shape};
+use gm_value::VType;
+use std::alloc::{AllocError, Global};
+
+// What was read so far: the edges by their node numbers, the nodes that have lines of their own, the values of
+// both, and the sets of all numbers and of the numbers with lines of their own.
+#[derive(Drop)]
+pub struct Tables {
+    pub from: Vec<u64>,
+    pub to: Vec<u64>,
+    pub edge_columns: Vec<Column>,
+    pub extra: Vec<u64>,
+    pub node_columns: Vec<Column>,
+    pub seen: NumberSet,
+    pub listed: NumberSet,
+}
+
+// A column without rows for each type.
+fn empty_columns(alloc: Global, types: &[VType]) -> Result<Vec<Column>, AllocError>
+    ensures { IfOk result (λ columns. columns.items ≡ columns_of types.now []) }
+{
+    let mut columns = Vec::new(alloc);
+    for vtype in types {
+        columns.push(Column::new(alloc, *vtype))?;
+    }
+    Ok(columns)
+}
+
+// Reads the value of a column from the first field of some text, adds it to the column, and answers the text behind.
+fn read_value<'a>(column: &mut Column, text: &'a [u8]) -> Result<&'a [u8], LineStop>
+    ensures read { IfOk result (λ rest. ReadsValue column.old column.new (fields text.now) (fields rest.now)) }
+    ensures fault { IfErr result (λ stop. IfFault stop (λ e. row_added (column.old ∷ []) (fields text.now) ≡ Err e)) }
+{
+    let Some((field, rest)) = cut_field(text) else {
+        return Err(LineStop::Fault(LineFault::MissingColumn));
+    };
+    let value = value_in(column.vtype(), field)?;
+    column.push(value)?;
+    Ok(rest)
+}
+
+// Reads a value for each column from the first fields of some text, and adds them to the columns.
+fn read_values(columns: &mut Vec<Column>, text: &[u8]) -> Result<(), LineStop>
+    ensures read { OnOk result (row_added columns.old.items (fields text.now) ≡ Ok columns.new.items) }
+    ensures fault { IfErr result (λ stop. IfFault stop (λ e. row_added columns.old.items (fields text.now) ≡ Err e)) }
+{
+    let mut rest = text;
+    for place in 0..columns.len() {
+        rest = read_value(&mut columns[place], rest)?;
+    }
+    Ok(())
+}
+
+// Reads a node number from the first field of some text, and answers it and the text behind.
+fn read_number<'a>(text: &'a [u8]) -> Result<(u64, &'a [u8]), LineFault>
+    ensures read { IfOk result (λ cut. ReadsNumber (fields text.now) cut.0 (fields cut.1.now)) }
+    ensures fault { IfErr result (λ e. first_number (fields text.now) ≡ Err e) }
+{
+    let Some((field, rest)) = cut_field(text) else {
+        return Err(LineFault::BadLine);
+    };
+    let number = node_number(field)?;
+    Ok((number, rest))
+}
+
+impl Tables {
+    // Tables that hold what no line gives.
+    pub fn new(alloc: Global, shape: &Shape) -> Result<Self, AllocError>
+        ensures { IfOk result (λ tables. (limits : LimitsValue) → Holds shape.now limits [] tables) }
+    {
+        Ok(Tables {
+            from: Vec::new(alloc),
+            to: Vec::new(alloc),
+            edge_columns: empty_columns(alloc, shape.edges.as_slice())?,
+            extra: Vec::new(alloc),
+            node_columns: empty_columns(alloc, shape.nodes.as_slice())?,
+            seen: NumberSet::new(alloc),
+            listed: NumberSet::new(alloc),
+        })
+    }
+
+    // Takes in an edge line: `text` begins with its fields.
+    fn take_edge(&mut self, limits: &Limits, text: &[u8]) -> Result<(), LineStop>
+        ensures { (shape : ShapeValue) (before : List Line) → Holds shape limits.now before self.old
+            → Takes shape limits.now before (edge_line shape.edges (fields text.now)) self.new result }
+    {
+        let (from, rest) = read_number(text)?;
+        let (to, rest) = read_number(rest)?;
+        read_values(&mut self.edge_columns, rest)?;
+        self.seen.insert(from)?;
+        self.seen.insert(to)?;
+        self.from.push(from)?;
+        self.to.push(to)?;
+        if self.seen.count > u64::from(limits.nodes) {
+            return Err(LineStop::Fault(LineFault::TooManyNodes));
+        }
+        if self.from.len() > limits.edges as usize {
+            return Err(LineStop::Fault(LineFault::TooManyEdges));
+        }
+        Ok(())
+    }
+
+    // Takes in a node line: `text` begins with its fields behind the first.
+    fn take_node(&mut self, limits: &Limits, text: &[u8]) -> Result<(), LineStop>
+        ensures { (shape : ShapeValue) (before : List Line) → Holds shape limits.now before self.old
+            → Takes shape limits.now before (node_line shape.nodes (fields text.now)) self.new result }
+    {
+        let (number, rest) = read_number(text)?;
+        read_values(&mut self.node_columns, rest)?;
+        if !self.listed.insert(number)? {
+            return Err(LineStop::Fault(LineFault::NodeTwice));
+        }
+        self.seen.insert(number)?;
+        self.extra.push(number)?;
+        if self.seen.count > u64::from(limits.nodes) {
+            return Err(LineStop::Fault(LineFault::TooManyNodes));
+        }
+        Ok(())
+    }
+
+    // Takes in the next line.
+    pub fn take_line(&mut self, limits: &Limits, line: &[u8]) -> Result<(), LineStop>
+        ensures { (shape : ShapeValue) (before : List Line) → Holds shape limits.now before self.old
+            → Takes shape limits.now before (line_of shape line.now) self.new result }
+    {
+        let Some((field, rest)) = cut_field(line) else {
+            return Ok(());
+        };
+        if first_byte(field) == b'#' {
+            return Ok(());
+        }
+        if is_word(field, b"v") {
+            self.take_node(limits, rest)
+        } else {
+            self.take_edge(limits, line)
+        }
+    }
+
+    // Of what the graph of the lines is made.
+    pub fn into_raw(self, shape: Shape) -> RawGraph
+        ensures { (limits : LimitsValue) (before : List Line) → Holds shape limits before self → result ≡ raw_of shape before }
+    {
+        RawGraph {
+            shape,
+            from: Items::new(self.from),
+            to: Items::new(self.to),
+            edge_columns: Items::new(self.edge_columns),
+            extra: Items::new(self.extra),
+            node_columns: Items::new(self.node_columns),
+        }
+    }
+}
