@@ -29,7 +29,7 @@ pub record IsLineComment (bs rest : List ℕ) : Type 0 where
 
 -- a `*/` stands somewhere in these bytes
 abbrev pub HasCommentEnd : List ℕ → Type 0
-HasCommentEnd bs = (before : List ℕ) × ((after : List ℕ) × (bs ≡ before ++ codes "*/" ++ after))
+HasCommentEnd bs = (before : List ℕ) × ((after : List ℕ) × (bs ≡ before ++ (codes "*/" ++ after)))
 
 -- `/*` and a body, and the first `*/` after that `/*`
 pub record IsBlockComment (bs : List ℕ) : Type 0 where

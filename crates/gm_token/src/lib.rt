@@ -3,7 +3,10 @@
 
 mod bytes;
 mod limits;
+mod lookups;
 mod numbers;
+mod parts;
+mod passes;
 mod scanned;
 mod scanner;
 mod words;
