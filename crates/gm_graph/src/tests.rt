@@ -4,14 +4,12 @@ ghost use Rattle.std.specs.Prelude.{◌≡◌, [], ◌∷◌, All, IfOk, length}
 ghost use Rattle.gm_value.specs.declared.values.VType.TheVariants.{I32};
 ghost use Rattle.gm_graph.specs.Builds.{IsBuildable, types_of};
 
+use crate::{Column, Graph, RawGraph, Shape, build};
+use gm_base::{Items, NoMemory};
+use gm_value::{VType, Value};
 use std::alloc::{AllocError, Global};
 use std::fmt::Write;
 use std::test::Fail;
-
-use gm_base::{Items, NoMemory};
-use gm_value::{VType, Value};
-
-use crate::{Column, Graph, RawGraph, Shape, build};
 
 // A column of small numbers, one in each row.
 fn counted_rows(alloc: Global, rows: u8) -> Result<Items<Column>, NoMemory>
@@ -69,9 +67,19 @@ fn listing(alloc: Global, graph: &Graph) -> Result<String, AllocError> {
 fn a_graph_is_made_and_read(rt: HostRuntime) -> Result<(), Fail> {
     let graph = build(rt.alloc(), lines(rt.alloc())?)?;
     let text = listing(rt.alloc(), &graph)?;
-    assert_eq!(rt; text.as_str(), "3: >2/1 <0/1 <1/1;7: >0/0 >1/0 >3/1 <2/0 <3/1;9:;");
+    assert_eq!(rt;
+        text.as_str(),
+        "3: >2/1 <0/1 <1/1;7: >0/0 >1/0 >3/1 <2/0 <3/1;9:;"
+    );
     assert_eq!(rt; graph.edge_count(), 4);
-    for (number, node) in [(3, Some(0)), (7, Some(1)), (9, Some(2)), (0, None), (8, None), (u64::MAX, None)] {
+    for (number, node) in [
+        (3, Some(0)),
+        (7, Some(1)),
+        (9, Some(2)),
+        (0, None),
+        (8, None),
+        (u64::MAX, None),
+    ] {
         assert_eq!(rt; graph.node_of(number), node);
     }
     Ok(())
