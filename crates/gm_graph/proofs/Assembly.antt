@@ -1,14 +1,14 @@
 -- What the parts of a graph say of it, when it is put together.
-use Rattle.std.proofs.Common.{◌≡◌, ◌≢◌, ◌<◌, ◌≤◌, ◌+◌, ℕ, List, ◌++◌, map, length, get_or, refl, sym, subst, ◌∙◌, ap, arith, inl, inr}
+use Rattle.std.proofs.Common.{◌≡◌, ◌<◌, ◌≤◌, ℕ, List, ◌++◌, map, length, get_or, sym, subst, ◌∙◌, ap, arith, inl, inr}
 use Rattle.std.specs.Prelude.{slice_index, All, Contains, ◌↔◌}
 use Rattle.std.specs.List.Sorted.{IsStrictlyIncreasing}
 use Rattle.std.proofs.lemmas.List.{length-map, get_or_default}
-use Rattle.std.proofs.lemmas.List.Elements.{Contains-get_or, Contains-append_left, Contains-append_right, All-same, All-weaker}
+use Rattle.std.proofs.lemmas.List.Elements.{Contains-get_or, Contains-append_left, Contains-append_right, All-weaker}
 use Rattle.gm_value.specs.declared.values.Value.{Value}
 use Rattle.gm_graph.specs.declared.builds.RawGraph.{RawGraph}
 use Rattle.gm_graph.specs.declared.groups.Groups.{Groups}
 use Rattle.gm_graph.specs.Columns.{TypedRow}
-use Rattle.gm_graph.specs.Builds.{IsBuildable, numbers_of, spread_out, distinct}
+use Rattle.gm_graph.specs.Builds.{IsBuildable, numbers_of, spread_out}
 use Rattle.gm_graph.specs.Spreads.{IsRowOf, HasRow, value_in}
 use Rattle.gm_graph.specs.Rows.{IsGrouped}
 use Rattle.gm_graph.proofs.Building.{numbers-few, rows-few, columns-spread, spread-rows}
@@ -22,9 +22,9 @@ pub numbering : (raw : RawGraph) (numbers from to extra : List ℕ) → from ≡
 numbering raw numbers from to extra a b e up members = record {
   ascending = up;
   members = λ n.
-    let P : List ℕ → Type 0 = λ l. Contains numbers n ↔ Contains l n in
-    let same : from ++ to ++ extra ≡ numbers_of raw = cc in
-    subst P same (members n);
+      let P : List ℕ → Type 0 = λ l. Contains numbers n ↔ Contains l n in
+      let same : from ++ to ++ extra ≡ numbers_of raw = cc in
+      subst P same (members n);
 }
 
 pub nodes-few : (raw : RawGraph) (numbers : List ℕ) → IsBuildable raw → IsNumbering raw numbers → length numbers ≤ 2147483647
@@ -43,17 +43,17 @@ all-known known numbers ends named a b h =
 pub from-known : (raw : RawGraph) (numbers known ends : List ℕ) → IsNumbering raw numbers → known ≡ numbers → ends ≡ raw.from → All (Contains known) ends
 from-known raw numbers known ends held a b =
     all-known known numbers ends raw.from a b (λ k d h. (held.members (get_or raw.from k d)).1
-        (Contains-append_left (raw.from ++ raw.to) raw.extra _ (Contains-append_left raw.from raw.to _ (Contains-get_or raw.from k d h))))
+    (Contains-append_left (raw.from ++ raw.to) raw.extra _ (Contains-append_left raw.from raw.to _ (Contains-get_or raw.from k d h))))
 
 pub to-known : (raw : RawGraph) (numbers known ends : List ℕ) → IsNumbering raw numbers → known ≡ numbers → ends ≡ raw.to → All (Contains known) ends
 to-known raw numbers known ends held a b =
     all-known known numbers ends raw.to a b (λ k d h. (held.members (get_or raw.to k d)).1
-        (Contains-append_left (raw.from ++ raw.to) raw.extra _ (Contains-append_right raw.from raw.to _ (Contains-get_or raw.to k d h))))
+    (Contains-append_left (raw.from ++ raw.to) raw.extra _ (Contains-append_right raw.from raw.to _ (Contains-get_or raw.to k d h))))
 
 pub extra-known : (raw : RawGraph) (numbers known ends : List ℕ) → IsNumbering raw numbers → known ≡ numbers → ends ≡ raw.extra → All (Contains known) ends
 extra-known raw numbers known ends held a b =
     all-known known numbers ends raw.extra a b (λ k d h. (held.members (get_or raw.extra k d)).1
-        (Contains-append_right (raw.from ++ raw.to) raw.extra _ (Contains-get_or raw.extra k d h)))
+    (Contains-append_right (raw.from ++ raw.to) raw.extra _ (Contains-get_or raw.extra k d h)))
 
 -- the row of each node
 pub record IsRows (raw : RawGraph) (numbers rows : List ℕ) : Type 0 where
@@ -72,11 +72,11 @@ has-row extra number row held = elim held [ inl none ↦ inl none.0 | inr some �
 pub has-rows : (raw : RawGraph) (numbers rows lent : List ℕ) (columns : List TypedRow) → IsBuildable raw → IsRows raw numbers rows → lent ≡ rows → columns ≡ raw.node_columns → All (λ c. All (HasRow (length c.values)) lent) columns
 has-rows raw numbers rows lent columns can held a b =
     let each : (n : ℕ) → length raw.extra ≡ n → All (HasRow n) rows = λ n e.
-        let P : ℕ → Type 0 = λ m. All (HasRow m) rows in
-        subst P e (λ k d h. let here = has-row raw.extra _ _ (held.each k (omega (arith, held.len))) in
-                            let read = get_or_default rows k d 0 h in
-                            let R : ℕ → Type 0 = λ row. HasRow (length raw.extra) row in
-                            subst R (sym read) here) in
+    let P : ℕ → Type 0 = λ m. All (HasRow m) rows in
+    subst P e (λ k d h. let here = has-row raw.extra _ _ (held.each k (omega (arith, held.len))) in
+    let read = get_or_default rows k d 0 h in
+    let R : ℕ → Type 0 = λ row. HasRow (length raw.extra) row in
+    subst R (sym read) here) in
     let P : List ℕ → Type 0 = λ l. All (λ (c : TypedRow). All (HasRow (length c.values)) l) raw.node_columns in
     let Q : List TypedRow → Type 0 = λ l. All (λ (c : TypedRow). All (HasRow (length c.values)) lent) l in
     subst Q (sym b) (subst P (sym a) (All-weaker _ _ (λ (c : TypedRow) (e : length c.values ≡ length raw.extra). each (length c.values) (sym e)) raw.node_columns can.node_rows))

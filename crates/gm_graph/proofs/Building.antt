@@ -1,17 +1,16 @@
 -- How many node numbers there are, and how the rows of a graph show its edges and columns.
-use Rattle.std.proofs.Common.{◌≡◌, ◌≢◌, ◌<◌, ◌≤◌, ◌+◌, ◌-◌, ◌⊎◌, inl, inr, ℕ, zero, suc, Bool, true, false, cond, List, [], ◌∷◌, ◌++◌, map, length, get_or, refl, sym, subst, ◌∙◌, ap, arith}
+use Rattle.std.proofs.Common.{◌≡◌, ◌≢◌, ◌<◌, ◌≤◌, ◌+◌, ◌-◌, ◌⊎◌, inl, inr, ℕ, zero, suc, true, List, [], ◌∷◌, ◌++◌, map, length, get_or, refl, sym, subst, ◌∙◌, ap, arith}
 use Rattle.std.specs.Prelude.{slice_index, All, AllPairs, Contains, ◌↔◌, ◌==◌}
 use Rattle.std.specs.List.{list_any, remove}
 use Rattle.std.specs.List.Sorted.{IsStrictlyIncreasing}
 use Rattle.std.proofs.lemmas.Bool.{cases_eq, cases_lt, cases_Bool, or_cases, eqb-true}
 use Rattle.std.proofs.lemmas.List.{get_or_default, length-map}
 use Rattle.std.proofs.lemmas.List.Edits.{length-remove, get_or-remove_below, get_or-remove_above}
-use Rattle.std.proofs.lemmas.List.Elements.{Contains-get_or, Contains-append_left, Contains-append_right, All-nil, All-cons, All-head, All-tail}
-use Rattle.gm_value.specs.declared.values.Value.{Value}
+use Rattle.std.proofs.lemmas.List.Elements.{Contains-append_right, All-nil, All-cons, All-head, All-tail}
 use Rattle.gm_graph.specs.Columns.{TypedRow}
-use Rattle.gm_graph.specs.Graphs.{Edge, IsWithin}
+use Rattle.gm_graph.specs.Graphs.{IsWithin}
 use Rattle.gm_graph.specs.Builds.{distinct, spread_out}
-use Rattle.gm_graph.specs.Spreads.{IsRowOf, HasRow, value_in}
+use Rattle.gm_graph.specs.Spreads.{IsRowOf, value_in}
 use Rattle.gm_graph.specs.Rows.{edge_list}
 use Rattle.gm_graph.proofs.Ascending.{rising}
 use Rattle.gm_graph.proofs.Spreading.{spread-is}
@@ -34,7 +33,7 @@ contains-any : (x : ℕ) (xs : List ℕ) → list_any (λ y. y == x) xs ≡ true
 contains-any x [] h = absurd (cc)
 contains-any x (y ∷ ys) h =
     elim (or_cases (y == x) (list_any (λ z. z == x) ys) h) [
-      inl here ↦ (0, omega arith, eqb-true y x here)
+      | inl here ↦ (0, omega arith, eqb-true y x here)
       | inr there ↦ contains-later y ys x (contains-any x ys there)
     ]
 
@@ -43,12 +42,12 @@ contains-distinct : (xs : List ℕ) (n : ℕ) → Contains xs n → Contains (di
 contains-distinct [] n h = h
 contains-distinct (x ∷ xs) n h =
     elim (cases_Bool (list_any (λ y. y == x) xs)) [
-      inl again ↦ rw again (elim (contains-cases x xs n h) [
-        inl here ↦ (let P : ℕ → Type 0 = λ m. Contains (distinct xs) m in subst P here (contains-distinct xs x (contains-any x xs again)))
+      | inl again ↦ rw again (elim (contains-cases x xs n h) [
+        | inl here ↦ (let P : ℕ → Type 0 = λ m. Contains (distinct xs) m in subst P here (contains-distinct xs x (contains-any x xs again)))
         | inr there ↦ contains-distinct xs n there
       ])
       | inr new ↦ rw new (elim (contains-cases x xs n h) [
-        inl here ↦ (let P : ℕ → Type 0 = λ m. Contains (x ∷ distinct xs) m in subst P here (contains-first x (distinct xs)))
+        | inl here ↦ (let P : ℕ → Type 0 = λ m. Contains (x ∷ distinct xs) m in subst P here (contains-first x (distinct xs)))
         | inr there ↦ contains-later x (distinct xs) n (contains-distinct xs n there)
       ])
     ]
@@ -58,12 +57,12 @@ contains-removed : (ys : List ℕ) (i n : ℕ) → i < length ys → get_or ys i
 contains-removed ys i n within differs h =
     let shorter = length-remove ys i within in
     elim (cases_lt h.0 i) [
-      inl before ↦ (h.0, omega (arith, h.1), get_or-remove_below ys i n h.0 before within ∙ h.2)
+      | inl before ↦ (h.0, omega (arith, h.1), get_or-remove_below ys i n h.0 before within ∙ h.2)
       | inr after ↦ elim (cases_eq h.0 i) [
-          inl here ↦ absurd (differs (ap (λ m. get_or ys m n) (sym here) ∙ h.2))
-          | inr there ↦ (let last : h.0 - 1 + 1 ≡ h.0 = omega arith in
-                         (h.0 - 1, omega (arith, h.1), get_or-remove_above ys i n (h.0 - 1) (omega arith) within ∙ (ap (λ m. get_or ys m n) last ∙ h.2)))
-        ]
+        | inl here ↦ absurd (differs (ap (λ m. get_or ys m n) (sym here) ∙ h.2))
+        | inr there ↦ (let last : h.0 - 1 + 1 ≡ h.0 = omega arith in
+            (h.0 - 1, omega (arith, h.1), get_or-remove_above ys i n (h.0 - 1) (omega arith) within ∙ (ap (λ m. get_or ys m n) last ∙ h.2)))
+      ]
     ]
 
 -- a list without repeats whose members are all in another is no longer than it
@@ -72,10 +71,10 @@ fits-within [] ys apart inside = omega arith
 fits-within (x ∷ xs) ys apart inside =
     let at : Contains ys x = inside x (contains-first x xs) in
     let rest : length xs ≤ length (remove ys at.0) =
-        fits-within xs (remove ys at.0) (λ i j d lt h. apart (suc i) (suc j) d (omega arith) (omega arith))
-            (λ n h. let other : x ≢ n = λ same. apart 0 (suc h.0) n (omega arith) (omega (arith, h.1)) (same ∙ sym h.2) in
-                    let here : get_or ys at.0 n ≢ n = λ e. other (sym at.2 ∙ (get_or_default ys at.0 x n at.1 ∙ e)) in
-                    contains-removed ys at.0 n at.1 here (inside n (contains-later x xs n h))) in
+    fits-within xs (remove ys at.0) (λ i j d lt h. apart (suc i) (suc j) d (omega arith) (omega arith))
+    (λ n h. let other : x ≢ n = λ same. apart 0 (suc h.0) n (omega arith) (omega (arith, h.1)) (same ∙ sym h.2) in
+    let here : get_or ys at.0 n ≢ n = λ e. other (sym at.2 ∙ (get_or_default ys at.0 x n at.1 ∙ e)) in
+    contains-removed ys at.0 n at.1 here (inside n (contains-later x xs n h))) in
     let shorter = length-remove ys at.0 at.1 in
     omega arith
 
@@ -118,8 +117,8 @@ edges-within nodes (s ∷ ss) [] a b = All-nil (IsWithin nodes)
 edges-within nodes (s ∷ ss) (t ∷ ts) a b =
     let P : ℕ → Type 0 = λ n. n < nodes in
     All-cons (IsWithin nodes) (record { from = s; to = t }) (edge_list ss ts)
-        (record { from_node = All-head P s ss a; to_node = All-head P t ts b })
-        (edges-within nodes ss ts (All-tail P s ss a) (All-tail P t ts b))
+    (record { from_node = All-head P s ss a; to_node = All-head P t ts b })
+    (edges-within nodes ss ts (All-tail P s ss a) (All-tail P t ts b))
 
 -- columns that are spread out over all nodes
 pub columns-spread : (columns : List TypedRow) (extra numbers rows : List ℕ) → All (λ c. length c.values ≡ length extra) columns → length extra ≤ 2147483647 → AllPairs (λ a b. a ≢ b) extra → length rows ≡ length numbers → ((k : ℕ) → k < length numbers → IsRowOf extra (length extra) (slice_index numbers k) (slice_index rows k)) → map (λ c. map (value_in c) rows) columns ≡ map (spread_out numbers extra) columns
@@ -127,7 +126,7 @@ columns-spread [] extra numbers rows long few apart same held = refl
 columns-spread (c ∷ columns) extra numbers rows long few apart same held =
     let P : TypedRow → Type 0 = λ col. length col.values ≡ length extra in
     rw (spread-is c extra numbers rows (All-head P c columns long) few apart same held)
-       (ap (λ l. spread_out numbers extra c ∷ l) (columns-spread columns extra numbers rows (All-tail P c columns long) few apart same held))
+    (ap (λ l. spread_out numbers extra c ∷ l) (columns-spread columns extra numbers rows (All-tail P c columns long) few apart same held))
 
 -- each column that is spread out has a value for each node
 pub spread-rows : (spread columns : List TypedRow) (rows : List ℕ) (n : ℕ) → length rows ≡ n → map (λ c. c.values) spread ≡ map (λ c. map (value_in c) rows) columns → All (λ c. length c.values ≡ n) spread
@@ -137,8 +136,8 @@ spread-rows (s ∷ spread) (c ∷ columns) rows n long same =
     let here : s.values ≡ map (value_in c) rows = cc in
     let there : map (λ c. c.values) spread ≡ map (λ c. map (value_in c) rows) columns = cc in
     All-cons (λ (c : TypedRow). length c.values ≡ n) s spread
-        (ap length here ∙ (length-map rows (value_in c) ∙ long))
-        (spread-rows spread columns rows n long there)
+    (ap length here ∙ (length-map rows (value_in c) ∙ long))
+    (spread-rows spread columns rows n long there)
 
 -- there are at most as many different numbers as numbers
 pub length-distinct : (xs : List ℕ) → length (distinct xs) ≤ length xs

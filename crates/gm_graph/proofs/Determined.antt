@@ -1,6 +1,6 @@
 -- What a graph is made of determines it.
-use Rattle.std.proofs.Common.{◌≡◌, ◌≢◌, ◌<◌, ◌≤◌, ◌+◌, ◌⊎◌, inl, inr, ℕ, zero, suc, List, [], ◌∷◌, map, length, get_or, refl, sym, subst, ◌∙◌, ap, arith, add-one}
-use Rattle.std.specs.Prelude.{slice_index, All, Contains, ◌↔◌}
+use Rattle.std.proofs.Common.{◌≡◌, ◌<◌, ◌≤◌, ◌+◌, inl, inr, ℕ, suc, List, [], ◌∷◌, map, length, get_or, refl, sym, subst, ◌∙◌, ap, arith}
+use Rattle.std.specs.Prelude.{slice_index, All, Contains}
 use Rattle.std.specs.List.Sorted.{IsStrictlyIncreasing}
 use Rattle.std.proofs.lemmas.List.Elements.{All-head, All-tail}
 use Rattle.std.proofs.lemmas.List.{get_or_default}
@@ -33,7 +33,7 @@ same-rest : (x y : ℕ) (xs ys : List ℕ) → x ≡ y → IsStrictlyIncreasing 
 same-rest x y xs ys same up inside n h =
     let above = first-below x xs n up h in
     elim (contains-cases y ys n (inside n (contains-later x xs n h))) [
-      inl here ↦ absurd (omega arith)
+      | inl here ↦ absurd (omega arith)
       | inr there ↦ there
     ]
 
@@ -85,6 +85,6 @@ one-graph raw g h a b =
     let Q : List ℕ → Type 0 = λ l. map (λ (e : Edge). slice_index l e.from) h.edges ≡ raw.from in
     let R : List ℕ → Type 0 = λ l. map (λ (e : Edge). slice_index l e.to) h.edges ≡ raw.to in
     let edges : g.edges ≡ h.edges = same-edges g.numbers a.ascending g.edges h.edges a.within (subst P (sym numbers) b.within)
-        (a.from_numbers ∙ sym (subst Q (sym numbers) b.from_numbers)) (a.to_numbers ∙ sym (subst R (sym numbers) b.to_numbers)) in
+    (a.from_numbers ∙ sym (subst Q (sym numbers) b.from_numbers)) (a.to_numbers ∙ sym (subst R (sym numbers) b.to_numbers)) in
     let nodes : g.node_columns ≡ h.node_columns = a.node_columns ∙ (ap (λ l. map (spread_out l raw.extra) raw.node_columns) numbers ∙ sym b.node_columns) in
     same-graph g h numbers edges nodes (a.edge_columns ∙ sym b.edge_columns)

@@ -1,15 +1,15 @@
 -- The steps of a node, found by the places of its edges among the grouped ones.
-use Rattle.std.proofs.Common.{◌≡◌, ◌≢◌, ◌<◌, ◌≤◌, ◌+◌, ◌⊎◌, inl, inr, ℕ, zero, suc, nat_eq, Bool, true, false, cond, eqb, List, [], ◌∷◌, map, filter, length, take, get_or, Option, Some, None, refl, sym, subst, ◌∙◌, ap, arith}
-use Rattle.std.specs.Prelude.{slice_index, slice_get, All}
+use Rattle.std.proofs.Common.{◌≡◌, ◌≢◌, ◌<◌, ◌+◌, inl, inr, ℕ, zero, suc, nat_eq, List, [], ◌∷◌, map, filter, length, take, get_or, Option, Some, refl, sym, ◌∙◌, ap, arith}
+use Rattle.std.specs.Prelude.{slice_index, slice_get}
 use Rattle.std.specs.List.{enumerate_from}
 use Rattle.std.specs.Option.{option_map}
 use Rattle.std.proofs.lemmas.Bool.{cases_eq, eq-eqb, ne_eqb}
-use Rattle.std.proofs.lemmas.Option.{slice_get-map, slice_get-get_or}
+use Rattle.std.proofs.lemmas.Option.{slice_get-map}
 use Rattle.std.proofs.lemmas.List.Sums.{sum_by-cons}
-use Rattle.gm_graph.specs.Graphs.{Edge, Step, nodes_of, edges_of, IsWithin}
+use Rattle.gm_graph.specs.Graphs.{Edge, Step, nodes_of, edges_of}
 use Rattle.gm_graph.specs.declared.groups.Groups.{Groups}
 use Rattle.gm_graph.specs.Rows.{edge_list, count_of, count_below, place_of, IsGrouped}
-use Rattle.gm_graph.proofs.Grouping.{same, same-self, same-other, place_of-within, count_of-le, count_below-step, count_below-le-length}
+use Rattle.gm_graph.proofs.Grouping.{same, same-self, same-other, place_of-within, count_below-step}
 
 -- steps along the edges from a node, and against the edges to it, with the edges numbered from a base
 abbrev pub steps_out : ℕ → ℕ → List Edge → List Step
@@ -25,7 +25,7 @@ steps-turned base n [] (t ∷ ts) = refl
 steps-turned base n (s ∷ ss) [] = refl
 steps-turned base n (s ∷ ss) (t ∷ ts) =
     elim (cases_eq t n) [
-      inl is ↦ rw (eq-eqb t n is) (ap (λ l. record { node = s; edge = base } ∷ l) (steps-turned (base + 1) n ss ts))
+      | inl is ↦ rw (eq-eqb t n is) (ap (λ l. record { node = s; edge = base } ∷ l) (steps-turned (base + 1) n ss ts))
       | inr differs ↦ rw (ne_eqb t n differs) (steps-turned (base + 1) n ss ts)
     ]
 
@@ -43,14 +43,14 @@ length-steps base n (s ∷ ss) [] long = absurd (omega arith)
 length-steps base n (s ∷ ss) (t ∷ ts) long =
     let rest : length (steps_out (base + 1) n (edge_list ss ts)) ≡ count_of n ss = length-steps (base + 1) n ss ts (omega arith) in
     elim (cases_eq s n) [
-      inl is ↦
-        (let steps = ap length (steps-first base n s t ss ts is) in
-         let more : length (steps_out (base + 1) n (edge_list ss ts)) + 1 ≡ same n s + count_of n ss = omega (arith, same-self n s is) in
-         steps ∙ (omega arith ∙ (more ∙ sym (sum_by-cons (same n) s ss))))
+      | inl is ↦
+          (let steps = ap length (steps-first base n s t ss ts is) in
+          let more : length (steps_out (base + 1) n (edge_list ss ts)) + 1 ≡ same n s + count_of n ss = omega (arith, same-self n s is) in
+          steps ∙ (omega arith ∙ (more ∙ sym (sum_by-cons (same n) s ss))))
       | inr differs ↦
-        (let steps = ap length (steps-other base n s t ss ts differs) in
-         let more : length (steps_out (base + 1) n (edge_list ss ts)) ≡ same n s + count_of n ss = omega (arith, same-other n s differs) in
-         steps ∙ (more ∙ sym (sum_by-cons (same n) s ss)))
+          (let steps = ap length (steps-other base n s t ss ts differs) in
+          let more : length (steps_out (base + 1) n (edge_list ss ts)) ≡ same n s + count_of n ss = omega (arith, same-other n s differs) in
+          steps ∙ (more ∙ sym (sum_by-cons (same n) s ss)))
     ]
 
 -- the k-th step of a node, and the place of its edge
@@ -78,7 +78,7 @@ step-at base n k [] ts long some = absurd (omega arith)
 step-at base n k (s ∷ ss) [] long some = absurd (omega arith)
 step-at base n zero (s ∷ ss) (t ∷ ts) long some =
     elim (cases_eq s n) [
-      inl is ↦ rw (eq-eqb s n is) (record {
+      | inl is ↦ rw (eq-eqb s n is) (record {
         place = 0;
         within = omega arith;
         key = is;
@@ -86,20 +86,20 @@ step-at base n zero (s ∷ ss) (t ∷ ts) long some =
         step = ap (step_to t) (omega arith);
       })
       | inr differs ↦
-        (let none = same-other n s differs in
-         let cons = sum_by-cons (same n) s ss in
-         rw (ne_eqb s n differs) (later base n 0 s t ss ts _ _ 0 (omega arith) refl (step-at (base + 1) n 0 ss ts (omega arith) (omega arith))))
+          (let none = same-other n s differs in
+          let cons = sum_by-cons (same n) s ss in
+          rw (ne_eqb s n differs) (later base n 0 s t ss ts _ _ 0 (omega arith) refl (step-at (base + 1) n 0 ss ts (omega arith) (omega arith))))
     ]
 step-at base n (suc k) (s ∷ ss) (t ∷ ts) long some =
     elim (cases_eq s n) [
-      inl is ↦
-        (let one = same-self n s is in
-         let cons = sum_by-cons (same n) s ss in
-         rw (eq-eqb s n is) (later base n k s t ss ts _ _ (suc k) (omega arith) refl (step-at (base + 1) n k ss ts (omega arith) (omega arith))))
+      | inl is ↦
+          (let one = same-self n s is in
+          let cons = sum_by-cons (same n) s ss in
+          rw (eq-eqb s n is) (later base n k s t ss ts _ _ (suc k) (omega arith) refl (step-at (base + 1) n k ss ts (omega arith) (omega arith))))
       | inr differs ↦
-        (let none = same-other n s differs in
-         let cons = sum_by-cons (same n) s ss in
-         rw (ne_eqb s n differs) (later base n (suc k) s t ss ts _ _ (suc k) (omega arith) refl (step-at (base + 1) n (suc k) ss ts (omega arith) (omega arith))))
+          (let none = same-other n s differs in
+          let cons = sum_by-cons (same n) s ss in
+          rw (ne_eqb s n differs) (later base n (suc k) s t ss ts _ _ (suc k) (omega arith) refl (step-at (base + 1) n (suc k) ss ts (omega arith) (omega arith))))
     ]
 
 -- a group's size, and its k-th edge

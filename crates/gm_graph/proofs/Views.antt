@@ -1,6 +1,6 @@
 -- What the rows of a graph say of the graph that contracts see.
-use Rattle.std.proofs.Common.{◌≡◌, ◌<◌, ◌≤◌, ◌+◌, ℕ, List, map, length, get_or, Option, Some, refl, sym, subst, ◌∙◌, ap, arith}
-use Rattle.std.specs.Prelude.{slice_index, slice_get, All}
+use Rattle.std.proofs.Common.{◌≡◌, ◌<◌, ℕ, List, map, length, Some, refl, sym, subst, ◌∙◌, ap, arith}
+use Rattle.std.specs.Prelude.{slice_get, All}
 use Rattle.std.specs.Option.{option_and_then}
 use Rattle.std.proofs.lemmas.List.Elements.{All-map}
 use Rattle.gm_value.specs.declared.values.Value.{Value}
@@ -9,7 +9,7 @@ use Rattle.gm_graph.specs.Graphs.{NumberedGraph, Step, IsGraph, HasNode, HasStep
 use Rattle.gm_graph.specs.declared.graphs.Graph.TheInside.{Inside}
 use Rattle.gm_graph.specs.Rows.{edge_list, numbered, IsHeld, count_of}
 use Rattle.gm_graph.proofs.Building.{length-edge_list, edges-within}
-use Rattle.gm_graph.proofs.Steps.{IsEdgeAt, edge-at, length-steps, steps-turned, steps_out, steps_in}
+use Rattle.gm_graph.proofs.Steps.{IsEdgeAt, edge-at, length-steps, steps-turned, steps_in}
 
 pub edge_count-is : (g : Inside) (v : NumberedGraph) → numbered g ≡ v → IsHeld g → edge_count v ≡ length g.targets.items
 edge_count-is g v e held =
@@ -30,7 +30,7 @@ is-graph g v e held =
       few_edges = omega (arith, held.few_edges);
       node_rows = All-map (λ values. length values ≡ length g.numbers.items) (λ (c : TypedRow). c.values) g.node_columns.items held.node_rows;
       edge_rows = (let Q : ℕ → Type 0 = λ n. All (λ (values : List Value). length values ≡ n) (map (λ (c : TypedRow). c.values) g.edge_columns.items) in
-                   subst Q (sym edges) (All-map (λ values. length values ≡ length g.targets.items) (λ (c : TypedRow). c.values) g.edge_columns.items held.edge_rows));
+          subst Q (sym edges) (All-map (λ values. length values ≡ length g.targets.items) (λ (c : TypedRow). c.values) g.edge_columns.items held.edge_rows));
     })
 
 -- degrees
@@ -54,7 +54,7 @@ pub in-edge : (g : Inside) (v : NumberedGraph) → numbered g ≡ v → IsHeld g
 in-edge g v e held n k node step =
     let Q : List Step → Type 0 = λ steps. n < length g.numbers.items → k < length steps → IsEdgeAt n k g.targets.items g.sources.items g.inward steps in
     let base : Q (steps_in 0 n (edge_list g.sources.items g.targets.items)) =
-        subst Q (sym (steps-turned 0 n g.sources.items g.targets.items)) (edge-at (length g.numbers.items) n k g.targets.items g.sources.items g.inward held.inward (sym held.both_ends)) in
+    subst Q (sym (steps-turned 0 n g.sources.items g.targets.items)) (edge-at (length g.numbers.items) n k g.targets.items g.sources.items g.inward held.inward (sym held.both_ends)) in
     let P : NumberedGraph → Type 0 = λ w. HasNode w n → HasStep (in_steps w n) k → IsEdgeAt n k g.targets.items g.sources.items g.inward (in_steps w n) in
     subst P e base node step
 

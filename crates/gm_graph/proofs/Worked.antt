@@ -1,7 +1,6 @@
 -- A graph worked out by hand: the lines `7 3`, `7 3`, `3 7` and `7 7`, and the nodes 9 and 3 with a value each.
-use Rattle.std.specs.Prelude.{◌≡◌, pos, List, [], ◌∷◌, Some, refl}
+use Rattle.std.specs.Prelude.{◌≡◌, pos, [], ◌∷◌, Some, refl}
 use Rattle.gm_value.specs.declared.values.VType.TheVariants.{I32}
-use Rattle.gm_value.specs.declared.values.Value.{Value}
 use Rattle.gm_value.specs.declared.values.Value.TheVariants.{I32}
 use Rattle.gm_graph.specs.Graphs.{NumberedGraph, out_steps, in_steps, value_along}
 use Rattle.gm_graph.specs.Builds.{distinct, spread_out}

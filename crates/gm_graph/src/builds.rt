@@ -39,7 +39,12 @@ pub fn build(alloc: Global, raw: RawGraph) -> Result<Graph, NoMemory>
     requires { IsBuildable raw }
     ensures { IfOk result (IsBuiltOf raw) }
 {
-    let numbers = node_numbers(alloc, raw.from.as_slice(), raw.to.as_slice(), raw.extra.as_slice())?;
+    let numbers = node_numbers(
+        alloc,
+        raw.from.as_slice(),
+        raw.to.as_slice(),
+        raw.extra.as_slice(),
+    )?;
     let sources = indices(alloc, numbers.as_slice(), raw.from.as_slice())?;
     let targets = indices(alloc, numbers.as_slice(), raw.to.as_slice())?;
     let rows = rows_of(alloc, numbers.as_slice(), raw.extra.as_slice())?;

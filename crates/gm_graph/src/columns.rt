@@ -31,7 +31,7 @@ pub struct Column {
 
 impl Model for Column {
     ghost use Rattle.gm_value.specs.declared.values.VType.TheVariants.{Node};
-ghost use Rattle.gm_graph.specs.Columns.{TypedRow};
+    ghost use Rattle.gm_graph.specs.Columns.{TypedRow};
 
     ghost Value = { TypedRow };
 

@@ -1,15 +1,14 @@
 //! Graphs in flat rows.
 
-use crate::columns::Column;
-use crate::groups::Groups;
-use crate::numbers::index_in;
 ghost use Rattle.std.specs.Prelude.{◌≡◌, ◌<◌, ◌≤◌, ◌==◌, Some, All, length, map, position, slice_get};
 ghost use Rattle.gm_graph.specs.Columns.{cell_at};
 ghost use Rattle.gm_graph.specs.Graphs.{IsGraph, HasNode, HasEdge, HasStep, HasNodeColumn, HasEdgeColumn, node_count, edge_count, out_steps, in_steps, nodes_of, edges_of, value_along};
 
-use std::marker::Model;
-
+use crate::columns::Column;
+use crate::groups::Groups;
+use crate::numbers::index_in;
 use gm_value::Value;
+use std::marker::Model;
 
 /// A graph. Contracts see its ascending node numbers, its edges between node indices, in the order of their
 /// lines, and the values of its columns.
@@ -104,7 +103,11 @@ impl Graph {
         requires column { HasEdgeColumn self.now column }
         ensures { value_along self.now (out_steps self.now node) k column ≡ Some result }
     {
-        cell(self.edge_columns.as_slice(), column, self.outward.edge(node, k))
+        cell(
+            self.edge_columns.as_slice(),
+            column,
+            self.outward.edge(node, k),
+        )
     }
 
     /// How many edges lead to a node.

@@ -5,13 +5,11 @@ ghost use Rattle.std.specs.List.Sorted.{IsStrictlyIncreasing};
 ghost use Rattle.gm_graph.specs.Columns.{CanHold};
 ghost use Rattle.gm_graph.specs.Spreads.{IsRowOf, HasRow, value_in};
 
-use std::alloc::Global;
-
-use gm_base::NoMemory;
-use gm_value::Value;
-
 use crate::columns::Column;
 use crate::numbers::index_of;
+use gm_base::NoMemory;
+use gm_value::Value;
+use std::alloc::Global;
 
 // The row of a node that has none.
 const NO_ROW: u32 = u32::MAX;
@@ -60,7 +58,11 @@ fn spread(alloc: Global, rows: &[u32], column: &Column) -> Result<Column, NoMemo
 }
 
 // Several columns' values in some rows.
-pub(crate) fn spread_all(alloc: Global, rows: &[u32], columns: &[Column]) -> Result<Vec<Column>, NoMemory>
+pub(crate) fn spread_all(
+    alloc: Global,
+    rows: &[u32],
+    columns: &[Column],
+) -> Result<Vec<Column>, NoMemory>
     requires { All (λ c. All (HasRow (length c.values)) rows.now) columns.now }
     ensures values { IfOk result (λ spread. map (λ c. c.values) spread.items
         ≡ map (λ c. map (value_in c) rows.now) columns.now) }

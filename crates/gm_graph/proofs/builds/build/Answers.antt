@@ -1,7 +1,7 @@
 use Rattle.std.proofs.Common.{arith, refl, ap, map, ◌≡◌, ◌∙◌, length, List}
 use Rattle.gm_graph.specs.Columns.{TypedRow}
 use Rattle.gm_graph.proofs.Building.{map-from, map-to, edges-within}
-use Rattle.gm_graph.proofs.Assembly.{IsNumbering, numbering, nodes-few, extra-few, from-known, to-known, extra-known, IsRows, rows-held, has-rows, ends-length, within-as, grouped-as, lengths-as, numbers-as, columns-as, spread-as}
+use Rattle.gm_graph.proofs.Assembly.{numbering, nodes-few, extra-few, from-known, to-known, extra-known, rows-held, has-rows, ends-length, within-as, grouped-as, lengths-as, numbers-as, columns-as, spread-as}
 use Rattle.gm_graph.proofs.builds.build.Goals as goal
 
 pub indices-requires-clause-few : goal.indices-requires-clause-few

@@ -1,4 +1,4 @@
-use Rattle.std.proofs.Common.{arith, ◌∙◌, ◌≡◌, ◌<◌, sym, ap, get_or, length, Some}
+use Rattle.std.proofs.Common.{arith, ◌∙◌, ◌<◌, sym, ap, get_or, length, Some}
 use Rattle.std.proofs.lemmas.List.{get_or_read}
 use Rattle.gm_graph.proofs.Steps.{node-of}
 use Rattle.gm_graph.proofs.Views.{in-edge, node_count-is}
