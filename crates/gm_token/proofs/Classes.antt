@@ -48,11 +48,11 @@ digits_of_number (IsToken.number n e) is = n
 digits_of_number (IsToken.real r e) is = absurd (let same : Real ≡ Number = sym e ∙ is in cc)
 digits_of_number {w} {bs} (IsToken.symbol c p) is = absurd (no_number w (All-contains (λ row. is_no_number row.1 ≡ true) symbols (bs, w) (AllPass-from_list_all (λ row. is_no_number row.1) symbols symbols_no_number) c) is)
 
-no_name_number : (bs : List ℕ) → IsName bs → IsNumber bs → ⊥
+pub no_name_number : (bs : List ℕ) → IsName bs → IsNumber bs → ⊥
 no_name_number [] n d = n
 no_name_number (b ∷ bs) n d = name_no_digit b n.0 (All-head (λ x. is_digit x ≡ true) b bs d)
 
-no_real_number : (bs whole part : List ℕ) → bs ≡ whole ++ 46 ∷ part → AllPass is_digit bs → ⊥
+pub no_real_number : (bs whole part : List ℕ) → bs ≡ whole ++ 46 ∷ part → AllPass is_digit bs → ⊥
 no_real_number bs whole part e all =
     let size = ap (λ (x : List ℕ). length x) e ∙ length-append whole (46 ∷ part) in
     let dot : get_or bs (length whole) 0 ≡ 46 = ap (λ (x : List ℕ). get_or x (length whole) 0) e ∙ get_or-append_seam whole 46 part 0 in

@@ -7,3 +7,4 @@ pub mod Comments
 pub mod Classes
 pub mod Gaps
 pub mod Steps
+pub mod Once

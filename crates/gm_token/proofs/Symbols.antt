@@ -45,7 +45,7 @@ symbols_no_digit = refl
 
 -- ---- a row that fits the front
 
-both : (a b : Bool) → (a && b) ≡ true → (a ≡ true) × (b ≡ true)
+pub both : (a b : Bool) → (a && b) ≡ true → (a ≡ true) × (b ≡ true)
 both true b e = (refl, e)
 both false b e = absurd (false≢true e)
 
@@ -69,7 +69,7 @@ pub record IsFound (rows : List (List ℕ × Word)) (text : List ℕ) (w : Word)
   pub size : n ≡ length spelling
   pub may_stand : may_precede w (drop n text) ≡ true
 
-there : {X : Type 0} (x : X) (xs : List X) (y : X) → Contains xs y → Contains (x ∷ xs) y
+pub there : {X : Type 0} (x : X) (xs : List X) (y : X) → Contains xs y → Contains (x ∷ xs) y
 there x xs y c = Contains-append_right (x ∷ []) xs y c
 
 pub found : (rows : List (List ℕ × Word)) (text : List ℕ) (w : Word) (n : ℕ) → first_symbol rows text ≡ Some (w, n) → IsFound rows text w n
@@ -94,14 +94,14 @@ found (row ∷ rows) text w n e = by_test (fits_front text row) refl e (found ro
         record { spelling = it.spelling; in_table = there row rows (it.spelling, w) it.in_table; front = it.front; size = it.size; may_stand = it.may_stand }
 
 -- a row of a table is its first one or one of the others
-in_either : {X : Type 0} (x : X) (xs : List X) (y : X) → Contains (x ∷ xs) y → (x ≡ y) ⊎ Contains xs y
+pub in_either : {X : Type 0} (x : X) (xs : List X) (y : X) → Contains (x ∷ xs) y → (x ≡ y) ⊎ Contains xs y
 in_either {X} x xs y c = at c.0 c.1 c.2
   where
     at : (k : ℕ) → k < length (x ∷ xs) → get_or (x ∷ xs) k y ≡ y → (x ≡ y) ⊎ Contains xs y
     at zero lt e = inl e
     at (suc k) lt e = inr (k, omega arith, e)
 
-no_rows : {X : Type 0} (y : X) → Contains [] y → ⊥
+pub no_rows : {X : Type 0} (y : X) → Contains [] y → ⊥
 no_rows y c = absurd (let lt : c.0 < 0 = c.1 in omega arith)
 
 below : (most : ℕ) (rows : List (List ℕ × Word)) → descends most rows ≡ true → (s : List ℕ) (v : Word) → Contains rows (s, v) → length s ≤ most

@@ -9,6 +9,8 @@ mod parts;
 mod passes;
 mod scanned;
 mod scanner;
+#[cfg(test)]
+mod tests;
 mod words;
 
 pub use limits::{MAX_NUMBER, MAX_TEXT};

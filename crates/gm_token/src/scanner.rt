@@ -1,12 +1,13 @@
 //! From a text to its tokens.
 
-ghost use Rattle.std.specs.Prelude.{◌≡◌, ◌<◌, ◌≤◌, ◌↔◌, true, false, length, nat_eq, codes, slice_index, IsTrue, IfOk, IfErr};
+ghost use Rattle.std.specs.Prelude.{◌≡◌, ◌⊎◌, ◌<◌, ◌≤◌, ◌↔◌, true, false, length, nat_eq, codes, slice_index, IsTrue, IfOk, IfErr};
 ghost use Rattle.std.specs.List.{AllPass, starts_with};
-ghost use Rattle.gm_token.specs.declared.limits.TheConstants.{MAX_NUMBER};
+ghost use Rattle.gm_token.specs.declared.limits.TheConstants.{MAX_NUMBER, MAX_TEXT};
 ghost use Rattle.gm_token.specs.declared.words.Word.TheVariants.{Number};
 ghost use Rattle.gm_token.specs.Bytes.{is_blank as is_blank_lem, is_digit};
 ghost use Rattle.gm_token.specs.Spellings.{decimal_value};
-ghost use Rattle.gm_token.specs.Scanning.{BreaksAtFront, IsScanOf, IsStopOf};
+ghost use Rattle.gm_token.specs.Scanning.{BreaksAtFront, IsScanOf, IsRefusalOf, IsStopOf};
+ghost use Rattle.gm_token.specs.Tokens.{Listing};
 ghost use Rattle.gm_token.specs.Parts.{IsPart};
 
 use crate::bytes::is_blank;
@@ -89,20 +90,12 @@ fn front_part(text: &[u8]) -> Result<Part, Rule>
     token_part(text)
 }
 
-/// The tokens of a text of at most `MAX_TEXT` bytes. It is refused with `TextTooLong` at its first byte past that
-/// limit; else at the first place where it is not made of tokens, blanks and comments: `BadByte` at a byte that
-/// begins none of these, `NumberTooLarge` at the first digit of a number above `MAX_NUMBER`, `OpenComment` at a
-/// `/*` that no `*/` ends.
-pub fn scan(alloc: Global, text: &[u8]) -> Result<Tokens<'_>, Stop>
+// The tokens of a text within the limit.
+fn scan_within(alloc: Global, text: &[u8]) -> Result<Tokens<'_>, Stop>
+    requires { length text.now ≤ MAX_TEXT }
     ensures tokens { IfOk result (λ tokens. IsScanOf text.now tokens) }
     ensures stop { IfErr result (λ stop. IsStopOf text.now stop) }
 {
-    if text.len() > MAX_TEXT {
-        return Err(Stop::Refused(Refusal {
-            rule: Rule::TextTooLong,
-            place: place_at(text, MAX_TEXT),
-        }));
-    }
     let mut rows = Vec::new(alloc);
     let mut at = 0;
     let mut place = Place { line: 1, col: 1 };
@@ -130,4 +123,25 @@ pub fn scan(alloc: Global, text: &[u8]) -> Result<Tokens<'_>, Stop>
         rows,
         end: place,
     })
+}
+
+/// The tokens of a text of at most `MAX_TEXT` bytes. It is refused with `TextTooLong` at its first byte past that
+/// limit; else at the first place where it is not made of tokens, blanks and comments: `BadByte` at a byte that
+/// begins none of these, `NumberTooLarge` at the first digit of a number above `MAX_NUMBER`, `OpenComment` at a
+/// `/*` that no `*/` ends.
+pub fn scan(alloc: Global, text: &[u8]) -> Result<Tokens<'_>, Stop>
+    ensures tokens { IfOk result (λ tokens. IsScanOf text.now tokens) }
+    ensures stop { IfErr result (λ stop. IsStopOf text.now stop) }
+
+    // The same the other way round: a text has one answer, and want of memory is the only other one.
+    ensures accepted { (it : Listing) → IsScanOf text.now it → (result ≡ Ok it) ⊎ (result ≡ Err Stop.NoMemory) }
+    ensures refused { (it : Refusal) → IsRefusalOf text.now it → (result ≡ Err (Stop.Refused it)) ⊎ (result ≡ Err Stop.NoMemory) }
+{
+    if text.len() > MAX_TEXT {
+        return Err(Stop::Refused(Refusal {
+            rule: Rule::TextTooLong,
+            place: place_at(text, MAX_TEXT),
+        }));
+    }
+    scan_within(alloc, text)
 }

@@ -1,6 +1,6 @@
 use Rattle.std.proofs.Common.{◌-◌, length}
 use Rattle.gm_token.proofs.Steps.{SoFar}
-use Rattle.gm_token.proofs.scanner.scan.Given as goal
+use Rattle.gm_token.proofs.scanner.scan_within.Given as goal
 
 abbrev pub invariant-text : goal.invariant-text
 invariant-text l = SoFar l.text l.rows.items l.at l.place
