@@ -1,22 +1,9 @@
 -- Reading and writing piece by piece.
-use Rattle.std.proofs.Common.{◌≡◌, ◌≤◌, ◌<◌, ◌+◌, ◌-◌, ℕ, List, [], ◌++◌, Option, length, take, drop, refl, ap, sym, ◌∙◌, arith, append_assoc, append-nil, length-append, length-drop}
+use Rattle.std.proofs.Common.{◌≡◌, ◌≤◌, ◌<◌, ◌+◌, ◌-◌, ℕ, List, [], ◌++◌, Option, length, take, drop, refl, ap, sym, ◌∙◌, arith, append_assoc, length-append, length-drop}
 use Rattle.std.specs.Prelude.{Some, None}
-use Rattle.std.proofs.lemmas.List.{take-append-drop, length-take}
+use Rattle.std.proofs.lemmas.List.{length-take}
 use Rattle.std.proofs.Math.Seq.{drop-append-add, take-add, take-length}
-use Rattle.gm_base.specs.Streams.{TakesFront, AppendsFront, ReadsAll, ReadsPast, IsWriteCount, with_more}
-
--- a piece that was read, put behind others
-pub appends : (before after : Option (List ℕ)) (placed old new : List ℕ) (k : ℕ) → TakesFront before after placed k → 0 < length placed → new ≡ old ++ take k placed → AppendsFront before after old new k
-appends None after placed old new k t room e = t
-appends (Some left) after placed old new k t room e =
-    (t.1, e ∙ rw t.0.front refl, t.0.within, λ none. t.0.none_left none room)
-
--- a piece that is one byte longer than there is room
-pub passes : (before after : Option (List ℕ)) (placed : List ℕ) (room k : ℕ) → TakesFront before after placed k → k ≡ room + 1 → ReadsPast before after room
-passes None after placed room k t e = t
-passes (Some left) after placed room k t e =
-    let within : k ≤ length left = t.0.within in
-    (omega arith, rw (← e) t.1)
+use Rattle.gm_base.specs.Streams.{ReadsPast, IsWriteCount, with_more}
 
 -- these bytes were read so far, where it is told
 abbrev pub SoFar : Option (List ℕ) → Option (List ℕ) → List ℕ → Type 0
@@ -27,24 +14,6 @@ SoFar (Some left) now bytes = (rest : List ℕ) × (now ≡ Some rest) × (left 
 pub so_far_none : (now : Option (List ℕ)) → SoFar now now []
 so_far_none None = refl
 so_far_none (Some left) = (left, refl, refl)
-
--- one piece more
-pub so_far_more : (old now after : Option (List ℕ)) (bytes more : List ℕ) (k : ℕ) → SoFar old now bytes → AppendsFront now after bytes more k → SoFar old after more
-so_far_more None now after bytes more k e t = rw e at t
-so_far_more (Some left) now after bytes more k e t =
-    let p : AppendsFront (Some e.0) after bytes more k = rw e.1 at t in
-    let split : take k e.0 ++ drop k e.0 ≡ e.0 = take-append-drop k e.0 in
-    (drop k e.0, p.0, e.2 ∙ rw (p.1, append_assoc, split) refl)
-
--- the end
-pub so_far_end : (old now after : Option (List ℕ)) (bytes more : List ℕ) (limit k : ℕ) → SoFar old now bytes → AppendsFront now after bytes more k → k ≡ 0 → length more ≤ limit → ReadsAll old after more limit
-so_far_end None now after bytes more limit k e t none fits = (rw e at t, fits)
-so_far_end (Some left) now after bytes more limit k e t none fits =
-    let p : AppendsFront (Some e.0) after bytes more k = rw e.1 at t in
-    let nothing : e.0 ≡ [] = p.3 none in
-    let same : more ≡ bytes = p.1 ∙ rw (none, append-nil) refl in
-    let all : left ≡ more = e.2 ∙ rw (nothing, append-nil) (sym same) in
-    (p.0 ∙ rw (none, nothing) refl, sym all, rw all fits)
 
 -- one byte past the limit
 pub so_far_past : (old now after : Option (List ℕ)) (bytes : List ℕ) (limit room : ℕ) → SoFar old now bytes → ReadsPast now after room → length bytes + room ≡ limit → ReadsPast old after limit

@@ -4,3 +4,5 @@ pub mod Statuses
 pub mod Merge
 pub mod Streams
 pub mod Memory
+pub mod Files
+pub mod Stops

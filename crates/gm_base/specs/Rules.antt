@@ -4,6 +4,8 @@ use Rattle.gm_base.specs.declared.places.Place.{Place}
 use Rattle.gm_base.specs.declared.rules.Rule.{Rule}
 use Rattle.gm_base.specs.declared.rules.Rule.TheVariants.{BadByte, NumberTooLarge, OpenComment, TextTooLong, U1, U2, U3, U4, U5, U6, U7, U8, Syntax, TooDeep, T1, T2, T3, T4, T5, T6, T7, T8, T9, T10, T11, T12, T13, T14, T15, R1, R2, R3, R4, R5, R6, C1, C2, C3, C4, C5, C6, C7, C8, C9, C10, TooLarge, NotBuilt}
 use Rattle.gm_base.specs.declared.rules.Refusal.{Refusal}
+use Rattle.gm_base.specs.declared.rules.Stop.{Stop}
+use Rattle.gm_base.specs.declared.rules.Stop.TheVariants.{Refused, NoMemory}
 use Rattle.gm_base.specs.Places.{place_eq, place_lt, place_text}
 
 -- a rule's number in the order of the rules
@@ -113,6 +115,11 @@ refusal_lt a b = place_lt a.place b.place || (place_eq a.place b.place && nat_lt
 -- a refusal as it is written
 abbrev pub refusal_text : Refusal → List ℕ
 refusal_text r = codes "refused " ++ rule_text r.rule ++ codes " at " ++ place_text r.place
+
+-- why a text was given no answer, as it is written
+abbrev pub stop_text : Stop → List ℕ
+stop_text (Refused r) = refusal_text r
+stop_text NoMemory = codes "out of memory"
 
 -- a rule that is broken at a place
 abbrev pub broken_at : Rule → Place → Refusal

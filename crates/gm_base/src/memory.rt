@@ -13,7 +13,7 @@ use std::alloc::Global;
 use std::marker::Model;
 
 // Whether the call with this number is one of those that fail.
-fn is_among(fails: &[u64], call: u64) -> bool
+pub fn is_among(fails: &[u64], call: u64) -> bool
     ensures { result ≡ list_any (nat_eq call) fails.now }
 {
     fails.iter().any(|n| call == *n)

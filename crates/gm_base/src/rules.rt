@@ -2,7 +2,7 @@
 
 ghost use Rattle.std.specs.Prelude.{◌≡◌, Some};
 ghost use Rattle.gm_base.specs.declared.rules.Stop.TheVariants.{NoMemory};
-ghost use Rattle.gm_base.specs.Rules.{rank_of, rule_text, refusal_lt, refusal_text, lesser};
+ghost use Rattle.gm_base.specs.Rules.{rank_of, rule_text, refusal_lt, refusal_text, stop_text, lesser};
 
 use crate::places::Place;
 use crate::wants::NoMemory;
@@ -231,6 +231,8 @@ pub enum Stop {
 }
 
 impl fmt::Display for Stop {
+    ghost output = { λ stop. Some (stop_text stop) };
+
     fn fmt<W: fmt::Write>(&self, f: &mut fmt::Formatter<W>) -> fmt::Result {
         match self {
             Stop::Refused(refusal) => write!(f, "{refusal}"),

@@ -1,9 +1,10 @@
 //! Reading all that a source has, and writing all of some bytes.
 
-ghost use Rattle.std.specs.Prelude.{◌≡◌, ◌≢◌, ◌≤◌, ◌<◌, ◌+◌, IfOk, IfErr, IfSome, OnOk, OnErr, Ok, Err, length, take, drop, vec_len};
+ghost use Rattle.std.specs.Prelude.{Some, ◌≡◌, ◌≢◌, ◌≤◌, ◌<◌, ◌+◌, IfOk, IfErr, IfSome, OnOk, OnErr, Ok, Err, length, take, drop, vec_len};
 ghost use Rattle.gm_base.specs.declared.whole.ReadStop.TheVariants.{NoMemory};
 ghost use Rattle.gm_base.specs.Streams.{Rises, ReadsAll, ReadsPast, GrowsByPrefix, with_more};
 ghost use Rattle.gm_base.specs.Streams.{AppendsFront};
+ghost use Rattle.gm_base.specs.Stops.{read_stop_text};
 
 use crate::streams::{Sink, Source};
 use crate::wants::Failed;
@@ -11,8 +12,8 @@ use std::alloc::{AllocError, Global};
 use std::error::Error;
 use std::fmt;
 
-// How many bytes are asked of a source at once.
-const PIECE: usize = 65536;
+// How many bytes are asked for at once.
+pub const PIECE: usize = 65536;
 
 /// Why a source was not read to its end.
 #[derive(Clone, Copy, Debug, PartialEq, Eq)]
@@ -26,6 +27,8 @@ pub enum ReadStop {
 }
 
 impl fmt::Display for ReadStop {
+    ghost output = { λ stop. Some (read_stop_text stop) };
+
     fn fmt<W: fmt::Write>(&self, f: &mut fmt::Formatter<W>) -> fmt::Result {
         match self {
             ReadStop::Failed => write!(f, "a read failed"),
@@ -46,7 +49,7 @@ impl From<AllocError> for ReadStop {
 }
 
 // So many zero bytes.
-fn zeros(alloc: Global, count: usize) -> Result<Vec<u8>, AllocError>
+pub fn zeros(alloc: Global, count: usize) -> Result<Vec<u8>, AllocError>
     ensures { IfOk result (λ bytes. vec_len bytes ≡ count) }
 {
     vec![in alloc; 0u8; count]

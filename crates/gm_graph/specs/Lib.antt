@@ -3,3 +3,4 @@ pub mod Cells
 pub mod Graphs
 pub mod Builds
 pub mod Rows
+pub mod Spreads

@@ -5,6 +5,9 @@ ghost use Rattle.gm_graph.specs.Builds.{IsBuildable, IsBuiltOf};
 
 use crate::columns::Column;
 use crate::graphs::Graph;
+use crate::groups::Groups;
+use crate::numbers::{indices, node_numbers};
+use crate::rows::{rows_of, spread_all};
 use gm_base::{Items, NoMemory};
 use gm_value::VType;
 use std::alloc::Global;
@@ -32,10 +35,24 @@ pub struct RawGraph {
 
 /// Makes a graph. Its nodes are those that an edge or `extra` names, by ascending number; a node that `extra`
 /// does not name has 0, False or NIL in each node column.
-pub fn build(_alloc: Global, raw: RawGraph) -> Result<Graph, NoMemory>
+pub fn build(alloc: Global, raw: RawGraph) -> Result<Graph, NoMemory>
     requires { IsBuildable raw }
     ensures { IfOk result (IsBuiltOf raw) }
 {
-    let _ = raw;
-    Err(NoMemory)
+    let numbers = node_numbers(alloc, raw.from.as_slice(), raw.to.as_slice(), raw.extra.as_slice())?;
+    let sources = indices(alloc, numbers.as_slice(), raw.from.as_slice())?;
+    let targets = indices(alloc, numbers.as_slice(), raw.to.as_slice())?;
+    let rows = rows_of(alloc, numbers.as_slice(), raw.extra.as_slice())?;
+    let node_columns = spread_all(alloc, rows.as_slice(), raw.node_columns.as_slice())?;
+    let outward = Groups::new(alloc, sources.as_slice(), numbers.len())?;
+    let inward = Groups::new(alloc, targets.as_slice(), numbers.len())?;
+    Ok(Graph {
+        numbers,
+        sources,
+        targets,
+        outward,
+        inward,
+        node_columns,
+        edge_columns: raw.edge_columns.into_vec(),
+    })
 }

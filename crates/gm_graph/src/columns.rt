@@ -2,6 +2,7 @@
 
 ghost use Rattle.std.specs.Prelude.{◌≡◌, ◌<◌, ◌==◌, [], ◌∷◌, ◌++◌, Some, length, slice_get, OnOk, OnErr};
 ghost use Rattle.gm_value.specs.declared.values.Value.TheVariants.{At};
+ghost use Rattle.gm_value.specs.declared.values.VType.TheVariants.{Node};
 ghost use Rattle.gm_graph.specs.Columns.{CanHold, IsStorable};
 ghost use Rattle.gm_graph.specs.Cells.{node_in};
 
@@ -29,7 +30,8 @@ pub struct Column {
 }
 
 impl Model for Column {
-    ghost use Rattle.gm_graph.specs.Columns.{TypedRow};
+    ghost use Rattle.gm_value.specs.declared.values.VType.TheVariants.{Node};
+ghost use Rattle.gm_graph.specs.Columns.{TypedRow};
 
     ghost Value = { TypedRow };
 
@@ -87,7 +89,8 @@ impl Column {
     /// The value in a row. The row is an index from 0.
     pub fn get(&self, row: usize) -> Value
         requires { row < length self.now.values }
-        ensures { slice_get self.now.values row ≡ Some result }
+        ensures value { slice_get self.now.values row ≡ Some result }
+        ensures held { CanHold self.now.vtype result }
     {
         match &self.cells {
             Cells::Ints(cells) => Value::I32(cells[row]),
@@ -117,7 +120,8 @@ impl Column {
 
 // The node whose index a cell holds, or NIL.
 fn node_in(cell: u32) -> Value
-    ensures { result ≡ node_in cell }
+    ensures node { result ≡ node_in cell }
+    ensures held { CanHold Node result }
 {
     if cell == NIL {
         Value::At(None)

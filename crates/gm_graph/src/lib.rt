@@ -4,9 +4,14 @@
 mod builds;
 mod columns;
 mod graphs;
+mod groups;
+mod laws;
+mod numbers;
 mod outcomes;
+mod rows;
 
 pub use builds::{RawGraph, Shape, build};
 pub use columns::{Column, Values};
 pub use graphs::Graph;
+pub use laws::graphs_are_determined;
 pub use outcomes::{Outcome, RunEnd};

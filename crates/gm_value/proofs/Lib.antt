@@ -3,3 +3,6 @@ pub mod ProductLaws
 pub mod MonoidLaws
 pub mod NumberLaws
 pub mod TotalLaws
+pub mod TakingLaws
+pub mod RekeyingLaws
+mod Rows

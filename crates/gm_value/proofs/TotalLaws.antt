@@ -1,5 +1,5 @@
 -- Laws of totals and of the bags that they stand for.
-use Rattle.std.proofs.Common.{◌≡◌, ℤ, ◌*ℤ◌, Bool, List, subst}
+use Rattle.std.proofs.Common.{◌≡◌, ◌≤◌, ◌<◌, ◌*◌, ◌^◌, ℤ, ◌*ℤ◌, unsigned_abs, Bool, true, false, List, [], ◌∷◌, length, ap, subst, arith}
 use Rattle.gm_value.specs.declared.values.VType.{VType}
 use Rattle.gm_value.specs.declared.values.Value.{Value}
 use Rattle.gm_value.specs.declared.reductions.Reduce.{Reduce}
@@ -8,8 +8,9 @@ use Rattle.gm_value.specs.declared.totals.Total.{Total}
 use Rattle.gm_value.specs.declared.totals.Total.TheVariants as totals
 use Rattle.gm_value.specs.Numbers.{number_of, type_of, IsOf}
 use Rattle.gm_value.specs.Reductions.{combined, total}
-use Rattle.gm_value.specs.Totals.{AreOf, IsProduct, IsProductTotal, Shows, IsTotal, AddsMember}
+use Rattle.gm_value.specs.Totals.{AreOf, IsProduct, IsProductTotal, Shows, IsTotal, HasRoom, AddsMember}
 use Rattle.gm_value.specs.Bag.{SameBag, same_nil, same_cons, same_swap, same_trans}
+use Rattle.gm_value.proofs.NumberLaws.{abs-add, fits-near}
 use Rattle.gm_value.proofs.BagLaws.{SameBag-sym}
 use Rattle.gm_value.proofs.MonoidLaws.{total-permuted}
 
@@ -64,3 +65,28 @@ pub product_more : (r : Reduce) (t : VType) (a new : Total) (x number value : �
 product_more r t a new x number value over is_product is_a is_x more exact shows =
     let known = rw (is_product, is_a) at shows in
     rw (is_product, ← is_x) (more exact known)
+
+-- a sum's magnitude is at most 2 ^ 63 a member
+sum-near : (t : VType) (bag : List Value) → AreOf t bag → unsigned_abs (total Sum t bag) ≤ 2 ^ 63 * length bag
+sum-near t [] are = omega arith
+sum-near t (v ∷ bag) are =
+    let near = abs-add (number_of v) (total Sum t bag) (2 ^ 63) (2 ^ 63 * length bag) (fits-near t (number_of v) are.0.1) (sum-near t bag are.1) in
+    omega (arith, near)
+
+product-near : (value : ℤ) (over : Bool) (exact : ℤ) → IsProduct value over exact → unsigned_abs value ≤ 2 ^ 63
+product-near value false exact is = let e = ap unsigned_abs is.0 in omega (arith, is.1, e)
+product-near value true exact is = let e = ap unsigned_abs is.0 in omega (arith, e)
+
+-- a total of fewer than 2 ^ 62 members has room
+pub has_room : (r : Reduce) (t : VType) (a : Total) (bag : List Value) → IsTotal r t a bag → length bag < 2 ^ 62 → HasRoom a
+has_room r t (totals.Small v) bag is few = tt
+has_room Sum t (totals.Sum z) bag is few =
+    let near = sum-near t bag is.0 in
+    let same = ap unsigned_abs is.1 in
+    omega (arith, near, same)
+has_room Product t (totals.Sum z) bag is few = absurd is.1
+has_room Min t (totals.Sum z) bag is few = absurd is.1
+has_room Max t (totals.Sum z) bag is few = absurd is.1
+has_room And t (totals.Sum z) bag is few = absurd is.1
+has_room Or t (totals.Sum z) bag is few = absurd is.1
+has_room r t (totals.Product value over) bag is few = product-near value over (total r t bag) (shown-product r t value over (total r t bag) is.1)

@@ -5,3 +5,4 @@ pub mod Bag
 pub mod Reductions
 pub mod Totals
 pub mod Taking
+pub mod Laws

@@ -1,8 +1,7 @@
 -- The reductions, each a commutative monoid on whole numbers, and the closing of a bag into a held value.
-use Rattle.std.specs.Prelude.{Bool, true, false, ℤ, pos, ◌+ℤ◌, ◌*ℤ◌, List, [], ◌∷◌, Result}
+use Rattle.std.specs.Prelude.{Bool, true, false, not, ℤ, pos, ◌+ℤ◌, ◌*ℤ◌, List, [], ◌∷◌, Result}
 use Rattle.std.specs.Int.{int_min, int_max}
 use Rattle.gm_value.specs.declared.values.VType.{VType}
-use Rattle.gm_value.specs.declared.values.VType.TheVariants.{Flag}
 use Rattle.gm_value.specs.declared.values.Value.{Value}
 use Rattle.gm_value.specs.declared.faults.FaultKind.{FaultKind}
 use Rattle.gm_value.specs.declared.reductions.Reduce.{Reduce}
@@ -51,7 +50,6 @@ abbrev pub reduces : Reduce → VType → Bool
 reduces Sum t = is_numeric t
 reduces Product t = is_numeric t
 reduces Min t = is_numeric t
-reduces Max Flag = false
-reduces Max t = true
+reduces Max t = not (is_flag t)
 reduces And t = is_flag t
 reduces Or t = is_flag t

@@ -1,6 +1,6 @@
 -- Contributions taken onto a held value in the ascending order of their ranks.
-use Rattle.std.specs.Prelude.{◌≡◌, ℕ, zero, suc, nat_eq, nat_lt, nat_le, Option, Some, None, Result, Ok, Err, List, [], ◌∷◌, filter}
-use Rattle.gm_value.specs.Bag.{SameBag}
+use Rattle.std.specs.Prelude.{◌<◌, ◌≤◌, ◌≡◌, ℕ, zero, suc, nat_eq, nat_lt, nat_le, Option, Some, None, Result, Ok, Err, List, [], ◌∷◌, filter}
+use Rattle.gm_value.specs.Bag.{SameBag, IsIn}
 
 -- the contributions of one rank
 abbrev pub of_rank : {C : Type 0} → (C → ℕ) → ℕ → List C → List C
@@ -38,3 +38,20 @@ from_on rank s contributions = filter (λ c. nat_le s (rank c)) contributions
 -- a closing depends on its contributions only as a bag
 abbrev pub TakesBags : {C V : Type 0} → (V → List C → Option V) → Type 0
 TakesBags {C} {V} close = (held : V) (some other : List C) → SameBag some other → close held some ≡ close held other
+
+-- all contributions have ranks below a number
+abbrev pub AreBelow : {C : Type 0} → (C → ℕ) → ℕ → List C → Type 0
+AreBelow rank bound [] = Unit {0}
+AreBelow rank bound (c ∷ contributions) = (rank c < bound) × AreBelow rank bound contributions
+
+-- a taking's answer with its fault's rank renamed
+abbrev pub rank_by : {V : Type 0} → (ℕ → ℕ) → Result V ℕ → Result V ℕ
+rank_by f (Ok v) = Ok v
+rank_by f (Err s) = Err (f s)
+
+-- contributions have new ranks in the old order: p is the new rank of an old one, and f cuts the new ranks where a bound cuts the old ones
+pub record KeepsOrder {C : Type 0} (rank new : C → ℕ) (p f : ℕ → ℕ) (contributions : List C) : Type 0 where
+  pub is : (c : C) → IsIn c contributions → new c ≡ p (rank c)
+  pub below : (c : C) → IsIn c contributions → (bound : ℕ) → rank c < bound → new c < f bound
+  pub above : (c : C) → IsIn c contributions → (bound : ℕ) → bound ≤ rank c → f bound ≤ new c
+  pub up : (bound : ℕ) → f bound ≤ f (suc bound)

@@ -2,7 +2,7 @@
 
 ghost use Rattle.std.specs.Prelude.{◌≡◌, ◌≢◌, ◌^◌, ◌≤◌, pos, neg_ℤ, unsigned_abs, ◌+ℤ◌, ◌-ℤ◌, ◌*ℤ◌, int_div, int_rem};
 ghost use Rattle.gm_value.specs.Numbers.{checked};
-ghost use Rattle.gm_value.specs.Operations.{result1, result2, unless_zero};
+ghost use Rattle.gm_value.specs.Operations.{fits1, fits2, type1, type2, result1, result2, unless_zero};
 
 use crate::faults::FaultKind;
 use crate::values::{VType, Value};
@@ -45,6 +45,53 @@ pub enum Op2 {
     Gt,
     /// Whether the first is at least the second.
     Ge,
+}
+
+impl Op1 {
+    /// Whether the operation fits a type: arithmetic and casts take numbers, Not takes a truth value.
+    pub fn fits(self, t: VType) -> bool
+        ensures { result ≡ fits1 self t }
+    {
+        match self {
+            Op1::Neg | Op1::ToI32 | Op1::ToI64 => t.is_numeric(),
+            Op1::Not => t == VType::Flag,
+        }
+    }
+
+    /// The type of what the operation gives on a value of a type.
+    pub fn result_type(self, t: VType) -> VType
+        ensures { result ≡ type1 self t }
+    {
+        match self {
+            Op1::Neg => t,
+            Op1::Not => VType::Flag,
+            Op1::ToI32 => VType::I32,
+            Op1::ToI64 => VType::I64,
+        }
+    }
+}
+
+impl Op2 {
+    /// Whether the operation fits two types: arithmetic and order take two numbers of one type, Eq and Ne two values
+    /// of one type.
+    pub fn fits(self, t: VType, u: VType) -> bool
+        ensures { result ≡ fits2 self t u }
+    {
+        match self {
+            Op2::Eq | Op2::Ne => t == u,
+            _ => t == u && t.is_numeric(),
+        }
+    }
+
+    /// The type of what the operation gives on two values of a type.
+    pub fn result_type(self, t: VType) -> VType
+        ensures { result ≡ type2 self t }
+    {
+        match self {
+            Op2::Add | Op2::Sub | Op2::Mul | Op2::Div | Op2::Rem => t,
+            _ => VType::Flag,
+        }
+    }
 }
 
 // The arithmetic of whole numbers of at most 64 bits, in 128 bits. A sum takes a larger right side, for totals.

@@ -2,7 +2,7 @@
 
 ghost use Rattle.std.specs.Prelude.{◌≡◌, IsTrue, pos};
 ghost use Rattle.gm_value.specs.Numbers.{number_of, type_of};
-ghost use Rattle.gm_value.specs.Reductions.{combined, picks, unit_of};
+ghost use Rattle.gm_value.specs.Reductions.{combined, picks, reduces, unit_of};
 
 use crate::values::{VType, Value};
 
@@ -21,6 +21,30 @@ pub enum Reduce {
     And,
     /// Whether any is true.
     Or,
+}
+
+impl Reduce {
+    /// Whether the reduction fits a type: Sum, Product, Min and Max fit numbers, Max nodes too, And and Or truth
+    /// values.
+    pub fn fits(self, t: VType) -> bool
+        ensures { result ≡ reduces self t }
+    {
+        match self {
+            Reduce::Sum | Reduce::Product | Reduce::Min => t.is_numeric(),
+            Reduce::Max => t != VType::Flag,
+            Reduce::And | Reduce::Or => t == VType::Flag,
+        }
+    }
+
+    /// Whether the reduction picks one of its members, and so never leaves their type.
+    pub fn picks(self) -> bool
+        ensures { result ≡ picks self }
+    {
+        match self {
+            Reduce::Sum | Reduce::Product => false,
+            Reduce::Min | Reduce::Max | Reduce::And | Reduce::Or => true,
+        }
+    }
 }
 
 // The value of a type for which the number 0 stands.

@@ -1,6 +1,6 @@
 //! Totals of bags of values, which stay exact while fewer than 2 ^ 62 members come, in any order.
 
-ghost use Rattle.std.specs.Prelude.{◌≡◌, ℤ, ◌*ℤ◌, ◌^◌, ◌≤◌, unsigned_abs, List, []};
+ghost use Rattle.std.specs.Prelude.{◌≡◌, ◌↔◌, IsTrue, ℤ, ◌*ℤ◌, ◌^◌, ◌≤◌, unsigned_abs, List, []};
 ghost use Rattle.gm_value.specs.declared.values.Value.{Value};
 ghost use Rattle.gm_value.specs.declared.reductions.Reduce.{Reduce};
 ghost use Rattle.gm_value.specs.Numbers.{type_of, number_of, checked, IsOf};
@@ -21,6 +21,19 @@ pub enum Total {
     Sum(i128),
     /// The exact product while its magnitude is at most 2 ^ 63; where it is greater, `over` with the value 0.
     Product { value: i128, over: bool },
+}
+
+impl Total {
+    /// Whether the total has room for one more member. One of fewer than 2 ^ 62 members has.
+    pub fn has_room(self) -> bool
+        ensures { IsTrue result ↔ HasRoom self }
+    {
+        match self {
+            Total::Small(_) => true,
+            Total::Sum(z) => -(1 << 126) <= z && z <= 1 << 126,
+            Total::Product { value, .. } => -(1 << 63) <= value && value <= 1 << 63,
+        }
+    }
 }
 
 // A product with one more factor. A factor 0 makes it 0 for good.

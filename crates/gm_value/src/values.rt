@@ -1,6 +1,7 @@
 //! Values and their types.
 
 ghost use Rattle.std.specs.Prelude.{◌≡◌, IsTrue};
+ghost use Rattle.gm_value.specs.Operations.{is_numeric};
 ghost use Rattle.gm_value.specs.Numbers.{type_of, number_of, least_of, greatest_of, fits, checked, zero_of};
 
 use crate::faults::FaultKind;
@@ -41,6 +42,16 @@ impl VType {
             VType::I64 => Value::I64(0),
             VType::Flag => Value::Flag(false),
             VType::Node => Value::At(None),
+        }
+    }
+
+    /// Whether the type has arithmetic and order.
+    pub fn is_numeric(self) -> bool
+        ensures { result ≡ is_numeric self }
+    {
+        match self {
+            VType::I32 | VType::I64 => true,
+            VType::Flag | VType::Node => false,
         }
     }
 

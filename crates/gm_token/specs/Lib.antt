@@ -1,0 +1,9 @@
+pub mod Bytes
+pub mod Words
+pub mod Places
+pub mod Tokens
+pub mod Spellings
+pub mod Scanning
+pub mod Rows
+pub mod Fronts
+pub mod Parts
