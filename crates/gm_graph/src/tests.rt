@@ -1,0 +1,78 @@
+//! A small graph, made and read with ample memory.
+
+ghost use Rattle.std.specs.Prelude.{◌≡◌, [], ◌∷◌, All, IfOk, length};
+ghost use Rattle.gm_value.specs.declared.values.VType.TheVariants.{I32};
+ghost use Rattle.gm_graph.specs.Builds.{IsBuildable, types_of};
+
+use std::alloc::{AllocError, Global};
+use std::fmt::Write;
+use std::test::Fail;
+
+use gm_base::{Items, NoMemory};
+use gm_value::{VType, Value};
+
+use crate::{Column, Graph, RawGraph, Shape, build};
+
+// A column of small numbers, one in each row.
+fn counted_rows(alloc: Global, rows: u8) -> Result<Items<Column>, NoMemory>
+    ensures vtypes { IfOk result (λ columns. types_of columns ≡ I32 ∷ []) }
+    ensures rows { IfOk result (λ columns. All (λ c. length c.values ≡ rows) columns) }
+{
+    let mut column = Column::new(alloc, VType::I32);
+    for row in 0..rows {
+        column.push(Value::I32(i32::from(row)))?;
+    }
+    let mut columns = Vec::new(alloc);
+    columns.push(column)?;
+    Ok(Items::new(columns))
+}
+
+// The lines `7 3`, `7 3`, `3 7` and `7 7`, and the nodes 9 and 3 with a value each.
+fn lines(alloc: Global) -> Result<RawGraph, NoMemory>
+    ensures { IfOk result IsBuildable }
+{
+    Ok(RawGraph {
+        shape: Shape {
+            nodes: Items::new(vec![in alloc; VType::I32]?),
+            edges: Items::new(vec![in alloc; VType::I32]?),
+        },
+        from: Items::new(vec![in alloc; 7u64, 7, 3, 7]?),
+        to: Items::new(vec![in alloc; 3u64, 3, 7, 7]?),
+        edge_columns: counted_rows(alloc, 4)?,
+        extra: Items::new(vec![in alloc; 9u64, 3]?),
+        node_columns: counted_rows(alloc, 2)?,
+    })
+}
+
+// Each node's number, then its edges with their places and other ends, away from it (`>`) and to it (`<`).
+fn listing(alloc: Global, graph: &Graph) -> Result<String, AllocError> {
+    let mut text = String::new(alloc);
+    for node in 0..graph.node_count() {
+        let number = graph.number(node);
+        write!(text, "{number}:")?;
+        for k in 0..graph.out_degree(node) {
+            let edge = graph.out_edge(node, k);
+            let target = graph.out_target(node, k);
+            write!(text, " >{edge}/{target}")?;
+        }
+        for k in 0..graph.in_degree(node) {
+            let edge = graph.in_edge(node, k);
+            let source = graph.in_source(node, k);
+            write!(text, " <{edge}/{source}")?;
+        }
+        text.push(';')?;
+    }
+    Ok(text)
+}
+
+#[test]
+fn a_graph_is_made_and_read(rt: HostRuntime) -> Result<(), Fail> {
+    let graph = build(rt.alloc(), lines(rt.alloc())?)?;
+    let text = listing(rt.alloc(), &graph)?;
+    assert_eq!(rt; text.as_str(), "3: >2/1 <0/1 <1/1;7: >0/0 >1/0 >3/1 <2/0 <3/1;9:;");
+    assert_eq!(rt; graph.edge_count(), 4);
+    for (number, node) in [(3, Some(0)), (7, Some(1)), (9, Some(2)), (0, None), (8, None), (u64::MAX, None)] {
+        assert_eq!(rt; graph.node_of(number), node);
+    }
+    Ok(())
+}
