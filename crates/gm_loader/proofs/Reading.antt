@@ -1,5 +1,5 @@
 -- A text that is read line by line, and the graph that is made of its lines.
-use Rattle.std.proofs.Common.{◌≡◌, ◌≢◌, ◌≤◌, ◌<◌, ◌+◌, ℕ, Bool, true, false, cond, ◌||◌, List, [], ◌∷◌, ◌++◌, length, map, drop, eqb, ltb, refl, ap, sym, ◌∙◌, arith, length-append}
+use Rattle.std.proofs.Common.{◌≡◌, ◌≢◌, ◌≤◌, ◌<◌, ◌+◌, ℕ, suc, Bool, true, false, cond, ◌||◌, List, [], ◌∷◌, ◌++◌, length, map, drop, eqb, ltb, refl, ap, sym, ◌∙◌, arith, length-append}
 use Rattle.std.specs.Prelude.{Result, Ok, Err, All, IsOkAnd, Option, Some, None, ⊤}
 use Rattle.std.specs.Str.Lines.{lines}
 use Rattle.std.proofs.lemmas.Bool.Decides.{nat_tests}
@@ -13,7 +13,7 @@ use Rattle.gm_graph.specs.declared.builds.Shape.{Shape}
 use Rattle.gm_graph.specs.declared.builds.RawGraph.{RawGraph}
 use Rattle.gm_graph.specs.Graphs.{NumberedGraph}
 use Rattle.gm_graph.specs.Columns.{TypedRow}
-use Rattle.gm_graph.specs.Builds.{IsBuildable, IsBuiltOf, distinct}
+use Rattle.gm_graph.specs.Builds.{IsBuildable, IsBuiltOf, distinct, spread_out}
 use Rattle.gm_loader.specs.declared.faults.GraphFault.{GraphFault}
 use Rattle.gm_loader.specs.declared.faults.GraphFault.TheVariants as fault
 use Rattle.gm_loader.specs.declared.faults.LineFault.{LineFault}
@@ -23,7 +23,7 @@ use Rattle.gm_loader.specs.declared.faults.LineStop.TheVariants.{Fault, NoMemory
 use Rattle.gm_loader.specs.declared.limits.Limits.{Limits}
 use Rattle.gm_loader.specs.declared.tables.Tables.{Tables}
 use Rattle.gm_loader.specs.Lines.{Line, Skipped, NodeLine, EdgeLine, line_of}
-use Rattle.gm_loader.specs.GraphText.{EdgeRow, NodeRow, edge_rows, node_rows, numbers_on, node_count, edge_count, judged, at_line, on_line, lines_after, lines_of, columns_of, first_value, raw_of, StandsFor}
+use Rattle.gm_loader.specs.GraphText.{EdgeRow, NodeRow, edge_rows, node_rows, numbers_on, node_count, edge_count, judged, at_line, on_line, lines_after, lines_of, columns_of, first_value, raw_of, StandsFor, HasColumns}
 use Rattle.gm_loader.specs.Tables.{Holds, HoldsLines, Takes}
 use Rattle.gm_loader.specs.Loads.{IsLineFault, stop_at_line}
 use Rattle.gm_loader.proofs.Members.{among, distinct-within}
@@ -168,3 +168,16 @@ stands shape limits text tables raw g fits h is built = record {
 pub reads_len : (before after : Option (List ℕ)) (text : List ℕ) (limit : ℕ) → ReadsAll before after text limit → length text ≤ limit
 reads_len None after text limit r = r.1
 reads_len (Some left) after text limit r = rw r.1 r.2
+
+-- the columns of a graph that is made of some lines
+columns_len : (types : List VType) (rows : List (List Value)) → length (columns_of types rows) ≡ length types
+columns_len [] rows = refl
+columns_len (t ∷ ts) rows = ap suc (columns_len ts (map (drop 1) rows))
+
+pub has_columns : (shape : Shape) (ls : List Line) (raw : RawGraph) (g : NumberedGraph) → raw ≡ raw_of shape ls → IsBuiltOf raw g → HasColumns (length shape.nodes) (length shape.edges) g
+has_columns shape ls raw g is built =
+    let all : IsBuiltOf (raw_of shape ls) g = rw (← is) built in
+    record {
+      of_nodes = ap length all.node_columns ∙ length-map (columns_of shape.nodes (map (λ r. r.values) (node_rows ls))) (spread_out g.numbers (map (λ r. r.number) (node_rows ls))) ∙ columns_len shape.nodes (map (λ r. r.values) (node_rows ls));
+      of_edges = ap length all.edge_columns ∙ length-map (columns_of shape.edges (map (λ e. e.values) (edge_rows ls))) (λ c. c.values) ∙ columns_len shape.edges (map (λ e. e.values) (edge_rows ls));
+    }

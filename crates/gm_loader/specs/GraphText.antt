@@ -136,3 +136,8 @@ pub record StandsFor (shape : Shape) (limits : Limits) (text : List ℕ) (g : Nu
   pub sound_lines : List Line
   pub no_fault : lines_of shape limits text ≡ Ok sound_lines
   pub built : IsBuiltOf (raw_of shape sound_lines) g
+
+-- a graph has so many node columns and so many edge columns
+pub record HasColumns (nodes edges : ℕ) (g : NumberedGraph) : Type 0 where
+  pub of_nodes : length g.node_columns ≡ nodes
+  pub of_edges : length g.edge_columns ≡ edges

@@ -7,6 +7,8 @@ mod limits;
 mod loads;
 mod sets;
 mod tables;
+#[cfg(test)]
+mod tests;
 
 pub use faults::GraphFault;
 pub use limits::Limits;

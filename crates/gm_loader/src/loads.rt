@@ -1,10 +1,10 @@
 //! Graphs of texts.
 
-ghost use Rattle.std.specs.Prelude.{◌≡◌, ◌≢◌, ◌≤◌, [], IfOk, IfErr, Err, map};
+ghost use Rattle.std.specs.Prelude.{◌≡◌, ◌≢◌, ◌≤◌, [], IfOk, IfErr, Err, length, map};
 ghost use Rattle.std.specs.Str.Lines.{lines};
 ghost use Rattle.gm_base.specs.Streams.{Rises, ReadsPast};
 ghost use Rattle.gm_loader.specs.Lines.{line_of};
-ghost use Rattle.gm_loader.specs.GraphText.{lines_after, lines_of, StandsFor};
+ghost use Rattle.gm_loader.specs.GraphText.{lines_after, lines_of, StandsFor, HasColumns};
 ghost use Rattle.gm_loader.specs.Tables.{HoldsLines};
 ghost use Rattle.gm_loader.specs.Loads.{LoadsGraph, LoadsFault, IsLineFault};
 
@@ -69,6 +69,7 @@ pub fn parse_graph(
     requires few_nodes { limits.now.nodes ≤ 2147483647 }
     requires few_edges { limits.now.edges ≤ 2147483647 }
     ensures graph { IfOk result (StandsFor shape.now limits.now bytes.now) }
+    ensures columns { IfOk result (HasColumns (length shape.now.nodes) (length shape.now.edges)) }
     ensures fault { IfErr result (λ e. e ≢ GraphFault.NoMemory
         → lines_of shape.now limits.now bytes.now ≡ Err e) }
 {
@@ -96,6 +97,7 @@ pub fn load<S: Source>(
     requires few_nodes { limits.now.nodes ≤ 2147483647 }
     requires few_edges { limits.now.edges ≤ 2147483647 }
     ensures graph { IfOk result (LoadsGraph (S.left source.old) (S.left source.new) shape.now limits.now) }
+    ensures columns { IfOk result (HasColumns (length shape.now.nodes) (length shape.now.edges)) }
     ensures line_fault { IfErr result (λ e. IsLineFault e
         → LoadsFault (S.left source.old) (S.left source.new) shape.now limits.now e) }
     ensures too_long { result ≡ Err GraphFault.TooLong
