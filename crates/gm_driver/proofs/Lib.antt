@@ -1,0 +1,6 @@
+pub mod Fitting
+pub mod Parting
+pub mod EdgeReading
+pub mod Running
+pub mod Writing
+pub mod Answering

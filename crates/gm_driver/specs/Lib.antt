@@ -1,0 +1,12 @@
+pub mod Words
+pub mod Parts
+pub mod Seen
+pub mod FirstForm
+pub mod Forms
+pub mod EdgeLines
+pub mod Reading
+pub mod Meaning
+pub mod Listing
+pub mod Answer
+pub mod Runs
+pub mod Whole

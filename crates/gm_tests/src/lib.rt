@@ -1,0 +1,5 @@
+//! Tests of the whole program, by its one public call over streams in memory.
+#![tactic(auto)]
+
+#[cfg(test)]
+mod tests;
