@@ -1,0 +1,16 @@
+mod Walks
+mod Turns
+mod Parses
+mod Matches
+mod Hyphens
+mod Outcomes
+mod Flags
+mod Numbers
+mod Exact
+mod Givens
+mod Founds
+mod Spelled
+mod Wholes
+mod Operands
+mod Rows
+mod Rights
