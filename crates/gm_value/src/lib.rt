@@ -1,0 +1,22 @@
+//! Values, their types, and the operations and reductions on them, with exact checked arithmetic: a result
+//! out of its type's range is a fault, and nothing wraps. No call takes memory.
+#![tactic(auto)]
+
+mod faults;
+mod laws;
+mod operations;
+mod reductions;
+#[cfg(test)]
+mod tests;
+mod totals;
+mod values;
+
+pub use faults::FaultKind;
+pub use laws::{
+    bags_have_no_order, divisions_cut_toward_zero, operations_keep_types, reductions_are_monoids,
+    taking_goes_by_ranks, totals_have_room,
+};
+pub use operations::{Op1, Op2, apply1, apply2};
+pub use reductions::{Reduce, fold_in, unit};
+pub use totals::{Total, total_add, total_close, total_unit};
+pub use values::{VType, Value};
