@@ -1,0 +1,9 @@
+pub mod Grouping
+pub mod Ascending
+pub mod Spreading
+pub mod Steps
+pub mod Building
+pub mod Assembly
+pub mod Views
+pub mod Worked
+pub mod Determined

@@ -1,0 +1,19 @@
+-- The cells of a column: one row of numbers or truth values for each type.
+use Rattle.std.specs.Prelude.{ℕ, nat_eq, map, Some, None, if◌then◌else◌}
+use Rattle.gm_value.specs.declared.values.Value.{Value}
+use Rattle.gm_value.specs.declared.values.VType.TheVariants.{I32, I64, Flag, Node}
+use Rattle.gm_value.specs.declared.values.Value.TheVariants.{I32, I64, Flag, At}
+use Rattle.gm_graph.specs.declared.columns.Cells.{Cells}
+use Rattle.gm_graph.specs.declared.columns.Cells.TheVariants.{Ints, Longs, Flags, Nodes}
+use Rattle.gm_graph.specs.Columns.{TypedRow}
+
+-- the node whose index a cell holds, or NIL at the greatest number
+abbrev pub node_in : ℕ → Value
+node_in k = if nat_eq k 4294967295 then At None else At (Some k)
+
+-- a column's type and values
+abbrev pub typed_row : Cells → TypedRow
+typed_row (Ints cells) = record { vtype = I32; values = map (λ z. I32 z) cells.items }
+typed_row (Longs cells) = record { vtype = I64; values = map (λ z. I64 z) cells.items }
+typed_row (Flags cells) = record { vtype = Flag; values = map (λ b. Flag b) cells.items }
+typed_row (Nodes cells) = record { vtype = Node; values = map node_in cells.items }

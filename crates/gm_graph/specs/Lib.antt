@@ -1,0 +1,6 @@
+pub mod Columns
+pub mod Cells
+pub mod Graphs
+pub mod Builds
+pub mod Rows
+pub mod Spreads

@@ -1,0 +1,58 @@
+//! The making of a graph from its lines.
+
+ghost use Rattle.std.specs.Prelude.{IfOk};
+ghost use Rattle.gm_graph.specs.Builds.{IsBuildable, IsBuiltOf};
+
+use crate::columns::Column;
+use crate::graphs::Graph;
+use crate::groups::Groups;
+use crate::numbers::{indices, node_numbers};
+use crate::rows::{rows_of, spread_all};
+use gm_base::{Items, NoMemory};
+use gm_value::VType;
+use std::alloc::Global;
+
+/// The types of a graph's node columns and of its edge columns, in order.
+#[derive(Debug, Drop)]
+pub struct Shape {
+    pub nodes: Items<VType>,
+    pub edges: Items<VType>,
+}
+
+/// What a graph is made of. `from` and `to` have the node numbers of the edges, in the order of their lines,
+/// and row k of each edge column belongs to edge k. `extra` has numbers of nodes that have a line of their own,
+/// and row k of each node column belongs to the node of the number `extra[k]`. The columns have the types of
+/// the shape, in order.
+#[derive(Debug, Drop)]
+pub struct RawGraph {
+    pub shape: Shape,
+    pub from: Items<u64>,
+    pub to: Items<u64>,
+    pub edge_columns: Items<Column>,
+    pub extra: Items<u64>,
+    pub node_columns: Items<Column>,
+}
+
+/// Makes a graph. Its nodes are those that an edge or `extra` names, by ascending number; a node that `extra`
+/// does not name has 0, False or NIL in each node column.
+pub fn build(alloc: Global, raw: RawGraph) -> Result<Graph, NoMemory>
+    requires { IsBuildable raw }
+    ensures { IfOk result (IsBuiltOf raw) }
+{
+    let numbers = node_numbers(alloc, raw.from.as_slice(), raw.to.as_slice(), raw.extra.as_slice())?;
+    let sources = indices(alloc, numbers.as_slice(), raw.from.as_slice())?;
+    let targets = indices(alloc, numbers.as_slice(), raw.to.as_slice())?;
+    let rows = rows_of(alloc, numbers.as_slice(), raw.extra.as_slice())?;
+    let node_columns = spread_all(alloc, rows.as_slice(), raw.node_columns.as_slice())?;
+    let outward = Groups::new(alloc, sources.as_slice(), numbers.len())?;
+    let inward = Groups::new(alloc, targets.as_slice(), numbers.len())?;
+    Ok(Graph {
+        numbers,
+        sources,
+        targets,
+        outward,
+        inward,
+        node_columns,
+        edge_columns: raw.edge_columns.into_vec(),
+    })
+}

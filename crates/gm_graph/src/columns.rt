@@ -1,0 +1,185 @@
+//! Columns of values of one type, as rows of plain numbers.
+
+ghost use Rattle.std.specs.Prelude.{◌≡◌, ◌<◌, ◌==◌, [], ◌∷◌, ◌++◌, Some, length, slice_get, OnOk, OnErr};
+ghost use Rattle.gm_value.specs.declared.values.Value.TheVariants.{At};
+ghost use Rattle.gm_value.specs.declared.values.VType.TheVariants.{Node};
+ghost use Rattle.gm_graph.specs.Columns.{CanHold, IsStorable};
+ghost use Rattle.gm_graph.specs.Cells.{node_in};
+
+use gm_base::NoMemory;
+use gm_value::{VType, Value};
+use std::alloc::Global;
+use std::marker::Model;
+
+// The place of NIL in a row of node indices.
+const NIL: u32 = u32::MAX;
+
+// The values of a column, by their type.
+#[derive(Debug, Drop)]
+enum Cells {
+    Ints(Vec<i32>),
+    Longs(Vec<i64>),
+    Flags(Vec<bool>),
+    Nodes(Vec<u32>),
+}
+
+/// A column of values of one type, by row from 0. Contracts see the type and the list of the values.
+#[derive(Debug, Drop)]
+pub struct Column {
+    cells: Cells,
+}
+
+impl Model for Column {
+    ghost use Rattle.gm_value.specs.declared.values.VType.TheVariants.{Node};
+ghost use Rattle.gm_graph.specs.Columns.{TypedRow};
+
+    ghost Value = { TypedRow };
+
+    ghost use Rattle.gm_graph.specs.Cells.{typed_row};
+
+    ghost view = { λ column. typed_row column.cells };
+}
+
+impl Column {
+    /// A column of a type that has no row yet. It keeps the allocator and takes no memory.
+    pub fn new(alloc: Global, vtype: VType) -> Self
+        ensures vtype { result.vtype ≡ vtype }
+        ensures no_rows { result.values ≡ [] }
+    {
+        let cells = match vtype {
+            VType::I32 => Cells::Ints(Vec::new(alloc)),
+            VType::I64 => Cells::Longs(Vec::new(alloc)),
+            VType::Flag => Cells::Flags(Vec::new(alloc)),
+            VType::Node => Cells::Nodes(Vec::new(alloc)),
+        };
+        Column { cells }
+    }
+
+    /// The type of the values.
+    pub fn vtype(&self) -> VType
+        ensures { result ≡ self.now.vtype }
+    {
+        match &self.cells {
+            Cells::Ints(_) => VType::I32,
+            Cells::Longs(_) => VType::I64,
+            Cells::Flags(_) => VType::Flag,
+            Cells::Nodes(_) => VType::Node,
+        }
+    }
+
+    /// How many rows there are.
+    pub fn len(&self) -> usize
+        ensures { result ≡ length self.now.values }
+    {
+        match &self.cells {
+            Cells::Ints(cells) => cells.len(),
+            Cells::Longs(cells) => cells.len(),
+            Cells::Flags(cells) => cells.len(),
+            Cells::Nodes(cells) => cells.len(),
+        }
+    }
+
+    /// Whether there is no row.
+    pub fn is_empty(&self) -> bool
+        ensures { result ≡ (length self.now.values == 0) }
+    {
+        self.len() == 0
+    }
+
+    /// The value in a row. The row is an index from 0.
+    pub fn get(&self, row: usize) -> Value
+        requires { row < length self.now.values }
+        ensures value { slice_get self.now.values row ≡ Some result }
+        ensures held { CanHold self.now.vtype result }
+    {
+        match &self.cells {
+            Cells::Ints(cells) => Value::I32(cells[row]),
+            Cells::Longs(cells) => Value::I64(cells[row]),
+            Cells::Flags(cells) => Value::Flag(cells[row]),
+            Cells::Nodes(cells) => node_in(cells[row]),
+        }
+    }
+
+    /// Adds a row. Where there is not enough memory the column stays as it was.
+    pub fn push(&mut self, value: Value) -> Result<(), NoMemory>
+        requires { CanHold self.old.vtype value }
+        ensures vtype { self.new.vtype ≡ self.old.vtype }
+        ensures added { OnOk result (self.new.values ≡ self.old.values ++ value ∷ []) }
+        ensures unchanged { OnErr result (self.new ≡ self.old) }
+    {
+        match (&mut self.cells, value) {
+            (Cells::Ints(cells), Value::I32(cell)) => cells.push(cell)?,
+            (Cells::Longs(cells), Value::I64(cell)) => cells.push(cell)?,
+            (Cells::Flags(cells), Value::Flag(cell)) => cells.push(cell)?,
+            (Cells::Nodes(cells), Value::At(node)) => cells.push(cell_of(node))?,
+            _ => unreachable!(),
+        }
+        Ok(())
+    }
+}
+
+// The node whose index a cell holds, or NIL.
+fn node_in(cell: u32) -> Value
+    ensures node { result ≡ node_in cell }
+    ensures held { CanHold Node result }
+{
+    if cell == NIL {
+        Value::At(None)
+    } else {
+        Value::At(Some(cell))
+    }
+}
+
+// The cell that holds a node's index, or NIL.
+fn cell_of(node: Option<u32>) -> u32
+    requires { IsStorable (At node) }
+    ensures { node_in result ≡ At node }
+{
+    node.unwrap_or(NIL)
+}
+
+/// A finished column, which contracts see as the list of its values alone.
+#[derive(Debug, Drop)]
+pub struct Values {
+    column: Column,
+}
+
+impl Model for Values {
+    ghost use Rattle.std.specs.Prelude.{List};
+    ghost use Rattle.gm_value.specs.declared.values.Value.{Value as GmValue};
+
+    ghost Value = { List GmValue };
+
+    ghost view = { λ it. it.column.values };
+}
+
+impl Values {
+    /// The values of a column. It takes no memory.
+    pub fn new(column: Column) -> Self
+        ensures { result ≡ column.values }
+    {
+        Values { column }
+    }
+
+    /// How many values there are.
+    pub fn len(&self) -> usize
+        ensures { result ≡ length self.now }
+    {
+        self.column.len()
+    }
+
+    /// Whether there is no value.
+    pub fn is_empty(&self) -> bool
+        ensures { result ≡ (length self.now == 0) }
+    {
+        self.column.is_empty()
+    }
+
+    /// The value at an index from 0.
+    pub fn get(&self, index: usize) -> Value
+        requires { index < length self.now }
+        ensures { slice_get self.now index ≡ Some result }
+    {
+        self.column.get(index)
+    }
+}

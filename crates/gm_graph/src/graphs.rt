@@ -1,0 +1,165 @@
+//! Graphs in flat rows.
+
+use crate::columns::Column;
+use crate::groups::Groups;
+use crate::numbers::index_in;
+ghost use Rattle.std.specs.Prelude.{◌≡◌, ◌<◌, ◌≤◌, ◌==◌, Some, All, length, map, position, slice_get};
+ghost use Rattle.gm_graph.specs.Columns.{cell_at};
+ghost use Rattle.gm_graph.specs.Graphs.{IsGraph, HasNode, HasEdge, HasStep, HasNodeColumn, HasEdgeColumn, node_count, edge_count, out_steps, in_steps, nodes_of, edges_of, value_along};
+
+use std::marker::Model;
+
+use gm_value::Value;
+
+/// A graph. Contracts see its ascending node numbers, its edges between node indices, in the order of their
+/// lines, and the values of its columns.
+#[derive(Debug, Drop)]
+pub struct Graph {
+    pub(crate) numbers: Vec<u64>,
+    pub(crate) sources: Vec<u32>,
+    pub(crate) targets: Vec<u32>,
+    pub(crate) outward: Groups,
+    pub(crate) inward: Groups,
+    pub(crate) node_columns: Vec<Column>,
+    pub(crate) edge_columns: Vec<Column>,
+}
+
+impl Model for Graph {
+    ghost use Rattle.gm_graph.specs.Graphs.{NumberedGraph};
+
+    ghost Value = { NumberedGraph };
+
+    ghost use Rattle.gm_graph.specs.Rows.{numbered, IsHeld};
+
+    ghost view = { numbered };
+
+    ghost invariant = { IsHeld };
+}
+
+impl Graph {
+    /// How many nodes there are. Their indices are the numbers below.
+    pub fn node_count(&self) -> u32
+        ensures count { result ≡ node_count self.now }
+        ensures known { IsGraph self.now }
+    {
+        self.numbers.len() as u32
+    }
+
+    /// How many edges there are. Their indices, in the order of their lines, are the numbers below.
+    pub fn edge_count(&self) -> u32
+        ensures count { result ≡ edge_count self.now }
+        ensures known { IsGraph self.now }
+    {
+        self.targets.len() as u32
+    }
+
+    /// The number of the node of an index.
+    pub fn number(&self, node: u32) -> u64
+        requires { HasNode self.now node }
+        ensures { slice_get self.now.numbers node ≡ Some result }
+    {
+        self.numbers[node as usize]
+    }
+
+    /// The index of the node of a number, or None where no node has it.
+    pub fn node_of(&self, number: u64) -> Option<u32>
+        ensures { result ≡ position (λ n. n == number) self.now.numbers }
+    {
+        index_in(self.numbers.as_slice(), number)
+    }
+
+    /// How many edges lead from a node.
+    pub fn out_degree(&self, node: u32) -> u32
+        requires { HasNode self.now node }
+        ensures degree { result ≡ length (out_steps self.now node) }
+        ensures fits { result ≤ 2147483647 }
+    {
+        self.outward.size(node)
+    }
+
+    /// The k-th edge that leads from a node, from 0 and in the order of the lines: its place among all edges.
+    pub fn out_edge(&self, node: u32, k: u32) -> u32
+        requires node { HasNode self.now node }
+        requires step { HasStep (out_steps self.now node) k }
+        ensures edge { slice_get (edges_of (out_steps self.now node)) k ≡ Some result }
+        ensures known { HasEdge self.now result }
+    {
+        self.outward.edge(node, k)
+    }
+
+    /// The node to which the k-th edge leads that leads from a node, from 0 and in the order of the lines.
+    pub fn out_target(&self, node: u32, k: u32) -> u32
+        requires node { HasNode self.now node }
+        requires step { HasStep (out_steps self.now node) k }
+        ensures target { slice_get (nodes_of (out_steps self.now node)) k ≡ Some result }
+        ensures known { HasNode self.now result }
+    {
+        self.targets[self.outward.edge(node, k) as usize]
+    }
+
+    /// The value in an edge column at the k-th edge that leads from a node.
+    pub fn out_value(&self, node: u32, k: u32, column: u32) -> Value
+        requires node { HasNode self.now node }
+        requires step { HasStep (out_steps self.now node) k }
+        requires column { HasEdgeColumn self.now column }
+        ensures { value_along self.now (out_steps self.now node) k column ≡ Some result }
+    {
+        cell(self.edge_columns.as_slice(), column, self.outward.edge(node, k))
+    }
+
+    /// How many edges lead to a node.
+    pub fn in_degree(&self, node: u32) -> u32
+        requires { HasNode self.now node }
+        ensures degree { result ≡ length (in_steps self.now node) }
+        ensures fits { result ≤ 2147483647 }
+    {
+        self.inward.size(node)
+    }
+
+    /// The k-th edge that leads to a node, from 0 and in the order of the lines: its place among all edges.
+    pub fn in_edge(&self, node: u32, k: u32) -> u32
+        requires node { HasNode self.now node }
+        requires step { HasStep (in_steps self.now node) k }
+        ensures edge { slice_get (edges_of (in_steps self.now node)) k ≡ Some result }
+        ensures known { HasEdge self.now result }
+    {
+        self.inward.edge(node, k)
+    }
+
+    /// The node from which the k-th edge leads that leads to a node, from 0 and in the order of the lines.
+    pub fn in_source(&self, node: u32, k: u32) -> u32
+        requires node { HasNode self.now node }
+        requires step { HasStep (in_steps self.now node) k }
+        ensures source { slice_get (nodes_of (in_steps self.now node)) k ≡ Some result }
+        ensures known { HasNode self.now result }
+    {
+        self.sources[self.inward.edge(node, k) as usize]
+    }
+
+    /// The value of a node in a node column.
+    pub fn start_value(&self, node: u32, column: u32) -> Value
+        requires node { HasNode self.now node }
+        requires column { HasNodeColumn self.now column }
+        ensures { cell_at self.now.node_columns column node ≡ Some result }
+    {
+        cell(self.node_columns.as_slice(), column, node)
+    }
+
+    /// The value of an edge in an edge column.
+    pub fn edge_value(&self, edge: u32, column: u32) -> Value
+        requires edge { HasEdge self.now edge }
+        requires column { HasEdgeColumn self.now column }
+        ensures { cell_at self.now.edge_columns column edge ≡ Some result }
+    {
+        cell(self.edge_columns.as_slice(), column, edge)
+    }
+}
+
+// The value of a column, of several, at a row.
+fn cell(columns: &[Column], column: u32, row: u32) -> Value
+    requires column { column < length columns.now }
+    requires row { All (λ c. row < length c.values) columns.now }
+    ensures { cell_at (map (λ c. c.values) columns.now) column row ≡ Some result }
+{
+    columns[column as usize].get(row as usize)
+}
