@@ -1,5 +1,5 @@
 -- The commands of the program have exact matches and faults.
-use Rattle.std.proofs.Common.{◌≡◌, refl}
+use Rattle.std.proofs.Common.{refl}
 use Rattle.gm_words.specs.declared.verbs.Verb.{Verb}
 use Rattle.gm_words.specs.declared.verbs.Verb.TheVariants.{Run, Check, Compile, Exec, Demo}
 use Rattle.gm_words.specs.Words.{Text}

@@ -1,23 +1,21 @@
 -- The job of a command, from its matches.
-use Rattle.std.proofs.Common.{◌≡◌, ◌⊎◌, ◌∙◌, inl, inr, ap, cond, ℕ, Bool, true, false, List, [], ◌∷◌, Option, Some, None, refl, sym, codes}
-use Rattle.std.specs.Prelude.{option_and_then, option_map, unwrap_or}
+use Rattle.std.proofs.Common.{◌≡◌, ◌⊎◌, ◌∙◌, inl, inr, ap, cond, Bool, true, false, List, [], ◌∷◌, Option, Some, refl, sym, codes}
+use Rattle.std.specs.Prelude.{option_map, unwrap_or}
 use Rattle.std.specs.Str.{bytes_eq}
 use Rattle.clap.specs.Words.{first_value, found_of, matched_of, raw_values}
 use Rattle.clap.specs.Matches.{one_text}
-use Rattle.clap.specs.Walk.{Row, rows_of}
+use Rattle.clap.specs.Walk.{Row}
 use Rattle.clap.proofs.WalkLemmas.{first_value-rows, raw_values-rows}
 use Rattle.clap.specs.declared.parser.matches.ArgMatches.{ArgMatches}
-use Rattle.clap.specs.declared.parser.matches.Found.{Found}
-use Rattle.gm_words.specs.declared.jobs.Job.{Job}
 use Rattle.gm_words.specs.declared.jobs.Job.TheVariants as job
 use Rattle.gm_words.specs.declared.jobs.Options.{Options}
 use Rattle.gm_words.specs.declared.verbs.Verb.{Verb}
 use Rattle.gm_words.specs.declared.verbs.Verb.TheVariants.{Run, Check, Compile, Exec, Demo}
-use Rattle.gm_words.specs.Words.{Text, Known, Given, is_used}
+use Rattle.gm_words.specs.Words.{Text, Known, is_used}
 use Rattle.gm_words.specs.Jobs.{demo_job, exec_job, image_option, job_given, known_options, observe_option, one_word, options_by, options_of, run_job, text_of}
 use Rattle.gm_words.specs.Found.{TellsFlag, TellsFlags, flag_found, is_true, job_found, options_found, words_found}
 use Rattle.gm_words.proofs.Walks.{known_as, positional_id, positional_row}
-use Rattle.gm_words.proofs.Matches.{IsFlag, IsNoFlag, Reads}
+use Rattle.gm_words.proofs.Matches.{IsFlag, IsNoFlag}
 use Rattle.gm_words.proofs.Outcomes.{GivesTo}
 use Rattle.gm_words.proofs.Flags.{flag_text}
 

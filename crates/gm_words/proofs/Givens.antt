@@ -1,16 +1,15 @@
 -- What each command makes of what its words give.
 use Rattle.std.proofs.Common.{◌≡◌, ◌∙◌, ◌++◌, ap, subst, cond, ℕ, Bool, true, false, List, [], ◌∷◌, Option, Some, None, refl, sym, codes}
-use Rattle.std.specs.Prelude.{find, option_and_then, option_map, unwrap_or}
+use Rattle.std.specs.Prelude.{option_and_then, unwrap_or}
 use Rattle.std.specs.Option.{option_or}
 use Rattle.std.specs.Str.{bytes_eq}
 use Rattle.std.proofs.lemmas.List.Folds.{find-append}
 use Rattle.gm_partition.specs.declared.Owner.{Owner}
-use Rattle.gm_words.specs.declared.jobs.Job.{Job}
 use Rattle.gm_words.specs.declared.jobs.Options.{Options}
 use Rattle.gm_words.specs.declared.verbs.Verb.{Verb}
 use Rattle.gm_words.specs.declared.verbs.Verb.TheVariants.{Run, Check, Compile, Exec, Demo}
-use Rattle.gm_words.specs.Words.{Text, Known, Given, given, is_used, nothing}
-use Rattle.gm_words.specs.Jobs.{demo_job, exec_job, image_option, job_after, job_given, known_options, observe_option, one_word, options_of, options_with, partition_option, run_job, text_of, turns_option, two_words, workers_option}
+use Rattle.gm_words.specs.Words.{Text, Known, Given, is_used, nothing}
+use Rattle.gm_words.specs.Jobs.{demo_job, exec_job, image_option, job_after, job_given, known_options, observe_option, options_of, options_with, partition_option, run_job, text_of, turns_option, workers_option}
 use Rattle.gm_words.proofs.Walks.{known_as}
 use Rattle.gm_words.proofs.Parses.{taken_after}
 use Rattle.gm_words.proofs.Hyphens.{Dashed, dash}

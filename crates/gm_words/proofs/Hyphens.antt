@@ -1,12 +1,11 @@
 -- A parse takes `-` as the value of an option, which no option has: so the job is the same.
-use Rattle.std.proofs.Common.{zero, suc, ◌≡◌, ◌⊎◌, ◌∙◌, ◌++◌, inl, inr, subst, ap, ◌&&◌, ◌||◌, ◌==◌, ℕ, Bool, cond, true, false, not, List, [], ◌∷◌, map, length, is_some, Option, Some, None, refl, sym, codes, arith}
-use Rattle.std.specs.Prelude.{⊤, IfSome, find, option_map, option_and_then, unwrap_or}
+use Rattle.std.proofs.Common.{◌≡◌, ◌⊎◌, ◌∙◌, inl, inr, ap, ◌==◌, ℕ, Bool, cond, true, false, List, [], ◌∷◌, is_some, Option, Some, None, refl, sym, codes}
+use Rattle.std.specs.Prelude.{IfSome, find, option_map}
 use Rattle.std.specs.Option.{option_or}
-use Rattle.std.specs.List.{list_any}
 use Rattle.std.specs.Str.{bytes_eq}
 use Rattle.std.proofs.lemmas.List.Folds.{find-append}
 use Rattle.std.proofs.lemmas.Slice.Eq.{bytes_eq-Decides}
-use Rattle.gm_words.specs.Words.{Text, Known, Given, Form, Rest, end_of_options, named, refused, plain, begins_with_hyphen, form_of, given_after, is_used, known_option, option_met, put, word_met, with_option, with_positionals}
+use Rattle.gm_words.specs.Words.{Text, Known, Given, Form, Rest, end_of_options, named, refused, plain, begins_with_hyphen, form_of, given_after, is_used, option_met, put, word_met, with_option, with_positionals}
 use Rattle.gm_words.specs.Jobs.{text_of}
 use Rattle.gm_words.proofs.Walks.{known_as, used-find, use_of}
 use Rattle.gm_words.proofs.Parses.{taken_after, value_met}

@@ -14,3 +14,6 @@ mod Wholes
 mod Operands
 mod Rows
 mod Rights
+mod Assignments
+mod Numerals
+mod Maps

@@ -1,22 +1,22 @@
 -- The faults and the matches of such a command, at words that are not written out.
-use Rattle.std.proofs.Common.{zero, suc, ◌≡◌, ◌∙◌, ◌++◌, subst, ap, ◌&&◌, ◌||◌, ◌==◌, ℕ, Bool, cond, true, false, not, List, [], ◌∷◌, map, length, is_some, Option, Some, None, refl, sym, codes, arith}
-use Rattle.std.specs.Prelude.{⊤, fold, find, option_map}
+use Rattle.std.proofs.Common.{◌≡◌, ◌∙◌, ◌++◌, subst, ap, ◌&&◌, ◌||◌, Bool, cond, true, false, not, List, [], ◌∷◌, is_some, Option, Some, None, refl, sym, codes}
+use Rattle.std.specs.Prelude.{fold, option_map}
 use Rattle.std.specs.List.{list_all, list_any}
 use Rattle.std.specs.Option.{option_or}
 use Rattle.std.specs.Str.{bytes_eq}
 use Rattle.std.proofs.lemmas.List.Folds.{find-append}
 use Rattle.std.proofs.lemmas.Slice.Eq.{bytes_eq-Decides}
 use Rattle.clap.specs.Kinds.{Kinds, or_else}
-use Rattle.clap.specs.Walk.{Row, Walk, all_of, at_row, finished, first_of, has_row, idle, more_values, one_of, nothing_held, rows_after, settled, walk, walked, with_default}
+use Rattle.clap.specs.Walk.{Row, Walk, first_of, has_row, idle, more_values, one_of, nothing_held, rows_after, settled, walked, with_default}
 use Rattle.clap.specs.Simple.{App, built, matches_of, names_of}
 use Rattle.clap.specs.Takes.{is_given}
 use Rattle.clap.proofs.FaultLemmas.{leaf_fault}
 use Rattle.clap.specs.Faults.{check_fault, built_fault, default_fault, defaults_fault, fault_of, level_fault, settle_fault, walk_fault}
 use Rattle.clap.specs.declared.parser.matches.ValueSource.TheVariants.{DefaultValue}
 use Rattle.clap.specs.declared.builder.value_parser.Reading.TheVariants as reading
-use Rattle.gm_words.specs.Words.{Text, Known, Given, nothing, is_used}
-use Rattle.gm_words.proofs.Walks.{Shows, has_id, positional_id, positional_rule, known_rule, known_as, rules_of, row_as, row_with, option_row, positional_row, use_of, has_row-find, at_no_row}
-use Rattle.gm_words.proofs.Turns.{IsFault, at, shape_with, no_more, first_fault, later_fault}
+use Rattle.gm_words.specs.Words.{Text, Known, Given, nothing}
+use Rattle.gm_words.proofs.Walks.{Shows, has_id, positional_id, known_rule, known_as, rules_of, row_as, option_row, positional_row, use_of, has_row-find, at_no_row}
+use Rattle.gm_words.proofs.Turns.{IsFault, at, shape_with, no_more}
 use Rattle.gm_words.proofs.Parses.{Agrees, AllSpelled, taken, taken_after}
 
 -- ---- defaults

@@ -1,5 +1,5 @@
 -- The positionals of `run` and `exec`.
-use Rattle.std.proofs.Common.{◌≡◌, ◌≤◌, ◌∙◌, ◌&&◌, ap, cond, ℕ, Bool, true, false, List, [], ◌∷◌, drop, length, map, Option, Some, None, refl, sym, arith, Bor, take, ◌-◌, length-drop}
+use Rattle.std.proofs.Common.{◌≡◌, ◌≤◌, ◌∙◌, ◌&&◌, ap, cond, Bool, true, false, List, [], ◌∷◌, drop, length, map, Some, None, refl, sym, arith, Bor, take, ◌-◌, length-drop}
 use Rattle.std.specs.List.{list_all, slice_index_or}
 use Rattle.std.proofs.Math.Seq.{take-length}
 use Rattle.gm_words.specs.Words.{Text}

@@ -1,5 +1,5 @@
 -- What is true of every job.
-use Rattle.std.proofs.Common.{◌≡◌, ◌≤◌, ◌&&◌, IsTrue, ℕ, Bool, true, false, cond, not, List, [], ◌∷◌, Option, Some, None, refl, codes, arith, rules, leb-true}
+use Rattle.std.proofs.Common.{◌≡◌, ◌≤◌, ◌&&◌, ℕ, Bool, true, false, cond, not, List, [], ◌∷◌, Option, Some, None, refl, codes, arith, rules, leb-true}
 use Rattle.std.specs.Prelude.{IfSome, nat_le, option_and_then, option_map}
 use Rattle.std.specs.List.{list_all}
 use Rattle.std.specs.Str.Parse.{digits_value}

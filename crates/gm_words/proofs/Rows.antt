@@ -1,5 +1,5 @@
 -- The jobs of command lines that are written out, as their definition computes them.
-use Rattle.std.proofs.Common.{◌≡◌, List, [], ◌∷◌, true, false, Some, None, refl, codes}
+use Rattle.std.proofs.Common.{◌≡◌, [], ◌∷◌, true, false, Some, None, refl, codes}
 use Rattle.gm_partition.specs.declared.Owner.TheVariants.{Mod, Block, Spread}
 use Rattle.gm_words.specs.declared.jobs.Job.TheVariants as job
 use Rattle.gm_words.specs.Words.{given_after}

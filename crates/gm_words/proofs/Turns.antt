@@ -1,22 +1,21 @@
 -- One word of such a parse.
-use Rattle.std.proofs.Common.{zero, suc, ◌≡◌, ◌∙◌, ◌++◌, subst, ap, ◌&&◌, ◌||◌, ◌==◌, ℕ, Bool, cond, true, false, not, List, [], ◌∷◌, map, length, is_some, Option, Some, None, refl, sym, codes, arith}
-use Rattle.std.specs.List.{list_all, list_any}
+use Rattle.std.proofs.Common.{◌≡◌, ◌∙◌, ◌++◌, ap, ◌&&◌, ◌==◌, ℕ, Bool, cond, true, false, List, [], ◌∷◌, length, Option, Some, None, refl, codes, arith}
 use Rattle.std.specs.Str.{bytes_eq, chars}
-use Rattle.std.specs.Prelude.{⊤, find, fold, option_map, slice_get, unwrap_or}
+use Rattle.std.specs.Prelude.{⊤}
 use Rattle.clap.specs.Lexer.{long_of, short_of}
 use Rattle.clap.specs.Kinds.{Kinds, or_else}
-use Rattle.clap.specs.Walk.{Held, Row, Rule, Walk, Waiting, idle, positional, option, arg_by_id, arg_by_index, arg_by_long, arg_by_short, settled, settled_rows, subcommand_met, walked}
-use Rattle.clap.specs.Simple.{Shape, new_rule, new_shape}
-use Rattle.clap.specs.Faults.{settle_fault, turn_fault, walk_fault, flags_fault}
-use Rattle.gm_words.specs.Words.{Text, Known, Given, Form, end_of_options, named, refused, plain, form_of, given_after, is_used, word_met, with_option, with_positionals}
-use Rattle.clap.specs.Walk.{at_row, has_row, used, with_values, without}
+use Rattle.clap.specs.Walk.{Held, Row, Walk, Waiting, idle, positional, option, arg_by_id, settled_rows, subcommand_met, walked}
+use Rattle.clap.specs.Simple.{Shape, new_shape}
+use Rattle.clap.specs.Faults.{settle_fault, turn_fault, flags_fault}
+use Rattle.gm_words.specs.Words.{Text, Known, Form, end_of_options, named, refused, plain, form_of}
+use Rattle.clap.specs.Walk.{has_row, used, with_values, without}
 use Rattle.clap.specs.Faults.{use_fault}
 use Rattle.std.proofs.lemmas.List.{append-nil}
 use Rattle.std.proofs.lemmas.Slice.Eq.{bytes_eq-Decides}
 use Rattle.clap.specs.Walk.{more_values}
 use Rattle.clap.specs.declared.builder.value_parser.Reading.TheVariants as reading
 use Rattle.clap.specs.declared.parser.matches.ValueSource.TheVariants.{CommandLine}
-use Rattle.gm_words.proofs.Walks.{Shows, positional_id, positional_rule, known_rule, known_as, rules_of, by_index, by_long, by_id, by_short, positional_by_id, name_of_known, row_as, option_row, at_no_row, with_word}
+use Rattle.gm_words.proofs.Walks.{positional_id, known_rule, known_as, rules_of, by_index, by_long, by_id, by_short, positional_by_id, name_of_known, row_as, option_row, at_no_row, with_word}
 
 -- ---- the forms of a word, as the parse sees them
 

@@ -1,21 +1,18 @@
 -- What the parse of a command with long options and one list of positionals makes of words that are not written out.
-use Rattle.std.proofs.Common.{zero, suc, ◌≡◌, ◌∙◌, ◌++◌, subst, ap, ◌&&◌, ◌||◌, ℕ, Bool, cond, true, false, not, List, [], ◌∷◌, map, length, is_some, Option, Some, None, refl, sym, codes, arith}
-use Rattle.std.specs.List.{list_all, list_any}
-use Rattle.std.specs.Str.{bytes_eq, chars}
-use Rattle.std.specs.Prelude.{find, fold, option_map, slice_get, unwrap_or}
+use Rattle.std.proofs.Common.{◌≡◌, ◌∙◌, ◌++◌, subst, ap, ◌||◌, ℕ, Bool, cond, true, false, List, [], ◌∷◌, is_some, Option, Some, None, refl, sym, codes}
+use Rattle.std.specs.List.{list_any}
+use Rattle.std.specs.Str.{bytes_eq}
+use Rattle.std.specs.Prelude.{find, option_map, unwrap_or}
 use Rattle.std.specs.Option.{option_or}
 use Rattle.std.proofs.lemmas.Slice.Eq.{bytes_eq-Decides}
 use Rattle.std.proofs.lemmas.List.Folds.{find-append}
-use Rattle.clap.specs.Lexer.{long_of, short_of}
-use Rattle.clap.specs.Kinds.{Kinds, or_else}
-use Rattle.clap.specs.Walk.{Held, Row, Rule, Walk, Waiting, idle, positional, option, arg_by_id, arg_by_index, arg_by_long, arg_by_short, at_row, has_row, more_values, settled, settled_rows, walked, with_values, without}
-use Rattle.clap.specs.Simple.{Shape, new_rule, new_shape}
-use Rattle.clap.specs.Faults.{settle_fault, turn_fault, walk_fault, flags_fault}
+use Rattle.clap.specs.Walk.{Row, Rule, arg_by_id, arg_by_index, arg_by_long, arg_by_short, at_row, has_row, more_values, with_values}
+use Rattle.clap.specs.Simple.{new_rule}
 use Rattle.clap.specs.declared.builder.action.ArgAction.TheVariants.{Set, Append, SetTrue}
 use Rattle.clap.specs.declared.builder.value_parser.ValueParser.TheVariants as vp
 use Rattle.clap.specs.declared.builder.value_parser.Reading.TheVariants as reading
 use Rattle.clap.specs.declared.parser.matches.ValueSource.TheVariants.{CommandLine}
-use Rattle.gm_words.specs.Words.{Text, Known, Given, Form, end_of_options, named, refused, plain, form_of, given_after, is_used, word_met, with_option, with_positionals}
+use Rattle.gm_words.specs.Words.{Text, Known, Given, is_used, with_option, with_positionals}
 
 -- ---- the arguments of a built command
 

@@ -6,7 +6,6 @@ use Rattle.clap.specs.Faults.{fault_of, is_simple_and_free}
 use Rattle.clap.specs.declared.error.Error.{Error}
 use Rattle.clap.specs.declared.error.kind.ErrorKind.TheVariants.{OutOfMemory}
 use Rattle.clap.specs.declared.parser.matches.ArgMatches.{ArgMatches}
-use Rattle.gm_words.specs.declared.jobs.Job.{Job}
 use Rattle.gm_words.specs.declared.verbs.Verb.{Verb}
 use Rattle.gm_words.specs.Words.{Text}
 use Rattle.gm_words.specs.Found.{job_found}

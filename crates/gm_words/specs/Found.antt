@@ -1,5 +1,5 @@
 -- The jobs, from what a parse found.
-use Rattle.std.specs.Prelude.{◌≡◌, ◌⊎◌, ⊤, Bool, true, false, List, Option, Some, None, codes, option_map, unwrap_or, []}
+use Rattle.std.specs.Prelude.{◌≡◌, ◌⊎◌, ⊤, Bool, false, List, Option, Some, None, codes, option_map, unwrap_or, []}
 use Rattle.std.specs.Str.{bytes_eq}
 use Rattle.clap.specs.Words.{first_value, matched_of, raw_values}
 use Rattle.clap.specs.Matches.{one_text}

@@ -1,4 +1,4 @@
-use Rattle.std.proofs.Common.{rules, sym, ◌∙◌}
+use Rattle.std.proofs.Common.{sym, ◌∙◌}
 use Rattle.gm_words.proofs.Operands.{no_two, some_two}
 use Rattle.gm_words.proofs.found.files_of.Goals as goal
 

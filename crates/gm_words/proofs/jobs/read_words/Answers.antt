@@ -1,9 +1,8 @@
-use Rattle.std.proofs.Common.{rules, ap, ◌≡◌, ◌∙◌, ◌<◌, Err, IfOk, Ok, map, length, string_bytes, sym, Some, Result, subst}
-use Rattle.std.specs.Prelude.{IfSome, option_and_then}
+use Rattle.std.proofs.Common.{rules, ◌≡◌, ◌∙◌, ◌<◌, map, length, string_bytes, sym, subst}
+use Rattle.std.specs.Prelude.{IfSome}
 use Rattle.std.proofs.lemmas.Result.{IfOk-weaker}
 use Rattle.clap.specs.Words.{app_of, found_of}
-use Rattle.gm_words.specs.Jobs.{IsRight, job_after, job_of}
-use Rattle.gm_words.specs.Found.{job_found}
+use Rattle.gm_words.specs.Jobs.{IsRight}
 use Rattle.gm_words.proofs.Founds.{tells_flags}
 use Rattle.gm_words.proofs.Rights.{right_found}
 use Rattle.gm_words.proofs.Wholes.{by_verb, failed, fails, gives, passed}

@@ -1,4 +1,4 @@
-use Rattle.std.proofs.Common.{rules, arith, ◌≡◌, sym, ◌∙◌}
+use Rattle.std.proofs.Common.{rules, sym, ◌∙◌}
 use Rattle.gm_words.proofs.Numbers.{parsed_number}
 use Rattle.gm_words.proofs.values.read_number.Goals as goal
 
