@@ -1,0 +1,29 @@
+//! Owners at small and at the largest numbers.
+use crate::{Owner, owner_of};
+
+#[test]
+fn owners(rt: HostRuntime) {
+    // The owner, the workers, the nodes, the node, and the worker.
+    let rows = [
+        (Owner::Mod, 1, 1, 0, 0),
+        (Owner::Mod, 3, 10, 7, 1),
+        (Owner::Mod, 64, 4000000, 3999999, 63),
+        (Owner::Mod, 64, 4294967295, 4294967294, 62),
+        (Owner::Block, 1, 1, 0, 0),
+        (Owner::Block, 3, 10, 3, 0),
+        (Owner::Block, 3, 10, 4, 1),
+        (Owner::Block, 3, 10, 9, 2),
+        (Owner::Block, 64, 1, 0, 0),
+        (Owner::Block, 64, 65, 64, 32),
+        (Owner::Block, 64, 4294967295, 4294967294, 63),
+        (Owner::Spread(0), 2, 10, 0, 0),
+        (Owner::Spread(0), 64, 10, 1, 55),
+        (Owner::Spread(65536), 2, 10, 0, 1),
+        (Owner::Spread(4294967295), 64, 10, 0, 63),
+        (Owner::Spread(4294967295), 64, 4294967295, 4294967294, 17),
+    ];
+    for (owner, workers, nodes, node, worker) in rows {
+        assert!(rt; 1 <= workers && workers <= 64 && node < nodes);
+        assert_eq!(rt; owner_of(owner, workers, nodes, node), worker);
+    }
+}

@@ -1,0 +1,6 @@
+pub mod Words
+pub mod Jobs
+pub mod Commands
+pub mod Found
+pub mod Arguments
+pub mod Bindings

@@ -1,0 +1,173 @@
+//! Words NAME=VALUE and the values that they give.
+ghost use Rattle.std.specs.Prelude.{◌≡◌, IfOk};
+
+use crate::{ArgFault, Input, Job, bind, read_words};
+use gm_base::{Items, NoMemory, Text};
+use gm_graph::{Graph, RawGraph, Shape, build};
+use gm_value::{VType, Value};
+use std::alloc::{AllocError, Global};
+use std::test::Fail;
+
+// Words NAME=VALUE, parted by one space each, and the values that they give to an Int `n`, a Long `l`, a Bool `b`
+// and a Node `v`, in this order, over a graph with the nodes 0, 7 and 9223372036854775807. `@K` is the node of
+// index K. All of it was written by hand, from the rules.
+const ROWS: &str = "n=1 l=2 b=1 v=7 => 1 2 true @1
+v=0 b=0 l=-5 n=3 => 3 -5 false @0
+n=2147483647 l=9223372036854775807 b=True v=NIL => 2147483647 9223372036854775807 true NIL
+n=-2147483648 l=-9223372036854775808 b=False v=9223372036854775807 => -2147483648 -9223372036854775808 false @2
+n=-0 l=-000 b=true v=007 => 0 0 true @1
+n=000000000000000000000000000005 l=-000000000000000000000000000009 b=false v=00000000000000000000000000000000 => 5 -9 false @0
+l=2 b=1 v=7 => argument Missing n
+n=1 b=1 v=7 => argument Missing l
+n=1 l=2 v=NIL => argument Missing b
+n=1 l=2 b=1 => argument Missing v
+v=7 => argument Missing n
+x=1 => argument Unknown x
+N=1 => argument Unknown N
+nn=1 => argument Unknown nn
+=n=1 => argument Unknown =n
+== => argument Unknown =
+n=1 n=1 => argument Twice n
+n=1 l=2 b=1 v=7 b=1 => argument Twice b
+n=1 n=x => argument Twice n
+n=x n=1 => argument BadValue n
+n=1 l=y x=1 => argument BadValue l
+n=1 x=1 l=y => argument Unknown x
+v=9 n=z => argument NoSuchNode v
+n=z v=9 => argument BadValue n
+n=1 v=9 v=7 => argument NoSuchNode v
+n=1=2 => argument BadValue n
+n= => argument BadValue n
+n=- => argument BadValue n
+n=--1 => argument BadValue n
+n=+1 => argument BadValue n
+n=1- => argument BadValue n
+n=1.0 => argument BadValue n
+n=0x1 => argument BadValue n
+n=true => argument BadValue n
+n=NIL => argument BadValue n
+n=2147483648 => argument BadValue n
+n=-2147483649 => argument BadValue n
+n=9223372036854775808 => argument BadValue n
+l= => argument BadValue l
+l=+5 => argument BadValue l
+l=9223372036854775808 => argument BadValue l
+l=-9223372036854775809 => argument BadValue l
+l=18446744073709551616 => argument BadValue l
+l=99999999999999999999999999 => argument BadValue l
+b= => argument BadValue b
+b=2 => argument BadValue b
+b=00 => argument BadValue b
+b=-0 => argument BadValue b
+b=TRUE => argument BadValue b
+b=no => argument BadValue b
+v= => argument BadValue v
+v=nil => argument BadValue v
+v=-7 => argument BadValue v
+v=+7 => argument BadValue v
+v=7x => argument BadValue v
+v=@1 => argument BadValue v
+v=1 => argument NoSuchNode v
+v=8 => argument NoSuchNode v
+v=9223372036854775806 => argument NoSuchNode v
+v=9223372036854775808 => argument BadValue v
+v=18446744073709551623 => argument BadValue v";
+
+fn numbers_of(alloc: Global, numbers: &[u64]) -> Result<Items<u64>, AllocError>
+    ensures { IfOk result (λ items. items ≡ numbers.now) }
+{
+    Ok(Items::new(Vec::from_slice(alloc, numbers)?))
+}
+
+fn small_graph(alloc: Global) -> Result<Graph, NoMemory> {
+    let shape = Shape {
+        nodes: Items::new(Vec::new(alloc)),
+        edges: Items::new(Vec::new(alloc)),
+    };
+    let from = numbers_of(alloc, &[0, 9223372036854775807])?;
+    let to = numbers_of(alloc, &[7, 7])?;
+    let extra = numbers_of(alloc, &[])?;
+    let edge_columns = Items::new(Vec::new(alloc));
+    let node_columns = Items::new(Vec::new(alloc));
+    build(
+        alloc,
+        RawGraph {
+            shape,
+            from,
+            to,
+            edge_columns,
+            extra,
+            node_columns,
+        },
+    )
+}
+
+fn input(alloc: Global, name: &str, vtype: VType) -> Result<Input, AllocError> {
+    Ok(Input {
+        name: Text::new(String::from_str(alloc, name)?),
+        vtype,
+    })
+}
+
+fn four_inputs(alloc: Global) -> Result<Vec<Input>, AllocError> {
+    let mut inputs = Vec::new(alloc);
+    inputs.push(input(alloc, "n", VType::I32)?)?;
+    inputs.push(input(alloc, "l", VType::I64)?)?;
+    inputs.push(input(alloc, "b", VType::Flag)?)?;
+    inputs.push(input(alloc, "v", VType::Node)?)?;
+    Ok(inputs)
+}
+
+fn value_text(alloc: Global, value: Value) -> Result<String, AllocError> {
+    match value {
+        Value::I32(n) => format!(in alloc; "{n}"),
+        Value::I64(n) => format!(in alloc; "{n}"),
+        Value::Flag(b) => format!(in alloc; "{b}"),
+        Value::At(None) => String::from_str(alloc, "NIL"),
+        Value::At(Some(k)) => format!(in alloc; "@{k}"),
+    }
+}
+
+fn values_text(alloc: Global, values: &[Value]) -> Result<String, AllocError> {
+    let mut text = String::new(alloc);
+    for value in values {
+        if !text.is_empty() {
+            text.push_str(" ")?;
+        }
+        text.push_str(value_text(alloc, *value)?.as_str())?;
+    }
+    Ok(text)
+}
+
+// What the words give after `run a b`.
+fn answer(alloc: Global, inputs: &[Input], graph: &Graph, line: &str) -> Result<String, Fail> {
+    let mut words = Vec::new(alloc);
+    for word in ["run", "a", "b"] {
+        words.push(String::from_str(alloc, word)?)?;
+    }
+    for word in line.split(' ') {
+        words.push(String::from_str(alloc, word)?)?;
+    }
+    let Job::Run { args, .. } = read_words(alloc, words.as_slice())? else {
+        return Err("no run")?;
+    };
+    match bind(alloc, inputs, args.as_slice(), graph) {
+        Ok(values) => Ok(values_text(alloc, values.as_slice())?),
+        Err(fault) => Ok(format!(in alloc; "{fault}")?),
+    }
+}
+
+#[test]
+fn arguments(rt: HostRuntime) -> Result<(), Fail> {
+    let alloc = rt.alloc();
+    let inputs = four_inputs(alloc)?;
+    let graph = small_graph(alloc)?;
+    for row in ROWS.lines() {
+        let (words, values) = row.split_once(" => ").ok_or("no row")?;
+        let got = answer(alloc, inputs.as_slice(), &graph, words)?;
+        assert!(rt; got.as_str() == values, "{words} => {got}");
+    }
+    let none = bind(alloc, inputs.as_slice(), &[], &graph);
+    assert!(rt; matches!(none, Err(ArgFault::Missing(_))));
+    Ok(())
+}

@@ -1,0 +1,289 @@
+//! Words as a command line gives them.
+use crate::{Job, Options, WordsStop, read_words};
+use gm_base::{Items, Text};
+use gm_partition::Owner;
+use std::alloc::{AllocError, Global};
+use std::test::Fail;
+
+// Words, parted by one space each, and what they ask for: the command, its files, the words that assign, the
+// number of workers, the partition and the number of turns. All of it was written by hand, from the rules.
+const ROWS: &str = "run => usage
+run - => usage
+run a => usage
+run a b => run a b [] 4 mod 1000000
+run - - => run - - [] 4 mod 1000000
+run a - => run a - [] 4 mod 1000000
+run - b k=1 => run - b [k=1] 4 mod 1000000
+run a b k=3 root=0 => run a b [k=3 root=0] 4 mod 1000000
+run a b root => usage
+run - - root => usage
+run a b k=1 - => usage
+run a b =x => usage
+run a b =x=y => run a b [=x=y] 4 mod 1000000
+run a b x=y=z => run a b [x=y=z] 4 mod 1000000
+run a b x= => run a b [x=] 4 mod 1000000
+run a b == => run a b [==] 4 mod 1000000
+run a b x=-1 => run a b [x=-1] 4 mod 1000000
+run a b  => usage
+run  b => run  b [] 4 mod 1000000
+run a b -- x=1 --y=2 -z=3 => run a b [x=1 --y=2 -z=3] 4 mod 1000000
+run a b -- --y => usage
+run a b --y=2 => usage
+run a -- b x=1 => run a b [x=1] 4 mod 1000000
+run -- a b => run a b [] 4 mod 1000000
+run -- --a -b => run --a -b [] 4 mod 1000000
+run -- -- -- => run -- -- [] 4 mod 1000000
+run -- -- -- -- => usage
+run a b -- -- => usage
+run a b -- => run a b [] 4 mod 1000000
+run a -- --workers 8 => usage
+run a -- --workers => run a --workers [] 4 mod 1000000
+run a b -- --workers=8 => run a b [--workers=8] 4 mod 1000000
+run a b --workers 8 => run a b [] 8 mod 1000000
+run a b --workers=8 => run a b [] 8 mod 1000000
+run --workers 8 a b => run a b [] 8 mod 1000000
+run --workers=8 a b => run a b [] 8 mod 1000000
+run a --workers 8 b k=1 => run a b [k=1] 8 mod 1000000
+run a b k=1 --workers=8 j=2 => run a b [k=1 j=2] 8 mod 1000000
+run a b --workers 8 --workers 8 => usage
+run a b --workers=8 --workers=8 => usage
+run a b --workers 8 --workers=9 => usage
+run a b --workers => usage
+run a b --workers= => usage
+run a b --workers  => usage
+run a b --workers - => usage
+run a b --workers=- => usage
+run a b --workers -- 8 => usage
+run a b --workers --image => usage
+run a b --workers -1 => usage
+run a b --workers=-1 => usage
+run a b --workers=+1 => usage
+run a b --workers 0 => usage
+run a b --workers 1 => run a b [] 1 mod 1000000
+run a b --workers 64 => run a b [] 64 mod 1000000
+run a b --workers 65 => usage
+run - - --workers 65 => usage
+run a b --workers=004 => run a b [] 4 mod 1000000
+run a b --workers 0000000000000000008 => run a b [] 8 mod 1000000
+run a b --workers 00000000000000000008 => usage
+run a b --workers 8x => usage
+run a b --workers eight => usage
+run a b --workers=8=8 => usage
+run a b -workers 8 => usage
+run a b --Workers 8 => usage
+run a b ---workers 8 => usage
+run a b --worker 8 => usage
+run a b --work=8 => usage
+run a b --w 8 => usage
+run a b -w 8 => usage
+run a b -w8 => usage
+run a b --partition mod => run a b [] 4 mod 1000000
+run a b --partition=block => run a b [] 4 block 1000000
+run --partition block a b => run a b [] 4 block 1000000
+run a b --partition spread:0 => run a b [] 4 spread:0 1000000
+run a b --partition=spread:7 => run a b [] 4 spread:7 1000000
+run a b --partition spread:4294967295 => run a b [] 4 spread:4294967295 1000000
+run a b --partition spread:4294967296 => usage
+run a b --partition spread:0000000000000000007 => run a b [] 4 spread:7 1000000
+run a b --partition spread:00000000000000000007 => usage
+run a b --partition spread: => usage
+run a b --partition spread:-1 => usage
+run a b --partition spread => usage
+run a b --partition Mod => usage
+run a b --partition blocks => usage
+run a b --partition= => usage
+run a b --partition => usage
+run a b --partition mod --partition mod => usage
+run a b --part mod => usage
+run a b --turns 0 => run a b [] 4 mod 0
+run a b --turns=5 => run a b [] 4 mod 5
+run --turns 5 a b => run a b [] 4 mod 5
+run a b --turns 9223372036854775807 => run a b [] 4 mod 9223372036854775807
+run a b --turns 9223372036854775808 => usage
+run a b --turns 9999999999999999999 => usage
+run a b --turns 09223372036854775807 => usage
+run a b --turns -5 => usage
+run a b --turns 5 --turns 5 => usage
+run a b --turns => usage
+run a b --image => run a b [] 4 mod 1000000 image
+run --image a b => run a b [] 4 mod 1000000 image
+run a b --image k=1 => run a b [k=1] 4 mod 1000000 image
+run a b --image=true => usage
+run a b --image= => usage
+run a b --image true => usage
+run a b --image --image => usage
+run a -- --image => run a --image [] 4 mod 1000000
+run a b --observe => usage
+run - - --observe => usage
+run a b --observe --image => run a b [] 4 mod 1000000 image observe
+run --image a --observe b => run a b [] 4 mod 1000000 image observe
+run a b --observe --observe --image => usage
+run a b --observe=1 --image => usage
+run a b --help => usage
+run a b --version => usage
+run a b -h => usage
+run a b -V => usage
+run a b --no-image => usage
+run a b --= => usage
+run a b --=x => usage
+run --workers 2 --partition block --turns 3 --image --observe a b c=1 => run a b [c=1] 2 block 3 image observe
+run --help => usage
+--help => usage
+--version => usage
+-h => usage
+help => usage
+Run a b => usage
+run=a b => usage
+--workers 8 run a b => usage
+-- run a b => usage
+ => usage
+ run a b => usage
+check => usage
+check a => check a
+check - => check -
+check  => check 
+check a b => usage
+check -- a => check a
+check a -- => check a
+check -- --image => check --image
+check - --image => usage
+check a --workers 8 => usage
+check a --turns 8 => usage
+check --help => usage
+check -a => usage
+check a x=1 => usage
+compile => usage
+compile a => compile a
+compile - => compile -
+compile a b => usage
+compile -- -a => compile -a
+compile a --observe => usage
+compile a --partition mod => usage
+exec => usage
+exec a => usage
+exec a b => exec a b [] 4 mod 1000000
+exec - - root=9 => exec - - [root=9] 4 mod 1000000
+exec a b --observe => exec a b [] 4 mod 1000000 observe
+exec --observe a b => exec a b [] 4 mod 1000000 observe
+exec a b --observe --observe => usage
+exec a b --observe=yes => usage
+exec a b --image => usage
+exec a b --image --observe => usage
+exec a b --workers 64 --partition=spread:9 --turns 7 => exec a b [] 64 spread:9 7
+exec a b --workers 65 => usage
+exec a b root => usage
+exec a b -- -x=1 => exec a b [-x=1] 4 mod 1000000
+demo => usage
+demo 0 => usage
+demo 1 => demo 1 4 mod 1000000
+demo 1000000 => demo 1000000 4 mod 1000000
+demo 1000001 => usage
+demo 0000000000000001000 => demo 1000 4 mod 1000000
+demo 00000000000000001000 => usage
+demo -5 => usage
+demo -- 5 => demo 5 4 mod 1000000
+demo -- -5 => usage
+demo - => usage
+demo x => usage
+demo 5 6 => usage
+demo 5 k=1 => usage
+demo 5 --workers 3 --partition block => demo 5 3 block 1000000
+demo --workers=3 5 => demo 5 3 mod 1000000
+demo 5 --turns 3 => usage
+demo 5 --image => usage
+demo 5 --observe => usage";
+
+fn options_text(alloc: Global, options: Options) -> Result<String, AllocError> {
+    let workers = options.workers;
+    let turns = options.turns;
+    match options.owner {
+        Owner::Mod => format!(in alloc; "{workers} mod {turns}"),
+        Owner::Block => format!(in alloc; "{workers} block {turns}"),
+        Owner::Spread(shift) => format!(in alloc; "{workers} spread:{shift} {turns}"),
+    }
+}
+
+fn args_text(alloc: Global, args: &Items<Text>) -> Result<String, AllocError> {
+    let mut text = String::new(alloc);
+    for arg in args.as_slice() {
+        if !text.is_empty() {
+            text.push_str(" ")?;
+        }
+        text.push_str(arg.as_str())?;
+    }
+    Ok(text)
+}
+
+fn job_text(alloc: Global, job: &Job) -> Result<String, AllocError> {
+    match job {
+        Job::Run {
+            prog,
+            graph,
+            args,
+            options,
+            image,
+        } => {
+            let (prog, graph) = (prog.as_str(), graph.as_str());
+            let args = args_text(alloc, args)?;
+            let how = options_text(alloc, *options)?;
+            let image = if *image { " image" } else { "" };
+            let observe = if options.observe { " observe" } else { "" };
+            format!(in alloc; "run {prog} {graph} [{args}] {how}{image}{observe}")
+        }
+        Job::Check { prog } => {
+            let prog = prog.as_str();
+            format!(in alloc; "check {prog}")
+        }
+        Job::Compile { prog } => {
+            let prog = prog.as_str();
+            format!(in alloc; "compile {prog}")
+        }
+        Job::Exec {
+            image,
+            graph,
+            args,
+            options,
+        } => {
+            let (image, graph) = (image.as_str(), graph.as_str());
+            let args = args_text(alloc, args)?;
+            let how = options_text(alloc, *options)?;
+            let observe = if options.observe { " observe" } else { "" };
+            format!(in alloc; "exec {image} {graph} [{args}] {how}{observe}")
+        }
+        Job::Demo { n, options } => {
+            let n = *n;
+            let how = options_text(alloc, *options)?;
+            let observe = if options.observe { " observe" } else { "" };
+            format!(in alloc; "demo {n} {how}{observe}")
+        }
+    }
+}
+
+fn answer_text(alloc: Global, words: &[String]) -> Result<String, AllocError> {
+    match read_words(alloc, words) {
+        Ok(job) => job_text(alloc, &job),
+        Err(WordsStop::Usage) => String::from_str(alloc, "usage"),
+        Err(WordsStop::NoMemory) => String::from_str(alloc, "no memory"),
+    }
+}
+
+fn words_of(alloc: Global, line: &str) -> Result<Vec<String>, AllocError> {
+    let mut words = Vec::new(alloc);
+    for word in line.split(' ') {
+        words.push(String::from_str(alloc, word)?)?;
+    }
+    Ok(words)
+}
+
+#[test]
+fn jobs(rt: HostRuntime) -> Result<(), Fail> {
+    let alloc = rt.alloc();
+    let nothing: Vec<String> = Vec::new(alloc);
+    assert!(rt; matches!(read_words(alloc, nothing.as_slice()), Err(WordsStop::Usage)));
+    for row in ROWS.lines() {
+        let (words, job) = row.split_once(" => ").ok_or("no row")?;
+        let got = answer_text(alloc, words_of(alloc, words)?.as_slice())?;
+        assert!(rt; got.as_str() == job, "{words} => {got}");
+    }
+    Ok(())
+}
