@@ -44,7 +44,7 @@ fn run(alloc: Global, words: &str, input: Vec<u8>, streams: Streams) -> Result<(
     let mut sink = MemSink::new(alloc, streams.piece_out.max(1), vec![in alloc; streams.fails_out]?, 65536)?;
     let status = gm(alloc, &words, &mut source, &mut sink);
     let written = String::from_utf8_lossy(alloc, sink.taken())?;
-    Ok((status, written.into_owned(alloc)?))
+    Ok((status, written))
 }
 
 // A program and a graph, with the line that parts them.
