@@ -4,3 +4,4 @@ pub mod GraphText
 pub mod Sets
 pub mod Tables
 pub mod Loads
+pub mod Rows

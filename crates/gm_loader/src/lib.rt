@@ -3,6 +3,7 @@
 
 mod faults;
 mod fields;
+mod laws;
 mod limits;
 mod loads;
 mod sets;
@@ -11,5 +12,6 @@ mod tables;
 mod tests;
 
 pub use faults::GraphFault;
+pub use laws::rows_are_worked;
 pub use limits::Limits;
 pub use loads::{load, parse_graph};

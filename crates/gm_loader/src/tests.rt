@@ -3,17 +3,14 @@
 ghost use Rattle.std.specs.Prelude.{◌≤◌, IfOk};
 ghost use Rattle.gm_loader.specs.GraphText.{HasColumns};
 
-use std::alloc::{AllocError, Global};
-use std::fmt::Write;
-use std::test::Fail;
-
-use std::process::Abort;
-
+use crate::{GraphFault, Limits, load, parse_graph};
 use gm_base::{Items, MemSource};
 use gm_graph::{Graph, Shape};
 use gm_value::{VType, Value};
-
-use crate::{GraphFault, Limits, load, parse_graph};
+use std::alloc::{AllocError, Global};
+use std::fmt::Write;
+use std::process::Abort;
+use std::test::Fail;
 
 const AMPLE: Limits = Limits {
     nodes: 100,
@@ -79,13 +76,13 @@ fn listing(alloc: Global, graph: &Graph, nodes: u32, edges: u32) -> Result<Strin
 // What comes of a graph: its listing, or its fault.
 fn outcome(
     alloc: Global,
-    result: Result<Graph, GraphFault>,
+    answer: Result<Graph, GraphFault>,
     nodes: u32,
     edges: u32,
 ) -> Result<String, AllocError>
-    requires { IfOk result (HasColumns nodes edges) }
+    requires { IfOk answer (HasColumns nodes edges) }
 {
-    match result {
+    match answer {
         Ok(graph) => listing(alloc, &graph, nodes, edges),
         Err(fault) => format!(in alloc; "{fault:?}"),
     }
@@ -117,94 +114,149 @@ fn compare(
 }
 
 // Loads a text from a source that gives one byte per read, with one Int column of nodes.
-fn loaded(alloc: Global, text: &str, fails: Vec<u64>, limits: &Limits) -> Result<String, Fail>
+fn loaded(
+    rt: &(impl Abort + AllocGlobal),
+    text: &str,
+    fails: Vec<u64>,
+    limits: &Limits,
+) -> Result<String, Fail>
     requires few_nodes { limits.now.nodes ≤ 2147483647 }
     requires few_edges { limits.now.edges ≤ 2147483647 }
 {
     let shape = Shape {
-        nodes: types(alloc, "i")?,
-        edges: types(alloc, "")?,
+        nodes: types(rt.alloc(), "i")?,
+        edges: types(rt.alloc(), "")?,
     };
-    let bytes = Vec::from_slice(alloc, text.as_bytes())?;
+    let nodes = shape.nodes.len();
+    let edges = shape.edges.len();
+    assert!(rt; nodes < 100 && edges < 100);
+    let bytes = Vec::from_slice(rt.alloc(), text.as_bytes())?;
     let mut source = MemSource::new(bytes, 1, fails);
-    match load(alloc, &mut source, &shape, limits) {
-        Ok(graph) => Ok(format!(in alloc; "{}", graph.node_count())?),
-        Err(fault) => Ok(format!(in alloc; "{fault:?}")?),
-    }
+    let result = load(rt.alloc(), &mut source, &shape, limits);
+    let found = outcome(rt.alloc(), result, nodes as u32, edges as u32)?;
+    Ok(found)
 }
 
 #[test]
 fn texts_stand_for_graphs(rt: HostRuntime) -> Result<(), Fail> {
-    compare(&rt, ("", ""), &AMPLE, &[
+    compare(
+        &rt,
         ("", ""),
-        ("# Directed graph\r\n# FromNodeId\tToNodeId\r\n30\t1412\r\n30\t3352\t99\r\n1412\t30\r\n", "30 0>1412 1>3352;1412 2>30;3352;"),
-        ("0 1\n0 1\n1 1\n", "0 0>1 1>1;1 2>1;"),
-        ("0 1\r", "BadLine(1)"),
-        ("0 1 \r", "0 0>1;1;"),
-        ("0 1\r\n", "0 0>1;1;"),
-        ("\r", "BadLine(1)"),
-        ("007 7", "7 0>7;"),
-        ("9223372036854775807 16777216", "16777216;9223372036854775807 0>16777216;"),
-        ("9223372036854775808 0", "OutOfRange(1)"),
-        ("0", "BadLine(1)"),
-        ("0 ", "BadLine(1)"),
-        ("-1 0", "BadLine(1)"),
-        ("x 99999999999999999999", "BadLine(1)"),
-        ("99999999999999999999 x", "OutOfRange(1)"),
-        ("v", "BadLine(1)"),
-        ("V 1", "BadLine(1)"),
-        ("v 4\n\n \t\n  # x\nv 4\n0 x", "NodeTwice(5)"),
-    ])?;
-    compare(&rt, ("i", ""), &AMPLE, &[
-        ("5 3\nv 3 4\n", "3:4;5:0 0>3;"),
-        ("v 7 1\nv 3 2\nv 5 0\n", "3:2;5:0;7:1;"),
-        ("v 3 3000000000", "OutOfRange(1)"),
-        ("v 1 1\nv 1 x", "BadLine(2)"),
-        ("v 1 1\nv 1", "MissingColumn(2)"),
-        ("v 1 1\nv 1 2", "NodeTwice(2)"),
-    ])?;
+        &AMPLE,
+        &[
+            ("", ""),
+            (
+                "# Directed graph\r\n# FromNodeId\tToNodeId\r\n30\t1412\r\n30\t3352\t99\r\n1412\t30\r\n",
+                "30 0>1412 1>3352;1412 2>30;3352;",
+            ),
+            ("0 1\n0 1\n1 1\n", "0 0>1 1>1;1 2>1;"),
+            ("0 1\r", "BadLine(1)"),
+            ("0 1 \r", "0 0>1;1;"),
+            ("0 1\r\n", "0 0>1;1;"),
+            ("\r", "BadLine(1)"),
+            ("007 7", "7 0>7;"),
+            (
+                "9223372036854775807 16777216",
+                "16777216;9223372036854775807 0>16777216;",
+            ),
+            ("9223372036854775808 0", "OutOfRange(1)"),
+            ("0", "BadLine(1)"),
+            ("0 ", "BadLine(1)"),
+            ("-1 0", "BadLine(1)"),
+            ("x 99999999999999999999", "BadLine(1)"),
+            ("99999999999999999999 x", "OutOfRange(1)"),
+            ("v", "BadLine(1)"),
+            ("V 1", "BadLine(1)"),
+            ("v 4\n\n \t\n  # x\nv 4\n0 x", "NodeTwice(5)"),
+        ],
+    )?;
+    compare(
+        &rt,
+        ("i", ""),
+        &AMPLE,
+        &[
+            ("5 3\nv 3 4\n", "3:4;5:0 0>3;"),
+            ("v 7 1\nv 3 2\nv 5 0\n", "3:2;5:0;7:1;"),
+            ("v 3 3000000000", "OutOfRange(1)"),
+            ("v 1 1\nv 1 x", "BadLine(2)"),
+            ("v 1 1\nv 1", "MissingColumn(2)"),
+            ("v 1 1\nv 1 2", "NodeTwice(2)"),
+        ],
+    )?;
     Ok(())
 }
 
 #[test]
 fn values_have_their_spellings(rt: HostRuntime) -> Result<(), Fail> {
-    compare(&rt, ("", "i"), &AMPLE, &[
-        ("0 x 1", "BadLine(1)"),
-        ("0 1", "MissingColumn(1)"),
-        ("0 1 ", "MissingColumn(1)"),
-        ("0 1 4", "0 0>1/4;1;"),
-        ("0 1 3000000000", "OutOfRange(1)"),
-        ("0 99999999999999999999", "OutOfRange(1)"),
-        ("0 1 2147483647\n0 1 -2147483648", "0 0>1/2147483647 1>1/-2147483648;1;"),
-        ("0 1 2147483648", "OutOfRange(1)"),
-        ("0 1 -2147483649", "OutOfRange(1)"),
-        ("0 1 -0\n0 1 00012\n0 1 -007", "0 0>1/0 1>1/12 2>1/-7;1;"),
-        ("0 1 -", "BadLine(1)"),
-        ("0 1 +1", "BadLine(1)"),
-        ("0 1 1x", "BadLine(1)"),
-        ("0 1 5 x 99999999999999999999", "0 0>1/5;1;"),
-    ])?;
-    compare(&rt, ("", "l"), &AMPLE, &[
-        ("0 1 9223372036854775807\n0 1 -9223372036854775808", "0 0>1/9223372036854775807 1>1/-9223372036854775808;1;"),
-        ("0 1 9223372036854775808", "OutOfRange(1)"),
-        ("0 1 -9223372036854775809", "OutOfRange(1)"),
-        ("0 1 99999999999999999999999999999999999999999999999999", "OutOfRange(1)"),
-    ])?;
-    compare(&rt, ("", "b"), &AMPLE, &[
-        ("0 1 0\n0 1 1\n0 1 true\n0 1 false\n0 1 True\n0 1 False", "0 0>1/false 1>1/true 2>1/true 3>1/false 4>1/true 5>1/false;1;"),
-        ("0 1 TRUE", "BadLine(1)"),
-        ("0 1 00", "BadLine(1)"),
-        ("0 1 2", "BadLine(1)"),
-    ])?;
-    compare(&rt, ("", ""), &TIGHT, &[
-        ("0 1\n1 2", "TooManyNodes(2)"),
-        ("0 1\n1 0\n0 0", "TooManyEdges(3)"),
-        ("0 1\n0 1\n2 3", "TooManyNodes(3)"),
-        ("v 1\nv 2\nv 3\nv 3", "TooManyNodes(3)"),
-        ("20000000 20000001", "20000000 0>20000001;20000001;"),
-        ("                    ", ""),
-        ("                     ", "TooLong"),
-    ])?;
+    compare(
+        &rt,
+        ("", "i"),
+        &AMPLE,
+        &[
+            ("0 x 1", "BadLine(1)"),
+            ("0 1", "MissingColumn(1)"),
+            ("0 1 ", "MissingColumn(1)"),
+            ("0 1 4", "0 0>1/4;1;"),
+            ("0 1 3000000000", "OutOfRange(1)"),
+            ("0 99999999999999999999", "OutOfRange(1)"),
+            (
+                "0 1 2147483647\n0 1 -2147483648",
+                "0 0>1/2147483647 1>1/-2147483648;1;",
+            ),
+            ("0 1 2147483648", "OutOfRange(1)"),
+            ("0 1 -2147483649", "OutOfRange(1)"),
+            ("0 1 -0\n0 1 00012\n0 1 -007", "0 0>1/0 1>1/12 2>1/-7;1;"),
+            ("0 1 -", "BadLine(1)"),
+            ("0 1 +1", "BadLine(1)"),
+            ("0 1 1x", "BadLine(1)"),
+            ("0 1 5 x 99999999999999999999", "0 0>1/5;1;"),
+        ],
+    )?;
+    compare(
+        &rt,
+        ("", "l"),
+        &AMPLE,
+        &[
+            (
+                "0 1 9223372036854775807\n0 1 -9223372036854775808",
+                "0 0>1/9223372036854775807 1>1/-9223372036854775808;1;",
+            ),
+            ("0 1 9223372036854775808", "OutOfRange(1)"),
+            ("0 1 -9223372036854775809", "OutOfRange(1)"),
+            (
+                "0 1 99999999999999999999999999999999999999999999999999",
+                "OutOfRange(1)",
+            ),
+        ],
+    )?;
+    compare(
+        &rt,
+        ("", "b"),
+        &AMPLE,
+        &[
+            (
+                "0 1 0\n0 1 1\n0 1 true\n0 1 false\n0 1 True\n0 1 False",
+                "0 0>1/false 1>1/true 2>1/true 3>1/false 4>1/true 5>1/false;1;",
+            ),
+            ("0 1 TRUE", "BadLine(1)"),
+            ("0 1 00", "BadLine(1)"),
+            ("0 1 2", "BadLine(1)"),
+        ],
+    )?;
+    compare(
+        &rt,
+        ("", ""),
+        &TIGHT,
+        &[
+            ("0 1\n1 2", "TooManyNodes(2)"),
+            ("0 1\n1 0\n0 0", "TooManyEdges(3)"),
+            ("0 1\n0 1\n2 3", "TooManyNodes(3)"),
+            ("v 1\nv 2\nv 3\nv 3", "TooManyNodes(3)"),
+            ("20000000 20000001", "20000000 0>20000001;20000001;"),
+            ("                    ", ""),
+            ("                     ", "TooLong"),
+        ],
+    )?;
     Ok(())
 }
 
@@ -212,15 +264,15 @@ fn values_have_their_spellings(rt: HostRuntime) -> Result<(), Fail> {
 fn sources_are_loaded(rt: HostRuntime) -> Result<(), Fail> {
     let alloc = rt.alloc();
     let text = "v 7 1\nv 3 2\nv 5 0\n";
-    let whole = loaded(alloc, text, vec![in alloc]?, &AMPLE)?;
-    assert_eq!(rt; whole.as_str(), "3");
+    let whole = loaded(&rt, text, vec![in alloc]?, &AMPLE)?;
+    assert_eq!(rt; whole.as_str(), "3:2;5:0;7:1;");
     for call in [1, 2, 9, 18] {
-        let failed = loaded(alloc, text, vec![in alloc; call]?, &AMPLE)?;
+        let failed = loaded(&rt, text, vec![in alloc; call]?, &AMPLE)?;
         assert_eq!(rt; failed.as_str(), "ReadFault", "call {call}");
     }
-    let long = loaded(alloc, "                     ", vec![in alloc]?, &TIGHT)?;
+    let long = loaded(&rt, "                     ", vec![in alloc]?, &TIGHT)?;
     assert_eq!(rt; long.as_str(), "TooLong");
-    let fault = loaded(alloc, "v 7 1\nv 3\n", vec![in alloc]?, &AMPLE)?;
+    let fault = loaded(&rt, "v 7 1\nv 3\n", vec![in alloc]?, &AMPLE)?;
     assert_eq!(rt; fault.as_str(), "MissingColumn(2)");
     Ok(())
 }
