@@ -1,17 +1,11 @@
 -- Numbers that are read digit by digit.
-use Rattle.std.proofs.Common.{◌≡◌, ◌≤◌, ◌<◌, ◌+◌, ◌-◌, ◌*◌, ℕ, zero, suc, Bool, true, false, cond, not, ◌&&◌, min, eqb, leb, List, [], ◌∷◌, length, drop, get_or, fold, refl, ap, sym, ◌∙◌, arith, drop-cons, add-one}
-use Rattle.std.specs.Prelude.{Option, Some, None, option_map, ℤ, pos, negsuc, neg_ℤ, Result, Ok, Err}
+use Rattle.std.proofs.Common.{◌≡◌, ◌≤◌, ◌<◌, ◌+◌, ◌-◌, ◌*◌, ℕ, zero, suc, Bool, true, false, cond, ◌&&◌, min, leb, List, [], ◌∷◌, length, drop, get_or, fold, refl, ap, sym, ◌∙◌, arith, drop-cons, add-one}
+use Rattle.std.specs.Prelude.{Option, Some, None, option_map, pos, neg_ℤ, Ok, Err}
 use Rattle.std.specs.List.{list_all}
 use Rattle.std.proofs.lemmas.Bool.Decides.{nat_tests}
-use Rattle.gm_value.specs.declared.values.VType.{VType}
-use Rattle.gm_value.specs.declared.values.VType.TheVariants.{I32, I64, Flag, Node}
-use Rattle.gm_value.specs.declared.values.Value.{Value}
-use Rattle.gm_value.specs.declared.faults.FaultKind.{FaultKind}
-use Rattle.gm_value.specs.Numbers.{fits, value_at, checked}
-use Rattle.gm_loader.specs.declared.faults.LineFault.{LineFault}
 use Rattle.gm_loader.specs.declared.faults.LineFault.TheVariants.{OutOfRange}
-use Rattle.gm_loader.specs.Fields.{is_digit, is_some_part, with_digit, decimal, number_in, node_number, whole_value, top_number}
-use Rattle.gm_loader.specs.Tables.{IsWholeType, clipped}
+use Rattle.gm_loader.specs.Fields.{is_digit, with_digit, decimal, number_in, node_number, top_number}
+use Rattle.gm_loader.specs.Tables.{clipped}
 
 -- the greatest number of 64 bits
 abbrev pub top : ℕ

@@ -1,15 +1,14 @@
 -- Columns that are filled row by row.
-use Rattle.std.proofs.Common.{◌≡◌, ◌≤◌, ◌<◌, ◌+◌, ℕ, zero, suc, List, [], ◌∷◌, ◌++◌, length, map, take, drop, set, get_or, refl, ap, sym, ◌∙◌, arith, append_assoc, add-one, drop-cons}
-use Rattle.std.specs.Prelude.{Result, Ok, Err, All}
+use Rattle.std.proofs.Common.{◌≡◌, ◌<◌, ◌+◌, ℕ, List, [], ◌∷◌, ◌++◌, length, map, take, drop, set, get_or, refl, ap, sym, ◌∙◌, arith, append_assoc, add-one, drop-cons}
+use Rattle.std.specs.Prelude.{Result, Ok, Err}
 use Rattle.std.proofs.lemmas.List.{map-append, take_more, take_more_set, drop-set-lt}
 use Rattle.gm_value.specs.declared.values.VType.{VType}
 use Rattle.gm_value.specs.declared.values.Value.{Value}
 use Rattle.gm_graph.specs.Columns.{TypedRow}
 use Rattle.gm_graph.specs.Builds.{types_of}
 use Rattle.gm_loader.specs.declared.faults.LineFault.{LineFault}
-use Rattle.gm_loader.specs.declared.faults.LineFault.TheVariants.{MissingColumn}
-use Rattle.gm_loader.specs.Fields.{value_in, number_in, node_number}
-use Rattle.gm_loader.specs.Lines.{Line, NodeLine, EdgeLine, ◌>>=◌, first_number, values_in, edge_line, node_line}
+use Rattle.gm_loader.specs.Fields.{value_in}
+use Rattle.gm_loader.specs.Lines.{NodeLine, EdgeLine, ◌>>=◌, first_number, values_in, edge_line, node_line}
 use Rattle.gm_loader.specs.GraphText.{columns_of, first_value}
 use Rattle.gm_loader.specs.Tables.{row_added, with_value, ReadsValue, ReadsNumber}
 

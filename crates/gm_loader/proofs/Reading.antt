@@ -1,6 +1,6 @@
 -- A text that is read line by line, and the graph that is made of its lines.
 use Rattle.std.proofs.Common.{◌≡◌, ◌≢◌, ◌≤◌, ◌<◌, ◌+◌, ℕ, suc, Bool, true, false, cond, ◌||◌, List, [], ◌∷◌, ◌++◌, length, map, drop, eqb, ltb, refl, ap, sym, ◌∙◌, arith, length-append}
-use Rattle.std.specs.Prelude.{Result, Ok, Err, All, IsOkAnd, Option, Some, None, ⊤}
+use Rattle.std.specs.Prelude.{Result, Ok, Err, All, IsOkAnd, Option, Some, None}
 use Rattle.std.specs.Str.Lines.{lines}
 use Rattle.std.proofs.lemmas.Bool.Decides.{nat_tests}
 use Rattle.std.proofs.lemmas.List.{length-map}
@@ -13,7 +13,7 @@ use Rattle.gm_graph.specs.declared.builds.Shape.{Shape}
 use Rattle.gm_graph.specs.declared.builds.RawGraph.{RawGraph}
 use Rattle.gm_graph.specs.Graphs.{NumberedGraph}
 use Rattle.gm_graph.specs.Columns.{TypedRow}
-use Rattle.gm_graph.specs.Builds.{IsBuildable, IsBuiltOf, distinct, spread_out}
+use Rattle.gm_graph.specs.Builds.{IsBuildable, IsBuiltOf, spread_out}
 use Rattle.gm_loader.specs.declared.faults.GraphFault.{GraphFault}
 use Rattle.gm_loader.specs.declared.faults.GraphFault.TheVariants as fault
 use Rattle.gm_loader.specs.declared.faults.LineFault.{LineFault}
@@ -23,7 +23,7 @@ use Rattle.gm_loader.specs.declared.faults.LineStop.TheVariants.{Fault, NoMemory
 use Rattle.gm_loader.specs.declared.limits.Limits.{Limits}
 use Rattle.gm_loader.specs.declared.tables.Tables.{Tables}
 use Rattle.gm_loader.specs.Lines.{Line, Skipped, NodeLine, EdgeLine, line_of}
-use Rattle.gm_loader.specs.GraphText.{EdgeRow, NodeRow, edge_rows, node_rows, numbers_on, node_count, edge_count, judged, at_line, on_line, lines_after, lines_of, columns_of, first_value, raw_of, StandsFor, HasColumns}
+use Rattle.gm_loader.specs.GraphText.{edge_rows, node_rows, numbers_on, node_count, edge_count, judged, at_line, on_line, lines_after, lines_of, columns_of, first_value, raw_of, StandsFor, HasColumns}
 use Rattle.gm_loader.specs.Tables.{Holds, HoldsLines, Takes}
 use Rattle.gm_loader.specs.Loads.{IsLineFault, stop_at_line}
 use Rattle.gm_loader.proofs.Members.{among, distinct-within}

@@ -1,11 +1,9 @@
 -- Tables that take in one line more.
-use Rattle.std.proofs.Common.{◌≡◌, ◌≢◌, ◌≤◌, ◌<◌, ◌+◌, ℕ, zero, suc, Bool, true, false, cond, not, ◌||◌, min, eqb, ltb, List, [], ◌∷◌, ◌++◌, length, map, refl, ap, sym, ◌∙◌, subst, arith, append_assoc, append-nil, length-append, inl, inr}
-use Rattle.std.specs.Prelude.{Result, Ok, Err, Some, None, All, AllPairs, ◌⊎◌, slice_index_or}
-use Rattle.std.specs.List.{list_any, flat_map}
+use Rattle.std.proofs.Common.{◌≡◌, ◌≤◌, ◌<◌, ◌+◌, ℕ, Bool, true, false, cond, not, ◌||◌, min, eqb, ltb, List, [], ◌∷◌, ◌++◌, length, map, refl, ap, sym, ◌∙◌, arith, append_assoc, append-nil, length-append}
+use Rattle.std.specs.Prelude.{Result, Ok, Err, Some, None}
 use Rattle.std.proofs.lemmas.Bool.Decides.{nat_tests}
 use Rattle.std.proofs.lemmas.List.{map-append, length-map}
 use Rattle.std.proofs.lemmas.Grind.{flat_map-append}
-use Rattle.gm_value.specs.declared.values.VType.{VType}
 use Rattle.gm_value.specs.declared.values.Value.{Value}
 use Rattle.gm_graph.specs.declared.builds.Shape.{Shape}
 use Rattle.gm_graph.specs.Columns.{TypedRow}
@@ -17,13 +15,12 @@ use Rattle.gm_loader.specs.declared.faults.LineStop.TheVariants.{Fault, NoMemory
 use Rattle.gm_loader.specs.declared.limits.Limits.{Limits}
 use Rattle.gm_loader.specs.declared.sets.NumberSet.{NumberSet}
 use Rattle.gm_loader.specs.declared.tables.Tables.{Tables}
-use Rattle.gm_loader.specs.Fields.{fields}
-use Rattle.gm_loader.specs.Lines.{Line, Skipped, NodeLine, EdgeLine, ◌>>=◌, first_number, values_in, node_line, edge_line}
-use Rattle.gm_loader.specs.GraphText.{EdgeRow, NodeRow, edges_in, nodes_in, numbers_in, edge_rows, node_rows, numbers_on, node_count, edge_count, has_line, repeats, late_fault, unless, judged, columns_of}
-use Rattle.gm_loader.specs.Sets.{has, HasEach, IsSetOf}
+use Rattle.gm_loader.specs.Lines.{Line, Skipped, NodeLine, EdgeLine, node_line, edge_line}
+use Rattle.gm_loader.specs.GraphText.{EdgeRow, NodeRow, edges_in, nodes_in, numbers_in, edge_rows, node_rows, numbers_on, node_count, edge_count, repeats, unless, judged, columns_of}
+use Rattle.gm_loader.specs.Sets.{has, IsSetOf}
 use Rattle.gm_loader.specs.Tables.{Holds, Takes, IfFault, ReadsNumber, row_added}
 use Rattle.gm_loader.proofs.Members.{among, HasEach-push, IsSetOf-push, AllPairs-push, distinct-push}
-use Rattle.gm_loader.proofs.Filling.{Added, added_row, fault_row, node_read, edge_read}
+use Rattle.gm_loader.proofs.Filling.{added_row, fault_row, node_read, edge_read}
 
 -- what the lines give with one line more
 pub edge_rows_more : (before : List Line) (a b : ℕ) (vs : List Value) → edge_rows (before ++ EdgeLine a b vs ∷ []) ≡ edge_rows before ++ record { from = a; to = b; values = vs } ∷ []

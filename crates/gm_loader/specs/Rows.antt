@@ -1,11 +1,8 @@
 -- Shapes, limits and texts of the rows that were worked by hand.
-use Rattle.std.specs.Prelude.{ℕ, List, [], ◌∷◌, ◌++◌, Result, codes, replicate}
+use Rattle.std.specs.Prelude.{ℕ, List, [], ◌∷◌, ◌++◌}
 use Rattle.gm_value.specs.declared.values.VType.TheVariants.{I32}
 use Rattle.gm_graph.specs.declared.builds.Shape.{Shape}
-use Rattle.gm_loader.specs.declared.faults.GraphFault.{GraphFault}
 use Rattle.gm_loader.specs.declared.limits.Limits.{Limits}
-use Rattle.gm_loader.specs.Lines.{Line}
-use Rattle.gm_loader.specs.GraphText.{lines_of}
 
 -- no columns; one Int column of edges; one Int column of nodes
 abbrev pub plain : Shape

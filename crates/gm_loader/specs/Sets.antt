@@ -1,5 +1,5 @@
 -- What a set of node numbers has.
-use Rattle.std.specs.Prelude.{◌≡◌, ℕ, nat_lt, nat_eq, Bool, true, false, ◌==◌, if◌then◌else◌, List, length, slice_index_or}
+use Rattle.std.specs.Prelude.{◌≡◌, ℕ, nat_lt, nat_eq, Bool, false, ◌==◌, if◌then◌else◌, List, length, slice_index_or}
 use Rattle.std.specs.List.{list_any}
 use Rattle.std.specs.HashSet.{contains}
 use Rattle.gm_graph.specs.Builds.{distinct}

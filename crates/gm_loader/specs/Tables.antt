@@ -6,13 +6,11 @@ use Rattle.gm_value.specs.declared.values.VType.{VType}
 use Rattle.gm_value.specs.declared.values.VType.TheVariants.{I32, I64, Flag, Node}
 use Rattle.gm_graph.specs.declared.builds.Shape.{Shape}
 use Rattle.gm_graph.specs.Columns.{TypedRow}
-use Rattle.gm_graph.specs.Builds.{distinct}
 use Rattle.gm_loader.specs.declared.faults.LineFault.{LineFault}
 use Rattle.gm_loader.specs.declared.faults.LineFault.TheVariants.{MissingColumn}
 use Rattle.gm_loader.specs.declared.faults.LineStop.{LineStop}
 use Rattle.gm_loader.specs.declared.faults.LineStop.TheVariants.{Fault, NoMemory}
 use Rattle.gm_loader.specs.declared.limits.Limits.{Limits}
-use Rattle.gm_loader.specs.declared.sets.NumberSet.{NumberSet}
 use Rattle.gm_loader.specs.declared.tables.Tables.{Tables}
 use Rattle.gm_loader.specs.Fields.{is_blank, number_in, node_number, value_in}
 use Rattle.gm_loader.specs.Lines.{Line, ◌>>=◌, line_of}

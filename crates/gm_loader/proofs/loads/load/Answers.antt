@@ -1,4 +1,3 @@
-use Rattle.std.proofs.Common.{length}
 use Rattle.gm_loader.proofs.Reading.{made, stands, buildable, has_columns, reads_len}
 use Rattle.gm_loader.proofs.loads.load.Goals as goal
 
