@@ -8,3 +8,4 @@ pub mod Classes
 pub mod Gaps
 pub mod Steps
 pub mod Once
+mod Examples
