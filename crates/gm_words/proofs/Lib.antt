@@ -17,3 +17,4 @@ mod Rights
 mod Assignments
 mod Numerals
 mod Maps
+mod ArgumentRows
