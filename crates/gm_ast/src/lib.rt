@@ -1,0 +1,2 @@
+//! The tree that a text spells.
+#![tactic(auto)]

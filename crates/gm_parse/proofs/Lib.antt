@@ -1,0 +1,5 @@
+mod Certain
+mod Begin
+mod Steps
+mod Places
+mod Same
