@@ -12,24 +12,16 @@ use Rattle.gm_ast.specs.declared.surface.Prefix.{Prefix}
 use Rattle.gm_ast.specs.declared.surface.Infix.{Infix}
 use Rattle.gm_ast.specs.declared.surface.LoopWord.{LoopWord}
 use Rattle.gm_ast.specs.declared.surface.ReductionWord.{ReductionWord}
-use Rattle.gm_ast.specs.declared.surface.SpelledType as T
-use Rattle.gm_ast.specs.declared.surface.SpelledType.{SpelledType, the_lemmas as type_lemmas}
+use Rattle.gm_ast.specs.declared.surface.SpelledType.{SpelledType}
 use Rattle.gm_ast.specs.declared.surface.SpelledHead.{SpelledHead}
 use Rattle.gm_ast.specs.declared.surface.SpelledTarget.{SpelledTarget}
 use Rattle.gm_ast.specs.declared.surface.SpelledExpr as E
 use Rattle.gm_ast.specs.declared.surface.SpelledExpr.{SpelledExpr, the_lemmas as expr_lemmas}
 use Rattle.gm_ast.specs.declared.surface.SpelledStmt as W
 use Rattle.gm_ast.specs.declared.surface.SpelledStmt.{SpelledStmt, the_lemmas as stmt_lemmas}
-use Rattle.gm_ast.specs.declared.surface.SpelledReverse as V
 use Rattle.gm_ast.specs.Surface as S
 use Rattle.gm_ast.specs.Surface.{sequence}
 use Rattle.gm_ast.specs.SurfaceTree.{name_of, type_of, head_of, target_of, expr_of, optional_of, test_of, stmt_of, branch_of}
-
-pub type_of-Plain : (at : Place) (w : TypeWord) (g : Option Name) → type_of (T.Plain at w g) ≡ S.Plain at w (option_map name_of g)
-type_of-Plain at w g = search (rules, type_lemmas)
-
-pub type_of-Property : (at : Place) (b : Bearer) (t : Box SpelledType Global) (g : Option Name) → type_of (T.Property at b t g) ≡ S.Property at b (type_of (box_value t)) (option_map name_of g)
-type_of-Property at b t g = search (rules, type_lemmas)
 
 pub expr_of-Number : (at : Place) (n : ℤ) → expr_of (E.Number at n) ≡ S.Number at n
 expr_of-Number at n = search (rules, expr_lemmas)
@@ -112,3 +104,13 @@ stmt_of-Do at s c = search (rules, stmt_lemmas)
 pub stmt_of-Return : (at : Place) (e : Option SpelledExpr) → stmt_of (W.Return at e) ≡ S.Return at (option_map expr_of e)
 stmt_of-Return at e = search (rules, stmt_lemmas)
 
+
+pub stmt_of-Block : (b : Vec SpelledStmt) → stmt_of (W.TheViews.Block b) ≡ sequence (map stmt_of b.items)
+stmt_of-Block b = search (rules, stmt_lemmas)
+
+pub stmt_of-InBfs : (at : Place) (x g r : Name) (f : Option SpelledExpr) (s : Box SpelledStmt Global) → stmt_of (W.InBfs at x g r f s) ≡ S.InBfs at (name_of x) (name_of g) (name_of r) (test_of f) (stmt_of (box_value s))
+stmt_of-InBfs at x g r f s = search (rules, stmt_lemmas)
+
+pub stmt_of-InBfsBoth : (at : Place) (x g r : Name) (f : Option SpelledExpr) (s : Box SpelledStmt Global) (reverse : Place) (h : Option SpelledExpr) (b : Box SpelledStmt Global)
+    → stmt_of (W.InBfsBoth at x g r f s reverse h b) ≡ S.InBfsBoth at (name_of x) (name_of g) (name_of r) (test_of f) (stmt_of (box_value s)) reverse (test_of h) (stmt_of (box_value b))
+stmt_of-InBfsBoth at x g r f s reverse h b = search (rules, stmt_lemmas)

@@ -1,17 +1,17 @@
 -- The syntax that a tree of the text holds.
-use Rattle.std.specs.Prelude.{List, map, Option, Some, None, option_map, Box, box_value}
+use Rattle.std.specs.Prelude.{List, map, fold, Option, Some, None, option_map, Box, box_value}
 use Rattle.std.specs.declared.alloc.Global.{Global}
 use Rattle.gm_base.specs.declared.places.Place.{Place}
 use Rattle.gm_ast.specs.declared.surface.Name.{Name}
-use Rattle.gm_ast.specs.declared.surface.SpelledType.{SpelledType, fold-SpelledType}
-use Rattle.gm_ast.specs.declared.surface.SpelledType.TheOpen.{SpelledType-F}
+use Rattle.gm_ast.specs.declared.surface.PropertyLayer.{PropertyLayer}
+use Rattle.gm_ast.specs.declared.surface.SpelledType.{SpelledType}
 use Rattle.gm_ast.specs.declared.surface.SpelledHead.{SpelledHead}
 use Rattle.gm_ast.specs.declared.surface.SpelledTarget.{SpelledTarget}
 use Rattle.gm_ast.specs.declared.surface.CallResult.{CallResult}
 use Rattle.gm_ast.specs.declared.surface.SpelledExpr.{SpelledExpr, fold-SpelledExpr}
 use Rattle.gm_ast.specs.declared.surface.SpelledExpr.TheOpen.{SpelledExpr-F}
 use Rattle.gm_ast.specs.declared.surface.SpelledStmt.{SpelledStmt, fold-SpelledStmt}
-use Rattle.gm_ast.specs.declared.surface.SpelledStmt.TheOpen.{SpelledStmt-F, SpelledReverse-F}
+use Rattle.gm_ast.specs.declared.surface.SpelledStmt.TheOpen.{SpelledStmt-F}
 use Rattle.gm_ast.specs.declared.surface.SpelledGroup.{SpelledGroup}
 use Rattle.gm_ast.specs.declared.surface.SpelledProcedure.{SpelledProcedure}
 use Rattle.gm_ast.specs.Surface as S
@@ -21,14 +21,13 @@ use Rattle.gm_ast.specs.Surface.{SurfaceName, SurfaceType, SurfaceHead, SurfaceT
 abbrev pub name_of : Name → SurfaceName
 name_of x = record { text = x.text.items; place = x.place }
 
--- one level of a type
-abbrev pub type_step : SpelledType-F SurfaceType → SurfaceType
-type_step (SpelledType-F.Plain at w g) = S.Plain at w (option_map name_of g)
-type_step (SpelledType-F.Property at b inner g) = S.Property at b (box_value inner) (option_map name_of g)
+-- a property type around a type
+abbrev pub layer_over : SurfaceType → PropertyLayer → SurfaceType
+layer_over t l = S.Property l.place l.bearer t (option_map name_of l.graph)
 
 -- the syntax of a type
 abbrev pub type_of : SpelledType → SurfaceType
-type_of = fold-SpelledType SurfaceType type_step
+type_of t = fold layer_over (S.Plain t.place t.word (option_map name_of t.graph)) t.layers.items
 
 -- the syntax of what a loop runs over
 abbrev pub head_of : SpelledHead → SurfaceHead
@@ -82,19 +81,8 @@ abbrev pub branch_of : Option (Box SurfaceStmt Global) → SurfaceStmt
 branch_of None = S.Skip
 branch_of (Some s) = box_value s
 
--- the part of a search after InReverse
-pub record Back : Type 0 where
-  pub place : Place
-  pub filter : SurfaceExpr
-  pub body : SurfaceStmt
-
--- a search with or without a part after InReverse
-abbrev pub search_of : Place → SurfaceName → SurfaceName → SurfaceName → SurfaceExpr → SurfaceStmt → Option Back → SurfaceStmt
-search_of at x g root test body None = S.InBfs at x g root test body
-search_of at x g root test body (Some b) = S.InBfsBoth at x g root test body b.place b.filter b.body
-
 -- one level of a statement, with the syntax of its parts in their place
-abbrev pub stmt_step : SpelledStmt-F SurfaceStmt Back → SurfaceStmt
+abbrev pub stmt_step : SpelledStmt-F SurfaceStmt → SurfaceStmt
 stmt_step (SpelledStmt-F.Block stmts) = sequence stmts.items
 stmt_step (SpelledStmt-F.Declare t xs) = S.Declare (type_of t) (map name_of xs.items)
 stmt_step (SpelledStmt-F.DeclareAs t x at e) = S.DeclareAs (type_of t) (name_of x) at (expr_of e)
@@ -107,16 +95,13 @@ stmt_step (SpelledStmt-F.Loop at w h f s) = S.Loop at w (head_of h) (test_of f) 
 stmt_step (SpelledStmt-F.If at c s other) = S.If at (expr_of c) (box_value s) (branch_of other)
 stmt_step (SpelledStmt-F.While at c s) = S.While at (expr_of c) (box_value s)
 stmt_step (SpelledStmt-F.Do at s c) = S.Do at (box_value s) (expr_of c)
-stmt_step (SpelledStmt-F.InBfs at x g root f s back) = search_of at (name_of x) (name_of g) (name_of root) (test_of f) (box_value s) back
+stmt_step (SpelledStmt-F.InBfs at x g root f s) = S.InBfs at (name_of x) (name_of g) (name_of root) (test_of f) (box_value s)
+stmt_step (SpelledStmt-F.InBfsBoth at x g root f s reverse h back) = S.InBfsBoth at (name_of x) (name_of g) (name_of root) (test_of f) (box_value s) reverse (test_of h) (box_value back)
 stmt_step (SpelledStmt-F.Return at e) = S.Return at (option_map expr_of e)
-
--- one level of the part after InReverse
-abbrev pub back_step : SpelledReverse-F SurfaceStmt Back → Back
-back_step b = record { place = b.place; filter = test_of b.filter; body = box_value b.body }
 
 -- the syntax of a statement
 abbrev pub stmt_of : SpelledStmt → SurfaceStmt
-stmt_of = fold-SpelledStmt SurfaceStmt Back stmt_step back_step
+stmt_of = fold-SpelledStmt SurfaceStmt stmt_step
 
 -- the syntax of parameters
 abbrev pub group_of : SpelledGroup → SurfaceGroup

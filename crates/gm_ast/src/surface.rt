@@ -28,20 +28,23 @@ pub enum Bearer {
     Edges,
 }
 
-/// A type as it is written, with the place of its first token and the graph that it names.
+/// A property type's own part: the place of its word, what bears it, and the graph that it names.
 #[derive(Debug, Drop)]
-pub enum SpelledType {
-    Plain {
-        place: Place,
-        word: TypeWord,
-        graph: Option<Name>,
-    },
-    Property {
-        place: Place,
-        bearer: Bearer,
-        inner: Box<SpelledType>,
-        graph: Option<Name>,
-    },
+pub struct PropertyLayer {
+    pub place: Place,
+    pub bearer: Bearer,
+    pub graph: Option<Name>,
+}
+
+/// A type as it is written: the innermost word, with its place and the graph that it names, and the property types
+/// around it, the innermost first. More than one is spelled by no accepted program, but a text may nest as many as
+/// it has bytes for.
+#[derive(Debug, Drop)]
+pub struct SpelledType {
+    pub place: Place,
+    pub word: TypeWord,
+    pub graph: Option<Name>,
+    pub layers: Vec<PropertyLayer>,
 }
 
 /// An operator before its operand.
@@ -180,7 +183,6 @@ pub struct CallResult {
 
 /// A statement, with the place of its first token where a rule may name it, and that of its operator. `;` is a
 /// block of no statements.
-#[cycle(surface)]
 #[derive(Debug, Drop)]
 pub enum SpelledStmt {
     Block(Vec<SpelledStmt>),
@@ -255,21 +257,23 @@ pub enum SpelledStmt {
         root: Name,
         filter: Option<SpelledExpr>,
         body: Box<SpelledStmt>,
-        reverse: Option<SpelledReverse>,
+    },
+    /// A search with a part after `InReverse`, with the place of that word.
+    InBfsBoth {
+        place: Place,
+        iterator: Name,
+        graph: Name,
+        root: Name,
+        filter: Option<SpelledExpr>,
+        body: Box<SpelledStmt>,
+        reverse: Place,
+        back_filter: Option<SpelledExpr>,
+        back: Box<SpelledStmt>,
     },
     Return {
         place: Place,
         value: Option<SpelledExpr>,
     },
-}
-
-/// The part of a search after `InReverse`, with the place of that word.
-#[cycle(surface)]
-#[derive(Debug, Drop)]
-pub struct SpelledReverse {
-    pub place: Place,
-    pub filter: Option<SpelledExpr>,
-    pub body: Box<SpelledStmt>,
 }
 
 /// Parameters of one type.

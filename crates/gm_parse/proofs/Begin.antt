@@ -1,9 +1,9 @@
 -- What a derivation that begins with a word says, and that what is pending can always be finished.
 use Rattle.std.proofs.Common.{◌≡◌, ℕ, zero, suc, Bool, true, false, ◌&&◌, ◌||◌, List, [], ◌∷◌, refl, sym, ap, subst}
 use Rattle.std.proofs.lemmas.Bool.{and_parts, eq-eqb}
-use Rattle.gm_parse.specs.declared.words.Word.{Word}
+use Rattle.gm_token.specs.declared.words.Word.{Word}
 use Rattle.gm_parse.specs.declared.around.Around.{Around}
-use Rattle.gm_parse.specs.declared.words.Word.TheVariants.{Name}
+use Rattle.gm_token.specs.declared.words.Word.TheVariants.{Name}
 use Rattle.gm_parse.specs.Terminals.{number_of, Terminal, The, AnyName, fits}
 use Rattle.gm_parse.specs.Grammar.{Part, Program, Rule, Token, Of, ◌▸◌, ◌∣◌, Maybe, Many, Attached, Within, rule}
 use Rattle.gm_parse.specs.Factored.{factored}

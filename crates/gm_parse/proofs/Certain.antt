@@ -1,7 +1,7 @@
 -- One token of foresight decides every rule of the grammar that the parser follows.
 use Rattle.std.proofs.Common.{◌≡◌, true, refl}
-use Rattle.gm_parse.specs.declared.words.Word.{Word}
-use Rattle.gm_parse.specs.declared.words.Word.TheVariants as words
+use Rattle.gm_token.specs.declared.words.Word.{Word}
+use Rattle.gm_token.specs.declared.words.Word.TheVariants as words
 use Rattle.gm_parse.specs.Grammar.{Part, Program, rule}
 use Rattle.gm_parse.specs.Factored.{factored}
 use Rattle.gm_parse.specs.Foresight.{begins, follows, is_certain}

@@ -3,3 +3,12 @@ mod Begin
 mod Steps
 mod Places
 mod Same
+mod Paths
+mod ChoiceLaws
+mod TreeLaws
+mod Ranks
+mod LevelLaws
+mod NumberLaws
+mod TypeLaws
+mod StatementLaws
+mod Verdict

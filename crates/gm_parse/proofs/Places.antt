@@ -3,7 +3,7 @@ use Rattle.std.proofs.Common.{◌≡◌, ℕ, suc, ◌<◌, ◌≤◌, Bool, tru
 use Rattle.std.proofs.lemmas.Bool.{cases_lt}
 use Rattle.std.proofs.lemmas.List.{append-nil, take-append-drop, take-append-le, take_at}
 use Rattle.std.proofs.Common.{◌⊎◌, inl, inr}
-use Rattle.gm_parse.specs.declared.words.Word.{Word}
+use Rattle.gm_token.specs.declared.words.Word.{Word}
 use Rattle.gm_parse.specs.declared.around.Around.{Around}
 use Rattle.gm_parse.specs.Terminals.{Terminal, fits}
 use Rattle.gm_parse.specs.Grammar.{Token}

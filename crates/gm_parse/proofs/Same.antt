@@ -1,10 +1,10 @@
 -- The grammar and the one that the parser follows derive the same texts, with the same marks.
 use Rattle.std.proofs.Common.{◌≡◌, ℕ, Bool, true, List, [], ◌∷◌, ◌++◌, ◌⊎◌, inl, inr}
-use Rattle.gm_parse.specs.declared.words.Word.{Word}
+use Rattle.gm_token.specs.declared.words.Word.{Word}
 use Rattle.gm_parse.specs.declared.around.Around.{Around}
 use Rattle.gm_parse.specs.Grammar.{Part, Program, Procedure, Statement, Expression, Unary, Disjunction, Conjunction, Equality, Relation, Sum, Product, Primary, Nest, Rule, Token, Of, ◌▸◌, ◌∣◌, Maybe, Many, Attached, Within, the, a_choice, product_sign, sum_sign, relation_sign, equality_sign, rule}
 use Rattle.gm_parse.specs.Factored.{factored, rest, in_parentheses, simple}
-use Rattle.gm_parse.specs.declared.words.Word.TheVariants as words
+use Rattle.gm_token.specs.declared.words.Word.TheVariants as words
 use Rattle.gm_parse.specs.Derivation.{enter, Pending, Nothing, Next, Derives, Begins, BeginsProgram, IsProgram, IsSyntaxPlace, IsTooDeepAt, NoneTooDeepBefore, IsFirstSyntax, IsFirstTooDeep, IsShallowProgram}
 
 -- what is pending is p, q or r beneath the same rules
@@ -89,12 +89,12 @@ module _ (g : Part → Rule) where
 
 primary_forth : {i : ℕ} {a : Around} {p : Pending} {ws : List Word} {ms : List Bool} → Derives factored i (Next (rule Primary) a p) ws ms → Derives factored i (Next (in_parentheses ∣ simple) a p) ws ms
 unfolding rule factored
-primary_forth (Derives.left d) = Derives.right (Derives.left d)
-primary_forth (Derives.right (Derives.left d)) = Derives.right (Derives.right (Derives.left d))
-primary_forth (Derives.right (Derives.right (Derives.left d))) = Derives.right (Derives.right (Derives.right (Derives.left d)))
-primary_forth (Derives.right (Derives.right (Derives.right (Derives.left d)))) = Derives.right (Derives.right (Derives.right (Derives.right (Derives.left d))))
-primary_forth (Derives.right (Derives.right (Derives.right (Derives.right (Derives.left d))))) = Derives.right (Derives.right (Derives.right (Derives.right (Derives.right (Derives.left d)))))
-primary_forth (Derives.right (Derives.right (Derives.right (Derives.right (Derives.right (Derives.left d)))))) = Derives.right (Derives.right (Derives.right (Derives.right (Derives.right (Derives.right (Derives.left d))))))
+primary_forth (Derives.left d) = Derives.right (Derives.right (Derives.left d))
+primary_forth (Derives.right (Derives.left d)) = Derives.right (Derives.right (Derives.right (Derives.left d)))
+primary_forth (Derives.right (Derives.right (Derives.left d))) = Derives.right (Derives.right (Derives.right (Derives.right (Derives.left d))))
+primary_forth (Derives.right (Derives.right (Derives.right (Derives.left d)))) = Derives.right (Derives.right (Derives.right (Derives.right (Derives.right (Derives.left d)))))
+primary_forth (Derives.right (Derives.right (Derives.right (Derives.right (Derives.left d))))) = Derives.right (Derives.right (Derives.right (Derives.right (Derives.right (Derives.right (Derives.left d))))))
+primary_forth (Derives.right (Derives.right (Derives.right (Derives.right (Derives.right (Derives.left d)))))) = Derives.right (Derives.left d)
 primary_forth (Derives.right (Derives.right (Derives.right (Derives.right (Derives.right (Derives.right (Derives.left d))))))) = Derives.right (Derives.right (Derives.right (Derives.right (Derives.right (Derives.right (Derives.right d))))))
 primary_forth (Derives.right (Derives.right (Derives.right (Derives.right (Derives.right (Derives.right (Derives.right (Derives.both (Derives.token e d))))))))) = Derives.left (Derives.both (Derives.token e (Derives.right d)))
 
@@ -113,12 +113,12 @@ unary_back (Derives.right (Derives.left d)) = Derives.right (Derives.left d)
 unary_back (Derives.right (Derives.right (Derives.left d))) = Derives.right (Derives.right (Derives.left d))
 unary_back (Derives.right (Derives.right (Derives.right (Derives.left (Derives.both (Derives.token e (Derives.left d))))))) = Derives.right (Derives.right (Derives.right (Derives.left (Derives.both (Derives.token e d)))))
 unary_back (Derives.right (Derives.right (Derives.right (Derives.left (Derives.both (Derives.token e (Derives.right d))))))) = Derives.right (Derives.right (Derives.right (Derives.right (Derives.part (Derives.right (Derives.right (Derives.right (Derives.right (Derives.right (Derives.right (Derives.right (Derives.both (Derives.token e d)))))))))))))
-unary_back (Derives.right (Derives.right (Derives.right (Derives.right (Derives.left d))))) = Derives.right (Derives.right (Derives.right (Derives.right (Derives.part (Derives.left d)))))
-unary_back (Derives.right (Derives.right (Derives.right (Derives.right (Derives.right (Derives.left d)))))) = Derives.right (Derives.right (Derives.right (Derives.right (Derives.part (Derives.right (Derives.left d))))))
-unary_back (Derives.right (Derives.right (Derives.right (Derives.right (Derives.right (Derives.right (Derives.left d))))))) = Derives.right (Derives.right (Derives.right (Derives.right (Derives.part (Derives.right (Derives.right (Derives.left d)))))))
-unary_back (Derives.right (Derives.right (Derives.right (Derives.right (Derives.right (Derives.right (Derives.right (Derives.left d)))))))) = Derives.right (Derives.right (Derives.right (Derives.right (Derives.part (Derives.right (Derives.right (Derives.right (Derives.left d))))))))
-unary_back (Derives.right (Derives.right (Derives.right (Derives.right (Derives.right (Derives.right (Derives.right (Derives.right (Derives.left d))))))))) = Derives.right (Derives.right (Derives.right (Derives.right (Derives.part (Derives.right (Derives.right (Derives.right (Derives.right (Derives.left d)))))))))
-unary_back (Derives.right (Derives.right (Derives.right (Derives.right (Derives.right (Derives.right (Derives.right (Derives.right (Derives.right (Derives.left d)))))))))) = Derives.right (Derives.right (Derives.right (Derives.right (Derives.part (Derives.right (Derives.right (Derives.right (Derives.right (Derives.right (Derives.left d))))))))))
+unary_back (Derives.right (Derives.right (Derives.right (Derives.right (Derives.left d))))) = Derives.right (Derives.right (Derives.right (Derives.right (Derives.part (Derives.right (Derives.right (Derives.right (Derives.right (Derives.right (Derives.left d))))))))))
+unary_back (Derives.right (Derives.right (Derives.right (Derives.right (Derives.right (Derives.left d)))))) = Derives.right (Derives.right (Derives.right (Derives.right (Derives.part (Derives.left d)))))
+unary_back (Derives.right (Derives.right (Derives.right (Derives.right (Derives.right (Derives.right (Derives.left d))))))) = Derives.right (Derives.right (Derives.right (Derives.right (Derives.part (Derives.right (Derives.left d))))))
+unary_back (Derives.right (Derives.right (Derives.right (Derives.right (Derives.right (Derives.right (Derives.right (Derives.left d)))))))) = Derives.right (Derives.right (Derives.right (Derives.right (Derives.part (Derives.right (Derives.right (Derives.left d)))))))
+unary_back (Derives.right (Derives.right (Derives.right (Derives.right (Derives.right (Derives.right (Derives.right (Derives.right (Derives.left d))))))))) = Derives.right (Derives.right (Derives.right (Derives.right (Derives.part (Derives.right (Derives.right (Derives.right (Derives.left d))))))))
+unary_back (Derives.right (Derives.right (Derives.right (Derives.right (Derives.right (Derives.right (Derives.right (Derives.right (Derives.right (Derives.left d)))))))))) = Derives.right (Derives.right (Derives.right (Derives.right (Derives.part (Derives.right (Derives.right (Derives.right (Derives.right (Derives.left d)))))))))
 unary_back (Derives.right (Derives.right (Derives.right (Derives.right (Derives.right (Derives.right (Derives.right (Derives.right (Derives.right (Derives.right d)))))))))) = Derives.right (Derives.right (Derives.right (Derives.right (Derives.part (Derives.right (Derives.right (Derives.right (Derives.right (Derives.right (Derives.right (Derives.left d)))))))))))
 
 -- ---- an expression

@@ -1,9 +1,9 @@
 -- The moves of the parser go along every derivation: one turn, and one word.
 use Rattle.std.proofs.Common.{◌≡◌, ℕ, Bool, true, false, not, ◌&&◌, ◌||◌, List, [], ◌∷◌, Option, refl, sym, ap, subst, ◌∙◌}
 use Rattle.std.proofs.lemmas.Bool.{and_parts, and_from, not-true, false≢true}
-use Rattle.gm_parse.specs.declared.words.Word.{Word}
+use Rattle.gm_token.specs.declared.words.Word.{Word}
 use Rattle.gm_parse.specs.declared.around.Around.{Around}
-use Rattle.gm_parse.specs.declared.words.Word.TheVariants.{Name}
+use Rattle.gm_token.specs.declared.words.Word.TheVariants.{Name}
 use Rattle.gm_parse.specs.Terminals.{Terminal}
 use Rattle.gm_parse.specs.Grammar.{Part, Nest, Rule, Token, Of, ◌▸◌, ◌∣◌, Maybe, Many, Attached, Within, rule}
 use Rattle.gm_parse.specs.Factored.{factored}

@@ -1,6 +1,6 @@
 -- Which texts a grammar derives, and where a text stops to begin a program.
 use Rattle.std.specs.Prelude.{◌≡◌, ℕ, suc, ◌-◌, ◌<◌, ◌≤◌, Bool, true, false, ◌||◌, nat_lt, nat_le, List, [], ◌∷◌, ◌++◌, length, take, Option, Some, None}
-use Rattle.gm_parse.specs.declared.words.Word.{Word}
+use Rattle.gm_token.specs.declared.words.Word.{Word}
 use Rattle.gm_parse.specs.declared.around.Around.{Around}
 use Rattle.gm_parse.specs.Terminals.{Terminal, fits}
 use Rattle.gm_parse.specs.Grammar.{Part, Program, Nest, InStatement, InExpression, Rule, Token, Of, ◌▸◌, ◌∣◌, Maybe, Many, Attached, Within}

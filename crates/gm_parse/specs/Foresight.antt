@@ -1,10 +1,10 @@
 -- One token of foresight: what each part may begin with and what may follow it, and the moves that it decides.
 use Rattle.std.specs.Prelude.{◌≡◌, ℕ, suc, Bool, true, false, not, ◌&&◌, ◌||◌, nat_eq, List, [], ◌∷◌, ◌++◌, Option, Some, None}
 use Rattle.gm_parse.specs.declared.around.Around.{Around}
-use Rattle.gm_parse.specs.declared.words.Word.{Word}
-use Rattle.gm_parse.specs.declared.words.Word.TheVariants as words
+use Rattle.gm_token.specs.declared.words.Word.{Word}
+use Rattle.gm_token.specs.declared.words.Word.TheVariants as words
 use Rattle.gm_parse.specs.Terminals.{number_of, Terminal, fits}
-use Rattle.gm_parse.specs.Grammar.{Part, Program, Procedure, Parameters, Group, TypeName, OfGraph, Block, Statement, AtName, Target, ReduceSign, Filter, Range, Expression, Disjunction, Conjunction, Equality, Relation, Sum, Product, Unary, Primary, Reduction, Head, Nest, Rule, Token, Of, ◌▸◌, ◌∣◌, Maybe, Many, Attached, Within}
+use Rattle.gm_parse.specs.Grammar.{Part, Program, Procedure, Parameters, Group, TypeName, OfGraph, Block, Statement, AtName, Target, ReduceSign, Condition, Range, Expression, Disjunction, Conjunction, Equality, Relation, Sum, Product, Unary, Primary, Reduction, Head, Braces, SearchHead, Reverse, Nest, Rule, Token, Of, ◌▸◌, ◌∣◌, Maybe, Many, Attached, Within}
 use Rattle.gm_parse.specs.Factored.{factored}
 use Rattle.gm_parse.specs.Derivation.{enter, Pending, Next, is_too_deep}
 
@@ -45,7 +45,7 @@ begins Statement = statement_words
 begins AtName = words.At ∷ []
 begins Target = names
 begins ReduceSign = words.PlusAssign ∷ words.StarAssign ∷ words.MinAssign ∷ words.MaxAssign ∷ words.AndAndAssign ∷ words.OrOrAssign ∷ words.AndAssign ∷ words.OrAssign ∷ []
-begins Filter = words.LeftParen ∷ []
+begins Condition = words.LeftParen ∷ []
 begins Range = names
 begins Expression = operand_words
 begins Disjunction = operand_words
@@ -58,6 +58,9 @@ begins Unary = operand_words
 begins Primary = names ++ (words.LeftParen ∷ words.Inf ∷ words.Number ∷ words.True ∷ words.False ∷ words.Nil ∷ words.Sum ∷ words.Product ∷ words.Min ∷ words.Max ∷ words.All ∷ words.Exist ∷ words.Count ∷ [])
 begins Reduction = words.Sum ∷ words.Product ∷ words.Min ∷ words.Max ∷ words.All ∷ words.Exist ∷ words.Count ∷ []
 begins Head = words.LeftParen ∷ []
+begins Braces = words.LeftBrace ∷ []
+begins SearchHead = words.LeftParen ∷ []
+begins Reverse = words.InReverse ∷ []
 
 -- the words that may follow a part
 unfoldable pub follows : Part → List Word
@@ -72,7 +75,7 @@ follows Statement = statement_words ++ (words.RightBrace ∷ words.Else ∷ [])
 follows AtName = words.Semicolon ∷ []
 follows Target = words.Assign ∷ words.LessEqual ∷ words.PlusPlus ∷ words.PlusAssign ∷ words.StarAssign ∷ words.MinAssign ∷ words.MaxAssign ∷ words.AndAndAssign ∷ words.OrOrAssign ∷ words.AndAssign ∷ words.OrAssign ∷ []
 follows ReduceSign = operand_words
-follows Filter = statement_words ++ (words.RightParen ∷ words.Colon ∷ words.Less ∷ words.Greater ∷ words.RightBrace ∷ words.LessEqual ∷ words.At ∷ words.Star ∷ words.Slash ∷ words.Percent ∷ words.Plus ∷ words.Minus ∷ words.GreaterEqual ∷ words.Equal ∷ words.NotEqual ∷ words.AndAnd ∷ words.OrOr ∷ words.Question ∷ [])
+follows Condition = statement_words ++ (words.RightParen ∷ words.Colon ∷ words.Less ∷ words.Greater ∷ words.RightBrace ∷ words.LessEqual ∷ words.At ∷ words.Star ∷ words.Slash ∷ words.Percent ∷ words.Plus ∷ words.Minus ∷ words.GreaterEqual ∷ words.Equal ∷ words.NotEqual ∷ words.AndAnd ∷ words.OrOr ∷ words.Question ∷ [])
 follows Range = words.RightParen ∷ []
 follows Expression = after_expression
 follows Disjunction = []
@@ -84,7 +87,10 @@ follows Product = after_expression ++ (words.Less ∷ words.Greater ∷ words.Le
 follows Unary = after_expression ++ (words.Less ∷ words.Greater ∷ words.LessEqual ∷ words.Star ∷ words.Slash ∷ words.Percent ∷ words.Plus ∷ words.Minus ∷ words.GreaterEqual ∷ words.Equal ∷ words.NotEqual ∷ words.AndAnd ∷ words.OrOr ∷ words.Question ∷ [])
 follows Primary = []
 follows Reduction = after_expression ++ (words.Less ∷ words.Greater ∷ words.LessEqual ∷ words.Star ∷ words.Slash ∷ words.Percent ∷ words.Plus ∷ words.Minus ∷ words.GreaterEqual ∷ words.Equal ∷ words.NotEqual ∷ words.AndAnd ∷ words.OrOr ∷ words.Question ∷ [])
-follows Head = after_expression ++ (words.Less ∷ words.Greater ∷ words.LeftBrace ∷ words.LessEqual ∷ words.Star ∷ words.Slash ∷ words.Percent ∷ words.Plus ∷ words.Minus ∷ words.GreaterEqual ∷ words.Equal ∷ words.NotEqual ∷ words.AndAnd ∷ words.OrOr ∷ words.Question ∷ [])
+follows Head = statement_words ++ (words.RightParen ∷ words.Colon ∷ words.Less ∷ words.Greater ∷ words.RightBrace ∷ words.LessEqual ∷ words.At ∷ words.Star ∷ words.Slash ∷ words.Percent ∷ words.Plus ∷ words.Minus ∷ words.GreaterEqual ∷ words.Equal ∷ words.NotEqual ∷ words.AndAnd ∷ words.OrOr ∷ words.Question ∷ [])
+follows Braces = after_expression ++ (words.Less ∷ words.Greater ∷ words.LessEqual ∷ words.Star ∷ words.Slash ∷ words.Percent ∷ words.Plus ∷ words.Minus ∷ words.GreaterEqual ∷ words.Equal ∷ words.NotEqual ∷ words.AndAnd ∷ words.OrOr ∷ words.Question ∷ [])
+follows SearchHead = words.LeftBrace ∷ []
+follows Reverse = statement_words ++ (words.RightBrace ∷ words.Else ∷ [])
 
 -- the parts that may derive nothing: none
 abbrev pub is_part_empty : Part → Bool

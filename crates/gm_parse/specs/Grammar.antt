@@ -1,7 +1,7 @@
 -- The grammar. `▸` is a sequence, `∣` a choice, `Maybe` an optional part, `Many` any number of
 -- repetitions, and `Attached k x` an optional `k x` that is there wherever `k` comes next. `Within` says what nests.
-use Rattle.gm_parse.specs.declared.words.Word.{Word}
-use Rattle.gm_parse.specs.declared.words.Word.TheVariants as words
+use Rattle.gm_token.specs.declared.words.Word.{Word}
+use Rattle.gm_token.specs.declared.words.Word.TheVariants as words
 use Rattle.gm_parse.specs.Terminals.{Terminal, The, AnyName}
 
 pub data Part : Type 0 where
@@ -16,7 +16,7 @@ pub data Part : Type 0 where
   AtName : Part
   Target : Part
   ReduceSign : Part
-  Filter : Part
+  Condition : Part
   Range : Part
   Expression : Part
   Disjunction : Part
@@ -29,6 +29,9 @@ pub data Part : Type 0 where
   Primary : Part
   Reduction : Part
   Head : Part
+  Braces : Part
+  SearchHead : Part
+  Reverse : Part
 
 -- what nests: a statement in others, and an expression, whose parts are expressions too
 pub data Nest : Type 0 where
@@ -55,6 +58,34 @@ the w = Token (The w)
 abbrev pub a_name : Rule
 a_name = Token AnyName
 
+-- the word of a procedure
+abbrev pub procedure_sign : Rule
+procedure_sign = the words.Procedure ∣ the words.Proc
+
+-- the types that name no graph
+abbrev pub bare_sign : Rule
+bare_sign = the words.IntType ∣ the words.LongType ∣ the words.BoolType ∣ the words.Graph ∣ the words.DGraph
+
+-- the types that may name their graph
+abbrev pub element_sign : Rule
+element_sign = the words.Node ∣ the words.Edge
+
+-- the words of property types
+abbrev pub bearer_sign : Rule
+bearer_sign = the words.NP ∣ the words.NodeProp ∣ the words.NodeProperty ∣ the words.EP ∣ the words.EdgeProp ∣ the words.EdgeProperty
+
+-- the word of a loop
+abbrev pub loop_word_sign : Rule
+loop_word_sign = the words.Foreach ∣ the words.For
+
+-- what of a node or of the graph a range is
+abbrev pub range_sign : Rule
+range_sign = the words.Nodes ∣ the words.Nbrs ∣ the words.OutNbrs ∣ the words.InNbrs ∣ the words.UpNbrs ∣ the words.DownNbrs
+
+-- what stands before the root of a search
+abbrev pub from_sign : Rule
+from_sign = the words.From ∣ the words.Semicolon
+
 -- the operators between factors
 abbrev pub product_sign : Rule
 product_sign = the words.Star ∣ the words.Slash ∣ the words.Percent
@@ -71,13 +102,25 @@ relation_sign = the words.Less ∣ the words.Greater ∣ the words.LessEqual ∣
 abbrev pub equality_sign : Rule
 equality_sign = the words.Equal ∣ the words.NotEqual
 
--- what of a node or of the graph a range is
-abbrev pub range_word : Rule
-range_word = the words.Nodes ∣ the words.Nbrs ∣ the words.OutNbrs ∣ the words.InNbrs ∣ the words.UpNbrs ∣ the words.DownNbrs
+-- the reductions of the values in their braces
+abbrev pub value_sign : Rule
+value_sign = the words.Sum ∣ the words.Product ∣ the words.Min ∣ the words.Max ∣ the words.All
+
+-- the reductions of a condition, whose braces may be absent
+abbrev pub test_sign : Rule
+test_sign = the words.Exist ∣ the words.Count
+
+-- the type of a cast
+abbrev pub cast_sign : Rule
+cast_sign = the words.IntType ∣ the words.LongType
+
+-- a property type
+abbrev pub a_property : Rule
+a_property = bearer_sign ▸ the words.Less ▸ Of TypeName ▸ the words.Greater ▸ Maybe (Of OfGraph)
 
 -- a declaration, with an initial value or of further names
 abbrev pub a_declaration : Rule
-a_declaration = Of TypeName ▸ a_name ▸ Maybe (the words.Assign ▸ Of Expression ∣ the words.Comma ▸ a_name ▸ Many (the words.Comma ▸ a_name)) ▸ the words.Semicolon
+a_declaration = Of TypeName ▸ a_name ▸ (the words.Assign ▸ Of Expression ∣ Many (the words.Comma ▸ a_name)) ▸ the words.Semicolon
 
 -- what makes an assignment of a target
 abbrev pub a_value : Rule
@@ -97,27 +140,23 @@ an_increment = the words.PlusPlus ▸ the words.Semicolon
 
 -- a loop over nodes
 abbrev pub a_loop : Rule
-a_loop = (the words.Foreach ∣ the words.For) ▸ the words.LeftParen ▸ a_name ▸ the words.Colon ▸ Of Range ▸ the words.RightParen ▸ Maybe (Of Filter) ▸ Of Statement
+a_loop = loop_word_sign ▸ Of Head ▸ Of Statement
 
 -- a condition; an Else belongs to the nearest If that has none
 abbrev pub an_if : Rule
-an_if = the words.If ▸ the words.LeftParen ▸ Of Expression ▸ the words.RightParen ▸ Of Statement ▸ Attached (The words.Else) (Of Statement)
+an_if = the words.If ▸ Of Condition ▸ Of Statement ▸ Attached (The words.Else) (Of Statement)
 
 -- a loop with its test first
 abbrev pub a_while : Rule
-a_while = the words.While ▸ the words.LeftParen ▸ Of Expression ▸ the words.RightParen ▸ Of Statement
+a_while = the words.While ▸ Of Condition ▸ Of Statement
 
 -- a loop with its test last
 abbrev pub a_do : Rule
-a_do = the words.Do ▸ Of Block ▸ the words.While ▸ the words.LeftParen ▸ Of Expression ▸ the words.RightParen ▸ the words.Semicolon
-
--- the way back of a search
-abbrev pub a_reverse : Rule
-a_reverse = the words.InReverse ▸ Maybe (Of Filter) ▸ Of Block
+a_do = the words.Do ▸ Of Block ▸ the words.While ▸ Of Condition ▸ the words.Semicolon
 
 -- a breadth-first search
 abbrev pub a_search : Rule
-a_search = the words.InBFS ▸ the words.LeftParen ▸ a_name ▸ the words.Colon ▸ a_name ▸ the words.Dot ▸ the words.Nodes ▸ (the words.From ∣ the words.Semicolon) ▸ a_name ▸ the words.RightParen ▸ Maybe (Of Filter) ▸ Of Block ▸ Maybe a_reverse
+a_search = the words.InBFS ▸ Of SearchHead ▸ Of Block ▸ Maybe (Of Reverse)
 
 -- a return
 abbrev pub a_return : Rule
@@ -131,25 +170,21 @@ a_choice = the words.Question ▸ Of Expression ▸ the words.Colon ▸ Of Expre
 abbrev pub a_member : Rule
 a_member = a_name ▸ Maybe (the words.Dot ▸ a_name ▸ Maybe (the words.LeftParen ▸ the words.RightParen))
 
--- the braces of a reduction
-abbrev pub body_in_braces : Rule
-body_in_braces = the words.LeftBrace ▸ Of Expression ▸ the words.RightBrace
-
 -- The grammar: one equation for each part.
 unfoldable pub rule : Part → Rule
 rule Program = Of Procedure
-rule Procedure = (the words.Procedure ∣ the words.Proc) ▸ a_name ▸ the words.LeftParen ▸ Maybe (Of Parameters) ▸ Maybe (the words.Semicolon ▸ Maybe (Of Parameters)) ▸ the words.RightParen ▸ Maybe (the words.Colon ▸ Of TypeName) ▸ Of Block
+rule Procedure = procedure_sign ▸ a_name ▸ the words.LeftParen ▸ Maybe (Of Parameters) ▸ Maybe (the words.Semicolon ▸ Maybe (Of Parameters)) ▸ the words.RightParen ▸ Maybe (the words.Colon ▸ Of TypeName) ▸ Of Block
 rule Parameters = Of Group ▸ Many (the words.Comma ▸ Of Group)
 rule Group = a_name ▸ Many (the words.Comma ▸ a_name) ▸ the words.Colon ▸ Of TypeName
-rule TypeName = the words.IntType ∣ the words.LongType ∣ the words.BoolType ∣ the words.Graph ∣ the words.DGraph ∣ (the words.Node ∣ the words.Edge) ▸ Maybe (Of OfGraph) ∣ (the words.NP ∣ the words.NodeProp ∣ the words.NodeProperty) ▸ the words.Less ▸ Of TypeName ▸ the words.Greater ▸ Maybe (Of OfGraph) ∣ (the words.EP ∣ the words.EdgeProp ∣ the words.EdgeProperty) ▸ the words.Less ▸ Of TypeName ▸ the words.Greater ▸ Maybe (Of OfGraph)
+rule TypeName = bare_sign ∣ element_sign ▸ Maybe (Of OfGraph) ∣ a_property
 rule OfGraph = the words.LeftParen ▸ a_name ▸ the words.RightParen
 rule Block = the words.LeftBrace ▸ Many (Of Statement) ▸ the words.RightBrace
 rule Statement = Within InStatement (Of Block ∣ the words.Semicolon ∣ a_declaration ∣ Of Target ▸ a_value ∣ Of Target ▸ a_deferred_value ∣ Of Target ▸ a_reduced_value ∣ Of Target ▸ an_increment ∣ a_loop ∣ an_if ∣ a_while ∣ a_do ∣ a_search ∣ a_return)
 rule AtName = the words.At ▸ a_name
 rule Target = a_name ▸ Maybe (the words.Dot ▸ a_name)
 rule ReduceSign = the words.PlusAssign ∣ the words.StarAssign ∣ the words.MinAssign ∣ the words.MaxAssign ∣ the words.AndAndAssign ∣ the words.OrOrAssign ∣ the words.AndAssign ∣ the words.OrAssign
-rule Filter = the words.LeftParen ▸ Of Expression ▸ the words.RightParen
-rule Range = a_name ▸ the words.Dot ▸ range_word
+rule Condition = the words.LeftParen ▸ Of Expression ▸ the words.RightParen
+rule Range = a_name ▸ the words.Dot ▸ range_sign
 rule Expression = Within InExpression (Of Disjunction ▸ Maybe a_choice)
 rule Disjunction = Of Conjunction ▸ Many (the words.OrOr ▸ Of Conjunction)
 rule Conjunction = Of Equality ▸ Many (the words.AndAnd ▸ Of Equality)
@@ -157,7 +192,10 @@ rule Equality = Of Relation ▸ Many (equality_sign ▸ Of Relation)
 rule Relation = Of Sum ▸ Maybe (relation_sign ▸ Of Sum)
 rule Sum = Of Product ▸ Many (sum_sign ▸ Of Product)
 rule Product = Of Unary ▸ Many (product_sign ▸ Of Unary)
-rule Unary = the words.Bang ▸ Of Unary ∣ the words.Minus ▸ Of Unary ∣ the words.Plus ▸ the words.Inf ∣ the words.LeftParen ▸ (the words.IntType ∣ the words.LongType) ▸ the words.RightParen ▸ Of Unary ∣ Of Primary
+rule Unary = the words.Bang ▸ Of Unary ∣ the words.Minus ▸ Of Unary ∣ the words.Plus ▸ the words.Inf ∣ the words.LeftParen ▸ cast_sign ▸ the words.RightParen ▸ Of Unary ∣ Of Primary
 rule Primary = the words.Number ∣ the words.True ∣ the words.False ∣ the words.Nil ∣ the words.Inf ∣ Of Reduction ∣ a_member ∣ the words.LeftParen ▸ Of Expression ▸ the words.RightParen
-rule Reduction = (the words.Sum ∣ the words.Product ∣ the words.Min ∣ the words.Max ∣ the words.All) ▸ Of Head ▸ body_in_braces ∣ (the words.Exist ∣ the words.Count) ▸ Of Head ▸ Maybe body_in_braces
-rule Head = the words.LeftParen ▸ a_name ▸ the words.Colon ▸ Of Range ▸ the words.RightParen ▸ Maybe (Of Filter)
+rule Reduction = value_sign ▸ Of Head ▸ Of Braces ∣ test_sign ▸ Of Head ▸ Maybe (Of Braces)
+rule Head = the words.LeftParen ▸ a_name ▸ the words.Colon ▸ Of Range ▸ the words.RightParen ▸ Maybe (Of Condition)
+rule Braces = the words.LeftBrace ▸ Of Expression ▸ the words.RightBrace
+rule SearchHead = the words.LeftParen ▸ a_name ▸ the words.Colon ▸ a_name ▸ the words.Dot ▸ the words.Nodes ▸ from_sign ▸ a_name ▸ the words.RightParen ▸ Maybe (Of Condition)
+rule Reverse = the words.InReverse ▸ Maybe (Of Condition) ▸ Of Block

@@ -3,3 +3,8 @@ pub mod Grammar
 pub mod Factored
 pub mod Derivation
 pub mod Foresight
+pub mod Goes
+pub mod Choices
+pub mod Levels
+pub mod Trees
+pub mod Refused
