@@ -4,12 +4,11 @@ ghost use Rattle.std.specs.Prelude.{◌≡◌, Some};
 ghost use Rattle.gm_base.specs.declared.rules.Stop.TheVariants.{NoMemory};
 ghost use Rattle.gm_base.specs.Rules.{rank_of, rule_text, refusal_lt, refusal_text, lesser};
 
+use crate::places::Place;
+use crate::wants::NoMemory;
 use std::alloc::{AllocError, AllocFailed};
 use std::error::Error;
 use std::fmt;
-
-use crate::places::Place;
-use crate::wants::NoMemory;
 
 /// A rule that a text may break. The rules stand in the order in which they are judged at one place.
 #[derive(Clone, Copy, Debug, PartialEq, Eq, Hash)]

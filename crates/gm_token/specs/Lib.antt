@@ -5,3 +5,5 @@ pub mod Tokens
 pub mod Spellings
 pub mod Scanning
 pub mod Rows
+pub mod Fronts
+pub mod Parts

@@ -29,7 +29,7 @@ pub record IsLineComment (bs rest : List ℕ) : Type 0 where
 
 -- a `*/` stands somewhere in these bytes
 abbrev pub HasCommentEnd : List ℕ → Type 0
-HasCommentEnd bs = (before : List ℕ) × ((after : List ℕ) × (bs ≡ before ++ codes "*/" ++ after))
+HasCommentEnd bs = (before : List ℕ) × ((after : List ℕ) × (bs ≡ before ++ (codes "*/" ++ after)))
 
 -- `/*` and a body, and the first `*/` after that `/*`
 pub record IsBlockComment (bs : List ℕ) : Type 0 where
@@ -59,9 +59,9 @@ pub data Scans : Place → List ℕ → List Token → Place → List ℕ → Ty
   token : {at to : Place} {w : Word} {bs rest left : List ℕ} {ts : List Token} → IsLongestToken w bs rest → ¬ IsTooLarge bs → Scans (past at bs) rest ts to left
       → Scans at (bs ++ rest) (record { word = w; place = at; text = bs } ∷ ts) to left
 
--- these are the tokens of the whole text, and the place after its last byte
+-- the text is within the limit, and these are its tokens and the place after its last byte
 abbrev pub IsScanOf : List ℕ → Listing → Type 0
-IsScanOf text it = Scans start text it.tokens it.end []
+IsScanOf text it = (length text ≤ MAX_TEXT) × Scans start text it.tokens it.end []
 
 -- ---- refusals
 
@@ -98,7 +98,11 @@ pub record IsFirstBroken (text : List ℕ) (it : Refusal) : Type 0 where
 abbrev pub too_long : List ℕ → Refusal
 too_long text = record { rule = TextTooLong; place = past start (take MAX_TEXT text) }
 
--- why a text has no tokens: it is too long, or else at the first place where a rule is broken
+-- a text is refused so: where it is too long, and else where its first rule is broken
+abbrev pub IsRefusalOf : List ℕ → Refusal → Type 0
+IsRefusalOf text it = ((MAX_TEXT < length text) × (it ≡ too_long text)) ⊎ ((length text ≤ MAX_TEXT) × IsFirstBroken text it)
+
+-- why a text was given no tokens: it is refused so, or there was not enough memory
 abbrev pub IsStopOf : List ℕ → Stop → Type 0
-IsStopOf text (Refused it) = ((MAX_TEXT < length text) × (it ≡ too_long text)) ⊎ ((length text ≤ MAX_TEXT) × IsFirstBroken text it)
+IsStopOf text (Refused it) = IsRefusalOf text it
 IsStopOf text NoMemory = Unit {0}

@@ -1,10 +1,10 @@
 -- What a token may be made of, and what may follow it.
-use Rattle.std.specs.Prelude.{◌≡◌, ℕ, ◌+◌, ◌*◌, ◌-◌, fold, Bool, true, false, not, ◌||◌, nat_eq, List, [], ◌∷◌, ◌++◌, Some, codes}
+use Rattle.std.specs.Prelude.{◌≡◌, ℕ, ◌+◌, ◌*◌, ◌-◌, fold, Bool, true, false, not, ◌||◌, nat_eq, List, [], ◌∷◌, ◌++◌, Contains, codes}
 use Rattle.std.specs.List.{AllPass}
 use Rattle.gm_token.specs.declared.words.Word.{Word}
 use Rattle.gm_token.specs.declared.words.Word.TheVariants.{Number, Real, Slash, MinAssign, MaxAssign}
 use Rattle.gm_token.specs.Bytes.{is_digit, begins_name, goes_on_name}
-use Rattle.gm_token.specs.Words.{symbols, word_in, name_word}
+use Rattle.gm_token.specs.Words.{symbols, name_word}
 
 -- a letter or `_`, then letters, digits and `_`
 abbrev pub IsName : List ℕ → Type 0
@@ -18,7 +18,7 @@ IsNumber (b ∷ bs) = AllPass is_digit (b ∷ bs)
 
 -- digits, a dot and digits
 abbrev pub IsReal : List ℕ → Type 0
-IsReal bs = (whole : List ℕ) × ((part : List ℕ) × IsNumber whole × IsNumber part × (bs ≡ whole ++ codes "." ++ part))
+IsReal bs = (whole : List ℕ) × ((part : List ℕ) × IsNumber whole × IsNumber part × (bs ≡ whole ++ (codes "." ++ part)))
 
 -- the number that decimal digits say, the most significant one first
 abbrev pub decimal_value : List ℕ → ℕ
@@ -42,4 +42,4 @@ pub data IsToken : Word → List ℕ → List ℕ → Type 0 where
   name : {w : Word} {bs rest : List ℕ} → IsName bs → w ≡ name_word bs → IsToken w bs rest
   number : {w : Word} {bs rest : List ℕ} → IsNumber bs → w ≡ Number → IsToken w bs rest
   real : {w : Word} {bs rest : List ℕ} → IsReal bs → w ≡ Real → IsToken w bs rest
-  symbol : {w : Word} {bs rest : List ℕ} → word_in symbols bs ≡ Some w → may_precede w rest ≡ true → IsToken w bs rest
+  symbol : {w : Word} {bs rest : List ℕ} → Contains symbols (bs, w) → may_precede w rest ≡ true → IsToken w bs rest

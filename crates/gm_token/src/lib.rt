@@ -3,9 +3,14 @@
 
 mod bytes;
 mod limits;
+mod lookups;
 mod numbers;
+mod parts;
+mod passes;
 mod scanned;
 mod scanner;
+#[cfg(test)]
+mod tests;
 mod words;
 
 pub use limits::{MAX_NUMBER, MAX_TEXT};

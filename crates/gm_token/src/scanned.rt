@@ -10,20 +10,20 @@ use std::marker::Model;
 
 /// A token as it is kept: its word, where its bytes stand in the text, and its place.
 #[derive(Drop)]
-struct Row {
-    word: Word,
-    offset: u32,
-    length: u32,
-    place: Place,
+pub(crate) struct Row {
+    pub(crate) word: Word,
+    pub(crate) offset: u32,
+    pub(crate) length: u32,
+    pub(crate) place: Place,
 }
 
 /// The tokens of a text in their order, which contracts see as the list of their words, places and bytes. It
 /// borrows the text.
 #[derive(Drop)]
 pub struct Tokens<'a> {
-    text: &'a [u8],
-    rows: Vec<Row>,
-    end: Place,
+    pub(crate) text: &'a [u8],
+    pub(crate) rows: Vec<Row>,
+    pub(crate) end: Place,
 }
 
 // The bytes of a row's token.
