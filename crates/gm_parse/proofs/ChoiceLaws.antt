@@ -169,7 +169,7 @@ reduce_part (Some words.Name) = refl
 reduce_part (Some _) = refl
 
 pub sees_reduce : (y : Rule) {ws : List Word} {i : ℕ} {t b : Bool} → IsChoiceOf (rule ReduceSign) t (next (drop i ws)) → t ≡ b → Sees ws i (Of ReduceSign ▸ y) b
-sees_reduce y {ws} {i} s e = sees_first (Of ReduceSign) y refl (record { holds = reduce_part (next (drop i ws)) ∙ (sees_choice s e).holds })
+sees_reduce y {ws} {i} s e = sees_first (Of ReduceSign) y refl (record { holds = reduce_part (next (drop i ws)) ∙ (sym s.same ∙ e) })
 
 -- ---- a number below an operator
 

@@ -12,3 +12,4 @@ mod NumberLaws
 mod TypeLaws
 mod StatementLaws
 mod Verdict
+mod SupportLaws

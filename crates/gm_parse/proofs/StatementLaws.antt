@@ -15,7 +15,7 @@ use Rattle.gm_parse.specs.declared.faults.Fault.{Fault}
 use Rattle.gm_parse.specs.Grammar.{Rule, Of, Many, ◌▸◌, the, a_name, Statement, Target, Parameters, Group}
 use Rattle.gm_parse.specs.Foresight.{begins, next, starts_next}
 use Rattle.gm_parse.specs.Goes.{Goes, Sees}
-use Rattle.gm_parse.specs.Trees.{Reads, ReadsMany, ReadsGroups}
+use Rattle.gm_parse.specs.Trees.{Reads, ReadsMany, ReadsGroups, ReadsParameters, ReadsOutputs}
 use Rattle.gm_parse.specs.Refused.{place_at}
 use Rattle.gm_parse.proofs.TypeLaws.{mapped_on}
 
@@ -62,5 +62,11 @@ pub record GroupsSoFar (a : Around) (it : Listing) (i k : ℕ) (gs : List Spelle
 pub as_groups : {us vs : List Token} {gs hs : List SpelledGroup} → hs ≡ gs → ReadsGroups us (map group_of gs) vs → ReadsGroups us (map group_of hs) vs
 as_groups {us} {vs} e r = subst (λ (gs : List SpelledGroup). ReadsGroups us (map group_of gs) vs) (sym e) r
 
-pub as_groups_on : {us vs : List Token} {gs hs : List SpelledGroup} {g : SpelledGroup} → hs ≡ gs ++ g ∷ [] → ReadsGroups us (map group_of gs ++ group_of g ∷ []) vs → ReadsGroups us (map group_of hs) vs
-as_groups_on {us} {vs} e r = subst (λ (gs : List SurfaceGroup). ReadsGroups us gs vs) (sym (mapped_on group_of e)) r
+pub as_groups_on : {us vs : List Token} (gs : List SpelledGroup) (g : SpelledGroup) {hs : List SpelledGroup} → hs ≡ gs ++ g ∷ [] → ReadsGroups us (map group_of gs ++ group_of g ∷ []) vs → ReadsGroups us (map group_of hs) vs
+as_groups_on {us} {vs} gs g e r = subst (λ (gs : List SurfaceGroup). ReadsGroups us gs vs) (sym (mapped_on group_of gs g e)) r
+
+pub no_parameters : {us : List Token} {gs : List SpelledGroup} → gs ≡ [] → ReadsParameters us (map group_of gs) us
+no_parameters {us} e = subst (λ (gs : List SpelledGroup). ReadsParameters us (map group_of gs) us) (sym e) ReadsParameters.absent
+
+pub no_outputs : {us : List Token} {gs : List SpelledGroup} → gs ≡ [] → ReadsOutputs us (map group_of gs) us
+no_outputs {us} e = subst (λ (gs : List SpelledGroup). ReadsOutputs us (map group_of gs) us) (sym e) ReadsOutputs.absent

@@ -1,8 +1,7 @@
 -- Types and names as they grow.
 use Rattle.std.proofs.Common.{◌≡◌, ℕ, ◌<◌, ◌≤◌, List, [], ◌∷◌, ◌++◌, map, fold, length, drop, Option, Some, None, refl, sym, ap, subst, ◌∙◌, Result}
-use Rattle.std.specs.Prelude.{option_map}
-use Rattle.std.specs.Global.{Vec}
-use Rattle.gm_base.specs.declared.places.Place.{Place}
+use Rattle.std.proofs.lemmas.List.{map-append}
+use Rattle.std.proofs.lemmas.List.Sums.{fold-append}
 use Rattle.gm_token.specs.declared.words.Word.TheVariants as words
 use Rattle.gm_token.specs.Tokens.{Token, Listing, words_of}
 use Rattle.gm_ast.specs.declared.surface.Name.{Name}
@@ -21,23 +20,15 @@ use Rattle.gm_parse.specs.Trees.{ReadsType, ReadsNames}
 pub as_type : {us vs : List Token} {t : SurfaceType} {ls : List PropertyLayer} → ls ≡ [] → ReadsType us t vs → ReadsType us (fold layer_over t ls) vs
 as_type {us} {vs} {t} e r = subst (λ (xs : List PropertyLayer). ReadsType us (fold layer_over t xs) vs) (sym e) r
 
-fold_on : (t : SurfaceType) (ls : List PropertyLayer) (l : PropertyLayer) → fold layer_over t (ls ++ l ∷ []) ≡ layer_over (fold layer_over t ls) l
-fold_on t [] l = refl
-fold_on t (x ∷ ls) l = fold_on (layer_over t x) ls l
-
 -- one more layer is one more property type
-pub as_layered : {us vs : List Token} {t : SurfaceType} {ls ms : List PropertyLayer} {l : PropertyLayer} → ms ≡ ls ++ l ∷ [] → ReadsType us (layer_over (fold layer_over t ls) l) vs → ReadsType us (fold layer_over t ms) vs
-as_layered {us} {vs} {t} {ls} {l} e r = subst (λ (xs : SurfaceType). ReadsType us xs vs) (sym (ap (fold layer_over t) e ∙ fold_on t ls l)) r
+pub as_layered : {us vs : List Token} (t : SurfaceType) (ls : List PropertyLayer) (l : PropertyLayer) {ms : List PropertyLayer} → ms ≡ ls ++ l ∷ [] → ReadsType us (layer_over (fold layer_over t ls) l) vs → ReadsType us (fold layer_over t ms) vs
+as_layered {us} {vs} t ls l e r = subst (λ (x : SurfaceType). ReadsType us x vs) (sym (ap (fold layer_over t) e ∙ fold-append layer_over t ls (l ∷ []))) r
 
-map_on : {A B : Type 0} (f : A → B) (xs : List A) (x : A) → map f (xs ++ x ∷ []) ≡ map f xs ++ f x ∷ []
-map_on f [] x = refl
-map_on f (y ∷ xs) x = ap (λ ys. f y ∷ ys) (map_on f xs x)
+pub mapped_on : {A B : Type 0} (f : A → B) (xs : List A) (x : A) {ys : List A} → ys ≡ xs ++ x ∷ [] → map f ys ≡ map f xs ++ f x ∷ []
+mapped_on f xs x e = ap (map f) e ∙ map-append f xs (x ∷ [])
 
-pub mapped_on : {A B : Type 0} (f : A → B) {xs ys : List A} {x : A} → ys ≡ xs ++ x ∷ [] → map f ys ≡ map f xs ++ f x ∷ []
-mapped_on f {xs} {x} e = ap (map f) e ∙ map_on f xs x
-
-pub names_on : {xs ys : List Name} {x : Name} → ys ≡ xs ++ x ∷ [] → map name_of ys ≡ map name_of xs ++ name_of x ∷ []
-names_on e = mapped_on name_of e
+pub names_on : (xs : List Name) (x : Name) {ys : List Name} → ys ≡ xs ++ x ∷ [] → map name_of ys ≡ map name_of xs ++ name_of x ∷ []
+names_on xs x e = mapped_on name_of xs x e
 
 -- what further names give from index k on, the names give from their beginning; and so for trees
 pub record NamesSoFar (a : Around) (it : Listing) (i k : ℕ) (first names : List Name) : Type 0 where

@@ -80,7 +80,8 @@ fn outputs(
     ensures next { IfOk result (λ read. (at ≤ read.1) × (at ≤ length tokens.now.tokens → read.1 ≤ length tokens.now.tokens)) }
 {
     if !next_is(tokens, at, Word::Semicolon) {
-        return Ok((Vec::new(alloc), at));
+        let none = Vec::new(alloc);
+        return Ok((none, at));
     }
     let semicolon = skip(tokens, at, Word::Semicolon, around)?;
     let (groups, end) = parameters(alloc, tokens, semicolon, around)?;
@@ -158,12 +159,14 @@ fn unsupported(tokens: &Tokens) -> Option<Refusal>
     ensures found { IfSome result (IsRefusal tokens.now) }
     ensures none { IfNone result (AllSupported (words_of tokens.now)) }
 {
-    for at in 0..tokens.len() {
+    let mut at = 0;
+    'row: while at < tokens.len() {
         let word = tokens.word(at);
         if let Some(rule) = word.unsupported_rule() {
             let place = place_at(tokens, at);
             return Some(Refusal { rule, place });
         }
+        at += 1;
     }
     None
 }

@@ -276,7 +276,8 @@ fn statement(
         Ok((SpelledStmt::Block(body), end))
     } else if next_is(tokens, at, Word::Semicolon) {
         let empty = skip(tokens, at, Word::Semicolon, inside)?;
-        Ok((SpelledStmt::Block(Vec::new(alloc)), empty))
+        let nothing = Vec::new(alloc);
+        Ok((SpelledStmt::Block(nothing), empty))
     } else if next_is_type(tokens, at) {
         let (declared, end) = declaration(alloc, tokens, at, inside)?;
         Ok((declared, end))

@@ -59,11 +59,12 @@ pub fn type_name(
         return Ok((longer, end));
     };
     let (base, after) = choose(tokens, at, around, Some(op))?;
+    let layers = Vec::new(alloc);
     let vtype = SpelledType {
         place: base.place,
         word: base.value,
         graph: None,
-        layers: Vec::new(alloc),
+        layers,
     };
     Ok((vtype, after))
 }
@@ -89,11 +90,12 @@ fn longer_type(
     };
     let (base, after) = choose(tokens, at, around, Some(op))?;
     let (graph, end) = of_graph(alloc, tokens, after, around)?;
+    let layers = Vec::new(alloc);
     let vtype = SpelledType {
         place: base.place,
         word: base.value,
         graph,
-        layers: Vec::new(alloc),
+        layers,
     };
     Ok((vtype, end))
 }
@@ -138,7 +140,7 @@ pub fn more_names(
     around: Around,
     first: Vec<Name>,
 ) -> Result<(Vec<Name>, usize), Fault>
-    requires begun { (around.statements ≤ 64) × (at ≤ length tokens.now.tokens) }
+    requires { (around.statements ≤ 64) × (at ≤ length tokens.now.tokens) }
     ensures goes { Goes (Many (the Comma ▸ a_name)) around (words_of tokens.now) at (end_of result) }
     ensures tree { (us : List Token) → ReadsNames us (map name_of first.items) (drop at tokens.now.tokens) → IfOk result (λ read. ReadsNames us (map name_of read.0.items) (drop read.1 tokens.now.tokens)) }
     ensures next { IfOk result (λ read. (at ≤ read.1) × (read.1 ≤ length tokens.now.tokens)) }

@@ -1,5 +1,5 @@
 use Rattle.std.proofs.Common.{◌≤◌, ap, ◌∙◌, arith}
-use Rattle.std.specs.Prelude.{w64}
+use Rattle.std.specs.Int.{w64}
 use Rattle.std.proofs.lemmas.Int.{to_z_pos}
 use Rattle.gm_ast.specs.Surface as trees
 use Rattle.gm_ast.proofs.SurfaceTrees.{expr_of-Number}

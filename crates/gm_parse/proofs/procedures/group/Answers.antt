@@ -1,4 +1,4 @@
-use Rattle.std.proofs.Common.{ap, ◌∙◌}
+use Rattle.std.proofs.Common.{List, ap, ◌∙◌}
 use Rattle.gm_token.specs.Tokens.{words_of}
 use Rattle.gm_parse.specs.Grammar.{Group, Of, rule}
 use Rattle.gm_parse.specs.Factored.{factored}
@@ -6,6 +6,7 @@ use Rattle.gm_parse.specs.Trees.{ReadsNames, ReadsGroup}
 use Rattle.gm_parse.proofs.Paths.{at_exit, goes_first, goes_nowhere, goes_part, goes_then}
 use Rattle.gm_parse.proofs.TreeLaws.{as_names}
 use Rattle.gm_parse.proofs.procedures.group.Goals as goal
+use Rattle.gm_ast.specs.declared.surface.Name.{Name}
 use Rattle.std.proofs.Common.{map, ◌++◌, ◌∷◌, []}
 use Rattle.gm_ast.specs.SurfaceTree.{name_of}
 
@@ -35,4 +36,4 @@ returns-clause-goes c = goes_part Group (goes_then c.in_ok-name.ensures.goes (go
 
 pub returns-clause-tree : goal.returns-clause-tree
 unfolding rule factored
-returns-clause-tree c = ReadsGroup.group (c.in_ok-names.ensures.tree _ (as_names (ap (map name_of) (c.in_ok-push.ensures.items ∙ ap (λ xs. xs ++ c.in_ok-name.name ∷ []) c.new-first.ensures.items)) (ReadsNames.one c.in_ok-name.ensures.tree))) c.in_ok-colon.ensures.tree c.in_ok-vtype.ensures.tree
+returns-clause-tree c = ReadsGroup.group (c.in_ok-names.ensures.tree _ (as_names (ap (map name_of) (c.in_ok-push.ensures.items ∙ ap (λ (xs : List Name). xs ++ c.in_ok-name.name ∷ []) c.new-first.ensures.items)) (ReadsNames.one c.in_ok-name.ensures.tree))) c.in_ok-colon.ensures.tree c.in_ok-vtype.ensures.tree

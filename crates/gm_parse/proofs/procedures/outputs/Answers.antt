@@ -1,11 +1,9 @@
-use Rattle.std.proofs.Common.{sym, subst}
 use Rattle.gm_parse.specs.Grammar.{rule}
 use Rattle.gm_parse.specs.Factored.{factored}
 use Rattle.gm_parse.specs.Trees.{ReadsOutputs}
 use Rattle.gm_parse.proofs.Paths.{at_exit, goes_absent, goes_first, goes_present, goes_then, sees_then}
 use Rattle.gm_parse.proofs.procedures.outputs.Goals as goal
-use Rattle.std.proofs.Common.{map}
-use Rattle.gm_ast.specs.SurfaceTree.{group_of}
+use Rattle.gm_parse.proofs.StatementLaws.{no_outputs}
 
 pub returns-then-not-next_is-clause-goes : goal.returns-then-not-next_is-clause-goes
 unfolding rule factored
@@ -13,7 +11,7 @@ returns-then-not-next_is-clause-goes c = goes_absent (sees_then c.next_is.ensure
 
 pub returns-then-not-next_is-clause-tree : goal.returns-then-not-next_is-clause-tree
 unfolding rule factored
-returns-then-not-next_is-clause-tree c = subst (λ xs. ReadsOutputs _ (map group_of xs) _) (sym c.new.ensures.items) ReadsOutputs.absent
+returns-then-not-next_is-clause-tree c = no_outputs c.new-none.ensures.items
 
 pub returns-in_err-semicolon-clause-goes : goal.returns-in_err-semicolon-clause-goes
 unfolding rule factored

@@ -1,19 +1,19 @@
-use Rattle.std.proofs.Common.{refl, ap, ◌∙◌, arith}
+use Rattle.std.proofs.Common.{List, refl, ap, ◌∙◌, arith}
 use Rattle.std.specs.Option.{option_and_then}
 use Rattle.gm_token.specs.Tokens.{words_of}
 use Rattle.gm_parse.specs.Grammar.{TypeName, Block, Statement, Target, Reverse, InStatement, Of, a_loop, an_if, a_while, a_do, a_search, loop_word_sign, rule}
 use Rattle.gm_parse.specs.Factored.{factored}
 use Rattle.gm_parse.specs.Choices.{loop_word}
-use Rattle.gm_parse.specs.Trees.{ReadsStmt, ReadsMany, ReadsBlock}
+use Rattle.gm_parse.specs.Trees.{ReadsStmt, ReadsMany, ReadsBlock, ReadsReverse}
 use Rattle.gm_parse.proofs.Paths.{at_exit, goes_absent, goes_attached, goes_attached_first, goes_detached, goes_first, goes_left, goes_more, goes_more_first, goes_nowhere, goes_part, goes_present, goes_right, goes_stop, goes_then, goes_within, sees, sees_then}
 use Rattle.gm_parse.proofs.ChoiceLaws.{is_loop, sees_first}
 use Rattle.gm_parse.proofs.TreeLaws.{as_stmt, as_around, otherwise, as_many}
 use Rattle.gm_parse.proofs.statements.+statement.Goals as goal
 use Rattle.std.proofs.Common.{map}
+use Rattle.gm_ast.specs.declared.surface.SpelledStmt.{SpelledStmt}
 use Rattle.gm_ast.specs.Surface.{sequence}
 use Rattle.gm_ast.specs.SurfaceTree.{stmt_of}
 use Rattle.gm_ast.proofs.SurfaceTrees.{stmt_of-Block}
-use Rattle.gm_parse.specs.Trees.{ReadsReverse}
 use Rattle.gm_parse.proofs.TypeLaws.{mapped_on}
 use Rattle.gm_parse.proofs.LevelLaws.{sees_block, sees_reverse}
 use Rattle.gm_parse.proofs.StatementLaws.{sees_target}
@@ -104,7 +104,7 @@ statement-returns-in_ok-body-clause-tree t c = as_stmt (stmt_of-Block c.in_ok-bo
 
 pub statement-returns-in_ok-empty-clause-tree : goal.statement-returns-in_ok-empty-clause-tree
 unfolding rule factored
-statement-returns-in_ok-empty-clause-tree t c = as_stmt (stmt_of-Block c.new.result ∙ ap (λ xs. sequence (map stmt_of xs)) c.new.ensures.items) (ReadsStmt.empty c.in_ok-empty.ensures.tree)
+statement-returns-in_ok-empty-clause-tree t c = as_stmt (stmt_of-Block c.new-nothing.result ∙ ap (λ (xs : List SpelledStmt). sequence (map stmt_of xs)) c.new-nothing.ensures.items) (ReadsStmt.empty c.in_ok-empty.ensures.tree)
 
 pub block-returns-in_err-first-clause-goes : goal.block-returns-in_err-first-clause-goes
 unfolding rule factored
@@ -124,7 +124,7 @@ block-returns-in_err-push-clause-goes t c = at_exit c.from_residual-in_err-push.
 
 pub block-row-preserved : goal.block-row-preserved
 unfolding rule factored
-block-row-preserved t c = record { brace = c.row.invariant.brace; goes = λ r h. c.row.invariant.goes r (goes_more (sees c.next_is_statement.ensures c.row-test.true) c.in_ok-one.ensures.goes h); word = c.row.invariant.word; trees = as_many (mapped_on stmt_of c.in_ok-push.ensures.items) (ReadsMany.more c.row.invariant.trees c.in_ok-one.ensures.tree); begun = omega (arith, c.in_ok-one.ensures.next.0, c.row.invariant.begun); in_text = c.in_ok-one.ensures.next.1; shallow = c.row.invariant.shallow }
+block-row-preserved t c = record { brace = c.row.invariant.brace; goes = λ r h. c.row.invariant.goes r (goes_more (sees c.next_is_statement.ensures c.row-test.true) c.in_ok-one.ensures.goes h); word = c.row.invariant.word; trees = as_many (mapped_on stmt_of _ _ c.in_ok-push.ensures.items) (ReadsMany.more c.row.invariant.trees c.in_ok-one.ensures.tree); begun = omega (arith, c.in_ok-one.ensures.next.0, c.row.invariant.begun); in_text = c.in_ok-one.ensures.next.1; shallow = c.row.invariant.shallow }
 
 pub block-returns-in_err-close-clause-goes : goal.block-returns-in_err-close-clause-goes
 unfolding rule factored

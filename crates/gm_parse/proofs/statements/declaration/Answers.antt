@@ -1,4 +1,4 @@
-use Rattle.std.proofs.Common.{ap, ◌∙◌}
+use Rattle.std.proofs.Common.{List, ap, ◌∙◌}
 use Rattle.gm_token.specs.Tokens.{words_of}
 use Rattle.gm_parse.specs.Grammar.{a_declaration, rule}
 use Rattle.gm_parse.specs.Factored.{factored}
@@ -6,6 +6,7 @@ use Rattle.gm_parse.specs.Trees.{ReadsNames, ReadsStmt}
 use Rattle.gm_parse.proofs.Paths.{at_exit, goes_first, goes_left, goes_nowhere, goes_right, goes_then, sees_then}
 use Rattle.gm_parse.proofs.TreeLaws.{as_stmt, as_names}
 use Rattle.gm_parse.proofs.statements.declaration.Goals as goal
+use Rattle.gm_ast.specs.declared.surface.Name.{Name}
 use Rattle.std.proofs.Common.{map, ◌++◌, ◌∷◌, []}
 use Rattle.gm_ast.specs.SurfaceTree.{name_of}
 use Rattle.gm_ast.proofs.SurfaceTrees.{stmt_of-Declare, stmt_of-DeclareAs}
@@ -56,4 +57,4 @@ returns-then-next_is-clause-tree c = as_stmt (stmt_of-DeclareAs _ _ _ _) (ReadsS
 
 pub returns-clause-tree : goal.returns-clause-tree
 unfolding rule factored
-returns-clause-tree c = as_stmt (stmt_of-Declare _ _) (ReadsStmt.declare c.in_ok-vtype.ensures.tree (c.in_ok-names.ensures.tree _ (as_names (ap (map name_of) (c.in_ok-push.ensures.items ∙ ap (λ xs. xs ++ c.in_ok-name.name ∷ []) c.new-first.ensures.items)) (ReadsNames.one c.in_ok-name.ensures.tree))) c.in_ok-close.ensures.tree)
+returns-clause-tree c = as_stmt (stmt_of-Declare _ _) (ReadsStmt.declare c.in_ok-vtype.ensures.tree (c.in_ok-names.ensures.tree _ (as_names (ap (map name_of) (c.in_ok-push.ensures.items ∙ ap (λ (xs : List Name). xs ++ c.in_ok-name.name ∷ []) c.new-first.ensures.items)) (ReadsNames.one c.in_ok-name.ensures.tree))) c.in_ok-close.ensures.tree)

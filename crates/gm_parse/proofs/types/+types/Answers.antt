@@ -8,8 +8,6 @@ use Rattle.gm_parse.specs.Trees.{ReadsType}
 use Rattle.gm_parse.proofs.Paths.{at_exit, goes_first, goes_left, goes_nowhere, goes_part, goes_right, goes_then}
 use Rattle.gm_parse.proofs.ChoiceLaws.{is_bare, is_element, is_bearer, sees_choice, sees_chosen}
 use Rattle.gm_parse.proofs.types.+types.Goals as goal
-use Rattle.gm_parse.specs.Choices.{bearer_word}
-use Rattle.gm_parse.proofs.ChoiceLaws.{is_bearer}
 use Rattle.gm_parse.proofs.TypeLaws.{as_type, as_layered}
 
 pub type_name-returns-in_err-longer-clause-goes : goal.type_name-returns-in_err-longer-clause-goes
@@ -30,7 +28,7 @@ type_name-returns-clause-goes t c = goes_part TypeName (goes_left (sees_choice (
 
 pub type_name-returns-clause-tree : goal.type_name-returns-clause-tree
 unfolding rule factored
-type_name-returns-clause-tree t c = as_type c.new.ensures.items (ReadsType.bare (c.in_ok-base.ensures.tree bare_type (sym c.in-Some.is ∙ c.bare_type-bare.ensures ∙ ap (option_and_then bare_type) c.peek-word.ensures.word)))
+type_name-returns-clause-tree t c = as_type c.new-layers.ensures.items (ReadsType.bare (c.in_ok-base.ensures.tree bare_type (sym c.in-Some.is ∙ c.bare_type-bare.ensures ∙ ap (option_and_then bare_type) c.peek-word.ensures.word)))
 
 pub longer_type-returns-in_err-property-clause-goes : goal.longer_type-returns-in_err-property-clause-goes
 unfolding rule factored
@@ -54,7 +52,7 @@ longer_type-returns-clause-goes t c = goes_left (sees_chosen _ (is_element (sym 
 
 pub longer_type-returns-clause-tree : goal.longer_type-returns-clause-tree
 unfolding rule factored
-longer_type-returns-clause-tree t c = as_type c.new.ensures.items (ReadsType.element (c.in_ok-base.ensures.tree element_type (sym c.in-Some.is ∙ c.element_type-element.ensures ∙ ap (option_and_then element_type) c.peek-word.ensures.word)) c.in_ok-graph.ensures.tree)
+longer_type-returns-clause-tree t c = as_type c.new-layers.ensures.items (ReadsType.element (c.in_ok-base.ensures.tree element_type (sym c.in-Some.is ∙ c.element_type-element.ensures ∙ ap (option_and_then element_type) c.peek-word.ensures.word)) c.in_ok-graph.ensures.tree)
 
 pub property_type-returns-in_err-bearer-clause-goes : goal.property_type-returns-in_err-bearer-clause-goes
 unfolding rule factored
@@ -90,4 +88,4 @@ property_type-returns-clause-goes t c = goes_then (c.in_ok-bearer.ensures.goes _
 
 pub property_type-returns-clause-tree : goal.property_type-returns-clause-tree
 unfolding rule factored
-property_type-returns-clause-tree t c = as_layered c.in_ok-push.ensures.items (ReadsType.property (c.in_ok-bearer.ensures.tree bearer_word (c.bearer_word-found.ensures ∙ ap (option_and_then bearer_word) c.peek-word.ensures.word)) c.in_ok-start.ensures.tree c.in_ok-inner.ensures.tree c.in_ok-greater.ensures.tree c.in_ok-graph.ensures.tree)
+property_type-returns-clause-tree t c = as_layered _ _ _ c.in_ok-push.ensures.items (ReadsType.property (c.in_ok-bearer.ensures.tree bearer_word (c.bearer_word-found.ensures ∙ ap (option_and_then bearer_word) c.peek-word.ensures.word)) c.in_ok-start.ensures.tree c.in_ok-inner.ensures.tree c.in_ok-greater.ensures.tree c.in_ok-graph.ensures.tree)

@@ -27,7 +27,7 @@ returns-in_err-push-clause-goes c = at_exit c.from_residual-in_err-push.result c
 
 pub row-preserved : goal.row-preserved
 unfolding rule factored
-row-preserved c = record { goes = λ r h. c.row.invariant.goes r (goes_more (sees_then c.next_is.ensures c.row-test.true) (goes_then c.in_ok-start.ensures.goes c.in_ok-name.ensures.goes) h); tree = λ us h. as_names (names_on c.in_ok-push.ensures.items) (ReadsNames.more (c.row.invariant.tree us h) c.in_ok-start.ensures.tree c.in_ok-name.ensures.tree); begun = omega (arith, c.in_ok-start.ensures.next.0, c.in_ok-name.ensures.next.0, c.row.invariant.begun); in_text = c.in_ok-name.ensures.next.1 }
+row-preserved c = record { goes = λ r h. c.row.invariant.goes r (goes_more (sees_then c.next_is.ensures c.row-test.true) (goes_then c.in_ok-start.ensures.goes c.in_ok-name.ensures.goes) h); tree = λ us h. as_names (names_on _ _ c.in_ok-push.ensures.items) (ReadsNames.more (c.row.invariant.tree us h) c.in_ok-start.ensures.tree c.in_ok-name.ensures.tree); begun = omega (arith, c.in_ok-start.ensures.next.0, c.in_ok-name.ensures.next.0, c.row.invariant.begun); in_text = c.in_ok-name.ensures.next.1 }
 
 pub returns-clause-goes : goal.returns-clause-goes
 unfolding rule factored
