@@ -2,6 +2,7 @@
 
 ghost use Rattle.std.specs.Prelude.{◌≡◌, ◌+◌, ◌<◌, ◌≤◌, length, take, drop, slice_get, option_map, Some};
 
+use crate::limits::MAX_NUMBER;
 use crate::numbers::number_value;
 use crate::words::{TokenKind, Word};
 use gm_base::Place;
@@ -95,7 +96,8 @@ impl<'a> Tokens<'a> {
     /// The number at an index, from 0, where the token there is one.
     pub fn number(&self, i: usize) -> u64
         requires { slice_get (words_of self.now) i ≡ Some Number }
-        ensures { option_map decimal_value (slice_get (texts_of self.now) i) ≡ Some result }
+        ensures value { option_map decimal_value (slice_get (texts_of self.now) i) ≡ Some result }
+        ensures limit { result ≤ MAX_NUMBER }
     {
         number_value(bytes_of(self.text, &self.rows[i])).unwrap()
     }

@@ -26,7 +26,13 @@ unwrap-requires c =
     let there = number_there c.self.inside c.args.self.now c.args.i c.index.result.now c.self.view_is c.self.invariant c.requires c.index.ensures in
     some_of c.number_value.result _ _ c.number_value.ensures (subst (λ (x : List ℕ). decimal_value x ≤ MAX_NUMBER) (sym c.bytes_of.ensures) there.1)
 
-pub returns : goal.returns
-returns c =
+pub returns-clause-value : goal.returns-clause-value
+returns-clause-value c =
     ap (option_map decimal_value) (at_row (λ token. token.text) c.self.inside c.args.self.now c.args.i c.index.result.now c.self.view_is (token_there c.args.self.now c.args.i Number c.requires) c.index.ensures)
     ∙ ap (λ (x : List ℕ). Some (decimal_value x)) (sym c.bytes_of.ensures) ∙ ap Some (value_of c.number_value.result _ _ c.unwrap.result c.number_value.ensures c.unwrap.ensures)
+
+pub returns-clause-limit : goal.returns-clause-limit
+returns-clause-limit c =
+    let there = number_there c.self.inside c.args.self.now c.args.i c.index.result.now c.self.view_is c.self.invariant c.requires c.index.ensures in
+    subst (λ (n : ℕ). n ≤ MAX_NUMBER) (value_of c.number_value.result _ _ c.unwrap.result c.number_value.ensures c.unwrap.ensures)
+    (subst (λ (x : List ℕ). decimal_value x ≤ MAX_NUMBER) (sym c.bytes_of.ensures) there.1)

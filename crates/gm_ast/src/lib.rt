@@ -1,0 +1,4 @@
+//! The tree that a program text spells.
+#![tactic(auto)]
+
+pub mod surface;

@@ -1,0 +1,15 @@
+mod Certain
+mod Begin
+mod Steps
+mod Places
+mod Same
+mod Paths
+mod ChoiceLaws
+mod TreeLaws
+mod Ranks
+mod LevelLaws
+mod NumberLaws
+mod TypeLaws
+mod StatementLaws
+mod Verdict
+mod SupportLaws

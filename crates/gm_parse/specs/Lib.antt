@@ -1,0 +1,10 @@
+pub mod Terminals
+pub mod Grammar
+pub mod Factored
+pub mod Derivation
+pub mod Foresight
+pub mod Goes
+pub mod Choices
+pub mod Levels
+pub mod Trees
+pub mod Refused

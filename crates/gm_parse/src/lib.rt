@@ -1,0 +1,18 @@
+//! The grammar of the language, and the parser.
+#![tactic(auto)]
+
+mod around;
+mod choices;
+mod expressions;
+mod faults;
+mod levels;
+mod nodes;
+mod procedures;
+mod reading;
+mod statements;
+mod types;
+
+pub use around::Around;
+pub use faults::Fault;
+pub use levels::Level;
+pub use procedures::parse;
