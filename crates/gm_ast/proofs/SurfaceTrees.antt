@@ -104,7 +104,6 @@ stmt_of-Do at s c = search (rules, stmt_lemmas)
 pub stmt_of-Return : (at : Place) (e : Option SpelledExpr) → stmt_of (W.Return at e) ≡ S.Return at (option_map expr_of e)
 stmt_of-Return at e = search (rules, stmt_lemmas)
 
-
 pub stmt_of-Block : (b : Vec SpelledStmt) → stmt_of (W.TheViews.Block b) ≡ sequence (map stmt_of b.items)
 stmt_of-Block b = search (rules, stmt_lemmas)
 

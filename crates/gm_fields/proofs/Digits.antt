@@ -49,8 +49,8 @@ go_is n m [] e = ap Some e
 go_is n m (b ∷ bs) e =
     let more : go (next n b) bs ≡ cond (list_all is_digit bs) (Some (min top (fold with_digit (with_digit m b) bs))) None = go_is (next n b) (with_digit m b) bs (next_is n m b e) in
     elim (is_digit b) as (λ v. cond v (go (next n b) bs) None ≡ cond (v && list_all is_digit bs) (Some (min top (fold with_digit (with_digit m b) bs))) None) [
-      true ↦ more
-    | false ↦ refl
+      | true ↦ more
+      | false ↦ refl
     ]
 
 mapped : (b : Bool) (n : ℕ) → option_map (min top) (cond b (Some n) None) ≡ cond b (Some (min top n)) None

@@ -35,10 +35,10 @@ pub split_none : {X : Type 0} (p : X → Bool) (xs : List X) → position_or_len
 split_none p [] e = refl
 split_none p (x ∷ xs) e =
     elim (p x) as (λ v. p x ≡ v → cond (not v) (1 + position_or_len p xs) 0 ≡ length (x ∷ xs) → slice_split p (x ∷ xs) ≡ (x ∷ xs) ∷ []) [
-      true ↦ λ is h. absurd (omega (arith, h))
-    | false ↦ λ is h.
-        let rest : slice_split p xs ≡ xs ∷ [] = split_none p xs (omega (arith, h)) in
-        slice_split-cons_no p x xs is ∙ ap (onto_first x) rest
+      | true ↦ λ is h. absurd (omega (arith, h))
+      | false ↦ λ is h.
+          let rest : slice_split p xs ≡ xs ∷ [] = split_none p xs (omega (arith, h)) in
+          slice_split-cons_no p x xs is ∙ ap (onto_first x) rest
     ] refl e
 
 -- a list is a first part and more
@@ -50,12 +50,12 @@ some_part : {X : Type 0} (p : X → Bool) (xs : List X) → 0 < length (slice_sp
 some_part p [] = omega arith
 some_part p (x ∷ xs) =
     elim (p x) as (λ v. 0 < length (cond v ([] ∷ slice_split p xs) (onto_first x (slice_split p xs)))) [
-      true ↦ omega arith
-    | false ↦ some_onto x (slice_split p xs)
+      | true ↦ omega arith
+      | false ↦ some_onto x (slice_split p xs)
     ] where
-  some_onto : {X : Type 0} (x : X) (parts : List (List X)) → 0 < length (onto_first x parts)
-  some_onto x [] = omega arith
-  some_onto x (part ∷ parts) = omega arith
+      some_onto : {X : Type 0} (x : X) (parts : List (List X)) → 0 < length (onto_first x parts)
+      some_onto x [] = omega arith
+      some_onto x (part ∷ parts) = omega arith
 
 -- what stands behind k elements, as the code names it
 pub behind : {X : Type 0} (k : ℕ) (xs : List X) → take (length xs - k) (drop k xs) ≡ drop k xs
@@ -80,22 +80,22 @@ pub lines_none : (text : List ℕ) → 0 < length text → position (λ b. eqb b
 lines_none text h e =
     let parts : slice_split (λ b. eqb b 10) text ≡ text ∷ [] = split_none (λ b. eqb b 10) text (position_none (λ b. eqb b 10) text e) in
     ap lines_of_parts parts ∙ only text h where
-  only : (text : List ℕ) → 0 < length text → lines_of_parts (text ∷ []) ≡ text ∷ []
-  only [] h = absurd (omega (arith, h))
-  only (x ∷ xs) h =
-      let some : eqb (length (x ∷ xs)) 0 ≡ false = grind (arith, nat_tests) in
-      ap (λ v. cond v [] ((x ∷ xs) ∷ [])) some
+      only : (text : List ℕ) → 0 < length text → lines_of_parts (text ∷ []) ≡ text ∷ []
+      only [] h = absurd (omega (arith, h))
+      only (x ∷ xs) h =
+          let some : eqb (length (x ∷ xs)) 0 ≡ false = grind (arith, nat_tests) in
+          ap (λ v. cond v [] ((x ∷ xs) ∷ [])) some
 
 -- blanks in front part no fields
 pub fields_skip : (text : List ℕ) → fields (drop (position_or_len (λ b. not (is_blank b)) text) text) ≡ fields text
 fields_skip [] = refl
 fields_skip (x ∷ xs) =
     elim (is_blank x) as (λ v. is_blank x ≡ v → fields (drop (cond (not (not v)) (1 + position_or_len (λ b. not (is_blank b)) xs) 0) (x ∷ xs)) ≡ fields (x ∷ xs)) [
-      true ↦ λ is.
-        let split : slice_split is_blank (x ∷ xs) ≡ [] ∷ slice_split is_blank xs = slice_split-cons_yes is_blank x xs is in
-        let more : 1 + position_or_len (λ b. not (is_blank b)) xs ≡ suc (position_or_len (λ b. not (is_blank b)) xs) = omega arith in
-        rw (more, split) (fields_skip xs)
-    | false ↦ λ is. refl
+      | true ↦ λ is.
+          let split : slice_split is_blank (x ∷ xs) ≡ [] ∷ slice_split is_blank xs = slice_split-cons_yes is_blank x xs is in
+          let more : 1 + position_or_len (λ b. not (is_blank b)) xs ≡ suc (position_or_len (λ b. not (is_blank b)) xs) = omega arith in
+          rw (more, split) (fields_skip xs)
+      | false ↦ λ is. refl
     ] refl
 
 -- behind the blanks in front begins a field
@@ -139,7 +139,7 @@ fields_some (x ∷ xs) n starts e =
     let blank : is_blank (get_or (x ∷ xs) (position_or_len is_blank (x ∷ xs)) 0) ≡ true = is_blank_at (is_blank (get_or (x ∷ xs) (position_or_len is_blank (x ∷ xs)) 0)) (prefix_len_stops (λ b. not (is_blank b)) (x ∷ xs) 0 at_len) in
     let tail : drop (position_or_len is_blank (x ∷ xs)) (x ∷ xs) ≡ get_or (x ∷ xs) (position_or_len is_blank (x ∷ xs)) 0 ∷ drop (position_or_len is_blank (x ∷ xs) + 1) (x ∷ xs) = rw add-one (drop-cons (x ∷ xs) (position_or_len is_blank (x ∷ xs)) 0 at_len) in
     let more : fields (drop (position_or_len is_blank (x ∷ xs)) (x ∷ xs)) ≡ filter is_some_part (slice_split is_blank (drop (position_or_len is_blank (x ∷ xs) + 1) (x ∷ xs))) =
-      ap fields tail ∙ ap (filter is_some_part) (slice_split-cons_yes is_blank (get_or (x ∷ xs) (position_or_len is_blank (x ∷ xs)) 0) (drop (position_or_len is_blank (x ∷ xs) + 1) (x ∷ xs)) blank) in
+    ap fields tail ∙ ap (filter is_some_part) (slice_split-cons_yes is_blank (get_or (x ∷ xs) (position_or_len is_blank (x ∷ xs)) 0) (drop (position_or_len is_blank (x ∷ xs) + 1) (x ∷ xs)) blank) in
     ap (filter is_some_part) parts
     ∙ kept (take (position_or_len is_blank (x ∷ xs)) (x ∷ xs)) (slice_split is_blank (drop (position_or_len is_blank (x ∷ xs) + 1) (x ∷ xs))) some
     ∙ ap (λ z. take (position_or_len is_blank (x ∷ xs)) (x ∷ xs) ∷ z) (sym more)
@@ -150,6 +150,6 @@ pub fields_only : (text : List ℕ) → StartsField text → position is_blank t
 fields_only text starts e =
     let parts : slice_split is_blank text ≡ text ∷ [] = split_none is_blank text (position_none is_blank text e) in
     ap (filter is_some_part) parts ∙ only text starts.nonempty where
-  only : (text : List ℕ) → 0 < length text → filter is_some_part (text ∷ []) ≡ text ∷ []
-  only [] h = absurd (omega (arith, h))
-  only (x ∷ xs) h = refl
+      only : (text : List ℕ) → 0 < length text → filter is_some_part (text ∷ []) ≡ text ∷ []
+      only [] h = absurd (omega (arith, h))
+      only (x ∷ xs) h = refl

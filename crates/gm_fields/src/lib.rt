@@ -83,7 +83,9 @@ pub fn number_in(field: &[u8]) -> Option<u64>
         if *b < b'0' || *b > b'9' {
             return None;
         }
-        number = number.saturating_mul(10).saturating_add(u64::from(*b - b'0'));
+        number = number
+            .saturating_mul(10)
+            .saturating_add(u64::from(*b - b'0'));
     }
     Some(number)
 }
