@@ -7,3 +7,4 @@ pub mod Assembly
 pub mod Views
 pub mod Worked
 pub mod Determined
+pub mod Typing

@@ -5,9 +5,10 @@ use Rattle.std.specs.List.{list_any}
 use Rattle.gm_value.specs.declared.values.VType.{VType}
 use Rattle.gm_value.specs.declared.values.Value.{Value}
 use Rattle.gm_value.specs.Numbers.{zero_of}
-use Rattle.gm_graph.specs.Columns.{TypedRow}
+use Rattle.gm_graph.specs.Columns.{TypedRow, HaveTypes}
 use Rattle.gm_graph.specs.Graphs.{NumberedGraph, IsWithin, node_count}
 use Rattle.gm_graph.specs.declared.builds.RawGraph.{RawGraph}
+use Rattle.gm_graph.specs.declared.builds.Shape.{Shape}
 
 -- the numbers that name nodes, each as often as it is written
 abbrev pub numbers_of : RawGraph → List ℕ
@@ -52,3 +53,8 @@ pub record IsBuiltOf (raw : RawGraph) (g : NumberedGraph) : Type 0 where
   pub to_numbers : map (λ e. slice_index g.numbers e.to) g.edges ≡ raw.to
   pub node_columns : g.node_columns ≡ map (spread_out g.numbers raw.extra) raw.node_columns
   pub edge_columns : g.edge_columns ≡ map (λ c. c.values) raw.edge_columns
+
+-- the columns of a graph have the types of a shape
+pub record HasShape (shape : Shape) (g : NumberedGraph) : Type 0 where
+  pub node_types : HaveTypes shape.nodes g.node_columns
+  pub edge_types : HaveTypes shape.edges g.edge_columns

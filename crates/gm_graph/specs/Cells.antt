@@ -1,5 +1,5 @@
 -- The cells of a column: one row of numbers or truth values for each type.
-use Rattle.std.specs.Prelude.{ℕ, nat_eq, map, Some, None, if◌then◌else◌}
+use Rattle.std.specs.Prelude.{ℕ, nat_lt, map, Some, None, if◌then◌else◌}
 use Rattle.gm_value.specs.declared.values.Value.{Value}
 use Rattle.gm_value.specs.declared.values.VType.TheVariants.{I32, I64, Flag, Node}
 use Rattle.gm_value.specs.declared.values.Value.TheVariants.{I32, I64, Flag, At}
@@ -7,9 +7,9 @@ use Rattle.gm_graph.specs.declared.columns.Cells.{Cells}
 use Rattle.gm_graph.specs.declared.columns.Cells.TheVariants.{Ints, Longs, Flags, Nodes}
 use Rattle.gm_graph.specs.Columns.{TypedRow}
 
--- the node whose index a cell holds, or NIL at the greatest number
+-- the node whose index a cell holds, or NIL in a cell of the greatest number
 abbrev pub node_in : ℕ → Value
-node_in k = if nat_eq k 4294967295 then At None else At (Some k)
+node_in k = if nat_lt k 4294967295 then At (Some k) else At None
 
 -- a column's type and values
 abbrev pub typed_row : Cells → TypedRow

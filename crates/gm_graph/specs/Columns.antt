@@ -1,5 +1,5 @@
 -- Columns of values as contracts see them.
-use Rattle.std.specs.Prelude.{◌≡◌, ◌<◌, ℕ, ⊤, List, Some, Option, slice_get}
+use Rattle.std.specs.Prelude.{◌≡◌, ◌<◌, ℕ, ⊤, List, [], ◌∷◌, All, Some, Option, slice_get}
 use Rattle.std.specs.Option.{option_and_then}
 use Rattle.gm_value.specs.declared.values.VType.{VType}
 use Rattle.gm_value.specs.declared.values.Value.{Value}
@@ -24,3 +24,9 @@ pub record CanHold (t : VType) (v : Value) : Type 0 where
 -- the value of a column, of several, at a row
 abbrev pub cell_at : List (List Value) → ℕ → ℕ → Option Value
 cell_at columns column row = option_and_then (λ values. slice_get values row) (slice_get columns column)
+
+-- columns of values that columns of some types can hold, in order
+abbrev pub HaveTypes : List VType → List (List Value) → Type 0
+HaveTypes [] [] = ⊤
+HaveTypes (t ∷ types) (values ∷ columns) = All (CanHold t) values × HaveTypes types columns
+HaveTypes _ _ = ⊥

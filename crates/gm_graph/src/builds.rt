@@ -1,7 +1,8 @@
 //! The making of a graph from its lines.
 
-ghost use Rattle.std.specs.Prelude.{IfOk};
-ghost use Rattle.gm_graph.specs.Builds.{IsBuildable, IsBuiltOf};
+ghost use Rattle.std.specs.Prelude.{All, IfOk};
+ghost use Rattle.gm_graph.specs.Builds.{IsBuildable, IsBuiltOf, HasShape};
+ghost use Rattle.gm_graph.specs.Columns.{CanHold};
 
 use crate::columns::Column;
 use crate::graphs::Graph;
@@ -37,7 +38,8 @@ pub struct RawGraph {
 /// does not name has 0, False or NIL in each node column.
 pub fn build(alloc: Global, raw: RawGraph) -> Result<Graph, NoMemory>
     requires { IsBuildable raw }
-    ensures { IfOk result (IsBuiltOf raw) }
+    ensures made { IfOk result (IsBuiltOf raw) }
+    ensures shape { IfOk result (HasShape raw.shape) }
 {
     let numbers = node_numbers(
         alloc,
@@ -51,6 +53,8 @@ pub fn build(alloc: Global, raw: RawGraph) -> Result<Graph, NoMemory>
     let node_columns = spread_all(alloc, rows.as_slice(), raw.node_columns.as_slice())?;
     let outward = Groups::new(alloc, sources.as_slice(), numbers.len())?;
     let inward = Groups::new(alloc, targets.as_slice(), numbers.len())?;
+    know_types(raw.edge_columns.as_slice());
+    know_types(raw.node_columns.as_slice());
     Ok(Graph {
         numbers,
         sources,
@@ -60,4 +64,13 @@ pub fn build(alloc: Global, raw: RawGraph) -> Result<Graph, NoMemory>
         node_columns,
         edge_columns: raw.edge_columns.into_vec(),
     })
+}
+
+// Shows that the values of each column are of its type.
+fn know_types(columns: &[Column])
+    ensures { All (λ c. All (CanHold c.vtype) c.values) columns.now }
+{
+    for column in columns {
+        let _vtype = column.vtype();
+    }
 }

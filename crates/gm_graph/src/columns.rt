@@ -1,10 +1,10 @@
 //! Columns of values of one type, as rows of plain numbers.
 
-ghost use Rattle.std.specs.Prelude.{◌≡◌, ◌<◌, ◌==◌, [], ◌∷◌, ◌++◌, Some, length, slice_get, OnOk, OnErr};
+ghost use Rattle.std.specs.Prelude.{◌≡◌, ◌<◌, ◌==◌, [], ◌∷◌, ◌++◌, All, Some, length, slice_get, OnOk, OnErr};
 ghost use Rattle.gm_value.specs.declared.values.Value.TheVariants.{At};
 ghost use Rattle.gm_value.specs.declared.values.VType.TheVariants.{Node};
 ghost use Rattle.gm_graph.specs.Columns.{CanHold, IsStorable};
-ghost use Rattle.gm_graph.specs.Cells.{node_in};
+ghost use Rattle.gm_graph.specs.Cells.{node_in, typed_row};
 
 use gm_base::NoMemory;
 use gm_value::{VType, Value};
@@ -40,6 +40,19 @@ impl Model for Column {
     ghost view = { λ column. typed_row column.cells };
 }
 
+impl Cells {
+    fn vtype(&self) -> VType
+        ensures { result ≡ (typed_row self.now).vtype }
+    {
+        match self {
+            Cells::Ints(_) => VType::I32,
+            Cells::Longs(_) => VType::I64,
+            Cells::Flags(_) => VType::Flag,
+            Cells::Nodes(_) => VType::Node,
+        }
+    }
+}
+
 impl Column {
     /// A column of a type that has no row yet. It keeps the allocator and takes no memory.
     pub fn new(alloc: Global, vtype: VType) -> Self
@@ -55,16 +68,12 @@ impl Column {
         Column { cells }
     }
 
-    /// The type of the values.
+    /// The type of the values. Each value is one of that type.
     pub fn vtype(&self) -> VType
-        ensures { result ≡ self.now.vtype }
+        ensures vtype { result ≡ self.now.vtype }
+        ensures held { All (CanHold self.now.vtype) self.now.values }
     {
-        match &self.cells {
-            Cells::Ints(_) => VType::I32,
-            Cells::Longs(_) => VType::I64,
-            Cells::Flags(_) => VType::Flag,
-            Cells::Nodes(_) => VType::Node,
-        }
+        self.cells.vtype()
     }
 
     /// How many rows there are.
@@ -123,10 +132,10 @@ fn node_in(cell: u32) -> Value
     ensures node { result ≡ node_in cell }
     ensures held { CanHold Node result }
 {
-    if cell == NIL {
-        Value::At(None)
-    } else {
+    if cell < NIL {
         Value::At(Some(cell))
+    } else {
+        Value::At(None)
     }
 }
 

@@ -2,6 +2,7 @@ use Rattle.std.proofs.Common.{arith, refl, ap, map, ◌≡◌, ◌∙◌, length
 use Rattle.gm_graph.specs.Columns.{TypedRow}
 use Rattle.gm_graph.proofs.Building.{map-from, map-to, edges-within}
 use Rattle.gm_graph.proofs.Assembly.{numbering, nodes-few, extra-few, from-known, to-known, extra-known, rows-held, has-rows, ends-length, within-as, grouped-as, lengths-as, numbers-as, columns-as, spread-as}
+use Rattle.gm_graph.proofs.Typing.{node-types, edge-types}
 use Rattle.gm_graph.proofs.builds.build.Goals as goal
 
 pub indices-requires-clause-few : goal.indices-requires-clause-few
@@ -72,8 +73,8 @@ invariant_of-result c =
       edge_rows = lengths-as _ (length c.in_ok-targets.targets.items) _ c.into_vec.result.items (omega (arith, targets, c.requires.both_ends)) c.into_vec.ensures c.requires.edge_rows;
     }
 
-pub returns : goal.returns
-returns c =
+pub returns-clause-made : goal.returns-clause-made
+returns-clause-made c =
     let numbers = c.in_ok-numbers.numbers.items in
     let ss = c.in_ok-sources.sources.items in
     let ts = c.in_ok-targets.targets.items in
@@ -94,4 +95,14 @@ returns c =
       to_numbers = map-to _ ss ts long ∙ to_numbers;
       node_columns = columns-as c.args.raw numbers c.in_ok-rows.rows.items _ _ _ c.requires rows c.as_slice-10.ensures.value c.as_slice-11.ensures c.in_ok-node_columns.ensures.values;
       edge_columns = ap (λ (l : List TypedRow). map (λ (row : TypedRow). row.values) l) c.into_vec.ensures;
+    }
+
+pub returns-clause-shape : goal.returns-clause-shape
+returns-clause-shape c =
+    let numbers = c.in_ok-numbers.numbers.items in
+    let rows = rows-held c.args.raw numbers c.in_ok-rows.rows.items _ _ c.as_slice-8.ensures.value c.as_slice-9.ensures (omega (arith, c.in_ok-rows.ensures.len)) c.in_ok-rows.ensures.rows in
+    let spread = columns-as c.args.raw numbers c.in_ok-rows.rows.items _ _ _ c.requires rows c.as_slice-10.ensures.value c.as_slice-11.ensures c.in_ok-node_columns.ensures.values in
+    record {
+      node_types = node-types c.args.raw numbers _ _ c.requires spread c.as_slice-15.ensures c.know_types-2.ensures;
+      edge_types = edge-types c.args.raw _ _ c.requires c.into_vec.ensures c.as_slice-14.ensures c.know_types.ensures;
     }
