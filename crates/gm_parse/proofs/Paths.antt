@@ -159,7 +159,6 @@ goes_choice (Many x) a ws i w b c e s d = absurd cc
 goes_choice (Attached k x) a ws i w b c e s d = absurd cc
 goes_choice (Within n x) a ws i w b c e s d = absurd cc
 
-
 -- a choice of words reads one
 pub choice_full : (x : Rule) → is_choice x ≡ true → is_empty x ≡ false
 choice_full (TokenRule k) c = refl

@@ -28,7 +28,12 @@ struct Ranged {
     range: Range,
 }
 
-fn owned_range(alloc: Global, tokens: &Tokens, at: usize, around: Around) -> Result<(Ranged, usize), Fault>
+fn owned_range(
+    alloc: Global,
+    tokens: &Tokens,
+    at: usize,
+    around: Around,
+) -> Result<(Ranged, usize), Fault>
     ensures goes { Goes (Of RangePart) around (words_of tokens.now) at (end_of result) }
     ensures tree { IfOk result (λ read. ReadsRange (drop at tokens.now.tokens) (name_of read.0.owner) read.0.range (drop read.1 tokens.now.tokens)) }
     ensures next { IfOk result (λ read. (at < read.1) × (read.1 ≤ length tokens.now.tokens) × (around.statements ≤ 64)) }
@@ -54,7 +59,12 @@ fn number(tokens: &Tokens, at: usize, around: Around) -> Result<(SpelledExpr, us
 }
 
 // A literal, or what begins with a name.
-fn literal(alloc: Global, tokens: &Tokens, at: usize, around: Around) -> Result<(SpelledExpr, usize), Fault>
+fn literal(
+    alloc: Global,
+    tokens: &Tokens,
+    at: usize,
+    around: Around,
+) -> Result<(SpelledExpr, usize), Fault>
     ensures goes { Goes atom around (words_of tokens.now) at (end_of result) }
     ensures tree { IfOk result (λ read. ReadsTree Primary (drop at tokens.now.tokens) (expr_of read.0) (drop read.1 tokens.now.tokens)) }
     ensures next { IfOk result (λ read. (at < read.1) × (read.1 ≤ length tokens.now.tokens) × (around.statements ≤ 64)) }
@@ -83,7 +93,12 @@ fn literal(alloc: Global, tokens: &Tokens, at: usize, around: Around) -> Result<
 }
 
 // A name, with a property or a call of a method.
-fn member(alloc: Global, tokens: &Tokens, at: usize, around: Around) -> Result<(SpelledExpr, usize), Fault>
+fn member(
+    alloc: Global,
+    tokens: &Tokens,
+    at: usize,
+    around: Around,
+) -> Result<(SpelledExpr, usize), Fault>
     ensures goes { Goes a_member around (words_of tokens.now) at (end_of result) }
     ensures tree { IfOk result (λ read. ReadsTree Primary (drop at tokens.now.tokens) (expr_of read.0) (drop read.1 tokens.now.tokens)) }
     ensures next { IfOk result (λ read. (at < read.1) × (read.1 ≤ length tokens.now.tokens) × (around.statements ≤ 64)) }
@@ -433,7 +448,14 @@ pub fn expression(
     let (product, at_sum) = row_rest(alloc, tokens, at_product, Level::Product, within, first)?;
     let (sum, at_relation) = row_rest(alloc, tokens, at_sum, Level::Sum, within, product)?;
     let (relation, at_equality) = relation_rest(alloc, tokens, at_relation, within, sum)?;
-    let (equality, at_and) = row_rest(alloc, tokens, at_equality, Level::Equality, within, relation)?;
+    let (equality, at_and) = row_rest(
+        alloc,
+        tokens,
+        at_equality,
+        Level::Equality,
+        within,
+        relation,
+    )?;
     let (both, at_or) = row_rest(alloc, tokens, at_and, Level::And, within, equality)?;
     let (either, after) = row_rest(alloc, tokens, at_or, Level::Or, within, both)?;
     if !next_is(tokens, after, Word::Question) {

@@ -117,7 +117,12 @@ pub fn skip(tokens: &Tokens, at: usize, wanted: Word, around: Around) -> Result<
 }
 
 /// Reads this word: its place, and the index after it.
-pub fn eat(tokens: &Tokens, at: usize, wanted: Word, around: Around) -> Result<(Place, usize), Fault>
+pub fn eat(
+    tokens: &Tokens,
+    at: usize,
+    wanted: Word,
+    around: Around,
+) -> Result<(Place, usize), Fault>
     ensures goes { Goes (the wanted) around (words_of tokens.now) at (end_of result) }
     ensures tree { IfOk result (λ read. ReadsWord (The wanted) (drop at tokens.now.tokens) read.0 (drop read.1 tokens.now.tokens)) }
     ensures next { IfOk result (λ read. (read.1 ≡ at + 1) × (read.1 ≤ length tokens.now.tokens) × (around.statements ≤ 64)) }
@@ -344,4 +349,3 @@ pub fn next_is_loop(tokens: &Tokens, at: usize) -> bool
         Some(word) => begins_loop(word),
     }
 }
-

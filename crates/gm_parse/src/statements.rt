@@ -110,12 +110,7 @@ fn from_root(tokens: &Tokens, at: usize, around: Around) -> Result<usize, Fault>
 }
 
 // The front of a search.
-fn front(
-    alloc: Global,
-    tokens: &Tokens,
-    at: usize,
-    around: Around,
-) -> Result<(Front, usize), Fault>
+fn front(alloc: Global, tokens: &Tokens, at: usize, around: Around) -> Result<(Front, usize), Fault>
     ensures goes { Goes (Of SearchHead) around (words_of tokens.now) at (end_of result) }
     ensures tree { IfOk result (λ read. ReadsSearch (drop at tokens.now.tokens) (name_of read.0.iterator) (name_of read.0.graph) (name_of read.0.root) (test_of read.0.filter) (drop read.1 tokens.now.tokens)) }
     ensures next { IfOk result (λ read. (at < read.1) × (read.1 ≤ length tokens.now.tokens) × (around.statements ≤ 64)) }
