@@ -16,3 +16,6 @@ pub use around::Around;
 pub use faults::Fault;
 pub use levels::Level;
 pub use procedures::parse;
+
+#[cfg(test)]
+mod tests;

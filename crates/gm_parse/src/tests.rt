@@ -1,0 +1,385 @@
+//! Texts and their verdicts, by scanning and parsing.
+
+use super::*;
+use gm_token::scan;
+use std::alloc::{AllocError, Global};
+use std::test::*;
+
+const HEAD: &str = "Procedure f(G: Graph) {";
+
+// Each text, and what `scan` and then `parse` answer. The answers come from an Earley recognizer of the grammar.
+const ROWS: [(&str, &str); 112] = [
+    ("Procedure f(G: Graph) { Float d; }", "refused U1 at 1:25"),
+    ("Procedure f(G: Graph) { Double d; }", "refused U1 at 1:25"),
+    ("Procedure f(G: Graph) { String d; }", "refused U2 at 1:25"),
+    (
+        "Procedure f(G: Graph) { Node_Set d; }",
+        "refused U3 at 1:25",
+    ),
+    ("Procedure f(G: Graph) { N_S d; }", "refused U3 at 1:25"),
+    (
+        "Procedure f(G: Graph) { Node_Order d; }",
+        "refused U3 at 1:25",
+    ),
+    ("Procedure f(G: Graph) { N_O d; }", "refused U3 at 1:25"),
+    (
+        "Procedure f(G: Graph) { Node_Seq d; }",
+        "refused U3 at 1:25",
+    ),
+    ("Procedure f(G: Graph) { N_Q d; }", "refused U3 at 1:25"),
+    (
+        "Procedure f(G: Graph) { Collection d; }",
+        "refused U3 at 1:25",
+    ),
+    ("Procedure f(G: Graph) { Map d; }", "refused U3 at 1:25"),
+    ("Procedure f(G: Graph) { InDFS d; }", "refused U4 at 1:25"),
+    ("Procedure f(G: Graph) { InPost d; }", "refused U4 at 1:25"),
+    ("Procedure f(G: Graph) { UGraph d; }", "refused U5 at 1:25"),
+    ("Procedure f(G: Graph) { Avg d; }", "refused U6 at 1:25"),
+    ("Procedure f(G: Graph) { Local d; }", "refused U7 at 1:25"),
+    (
+        "Procedure f(G: Graph) { Int x = 1.5; }",
+        "refused U8 at 1:33",
+    ),
+    (
+        "Procedure f(G: Graph) { Int x = 1.5; Float y; }",
+        "refused U8 at 1:33",
+    ),
+    (
+        "Procedure f(G: Graph) { x = ; Local }",
+        "refused U7 at 1:31",
+    ),
+    ("1.0", "refused U8 at 1:1"),
+    ("Procedure f(G: Graph) { x min= 3; }", "accepted"),
+    (
+        "Procedure f(G: Graph) { x min == 3; }",
+        "refused Syntax at 1:27",
+    ),
+    (
+        "Procedure f(G: Graph) { x min = 3; }",
+        "refused Syntax at 1:27",
+    ),
+    ("Procedure f(G: Graph) { Int min = 3; }", "accepted"),
+    ("Procedure f(G: Graph) { x = - INF; }", "accepted"),
+    ("Procedure f(G: Graph) { x = -INF; }", "accepted"),
+    ("Procedure f(G: Graph) { x = +INF; }", "accepted"),
+    (
+        "Procedure f(G: Graph) { x = + 1; }",
+        "refused Syntax at 1:31",
+    ),
+    (
+        "Procedure f(G: Graph) { x = + -INF; }",
+        "refused Syntax at 1:31",
+    ),
+    ("Procedure f(G: Graph) { x = -/* */INF * 2; }", "accepted"),
+    (
+        "Procedure f(G: Graph) { // any bytes",
+        "refused Syntax at 1:37",
+    ),
+    (
+        "Procedure f(G: Graph) { /* open",
+        "refused OpenComment at 1:25",
+    ),
+    ("Procedure f(G: Graph) { /* a * / */ }", "accepted"),
+    ("Procedure f(G: Graph) { }//", "accepted"),
+    ("Procedure f(G: Graph) { a <= b; }", "accepted"),
+    ("Procedure f(G: Graph) { a.p <= b < c; }", "accepted"),
+    ("Procedure f(G: Graph) { x = a <= b; }", "accepted"),
+    (
+        "Procedure f(G: Graph) { x = a <= b <= c; }",
+        "refused Syntax at 1:36",
+    ),
+    ("Procedure f(G: Graph) { a <= b @ n; }", "accepted"),
+    (
+        "Procedure f(G: Graph) { a <= b @ 3; }",
+        "refused Syntax at 1:34",
+    ),
+    (
+        "Procedure f(G: Graph) { x = b @ n; }",
+        "refused Syntax at 1:31",
+    ),
+    (
+        "Procedure f(G: Graph) { If (a) If (b) x = 1; Else x = 2; }",
+        "accepted",
+    ),
+    (
+        "Procedure f(G: Graph) { If (a) x = 1; Else x = 2; Else x = 3; }",
+        "refused Syntax at 1:51",
+    ),
+    (
+        "Procedure f(G: Graph) { Else x = 1; }",
+        "refused Syntax at 1:25",
+    ),
+    (
+        "Procedure f(G: Graph) { If (a) { } Else }",
+        "refused Syntax at 1:41",
+    ),
+    ("Procedure", "refused Syntax at 1:10"),
+    ("Procedure f", "refused Syntax at 1:12"),
+    ("Proc f()", "refused Syntax at 1:9"),
+    ("Proc f() { } }", "refused Syntax at 1:14"),
+    ("Proc f(;) { }", "accepted"),
+    ("Proc f(a, b: Int; c: N_P<Int>(G)): Int { }", "accepted"),
+    ("Proc f(a b: Int) { }", "refused Syntax at 1:10"),
+    ("Proc f(a: Int,) { }", "refused Syntax at 1:15"),
+    ("Proc f(a: Foo) { }", "refused Syntax at 1:11"),
+    ("Proc f(a: N_P<N_P<Int>(H)>(G)) { }", "accepted"),
+    ("Proc f(a: N_P<Int) { }", "refused Syntax at 1:18"),
+    ("Proc f(Foreach: Int) { }", "refused Syntax at 1:8"),
+    ("Proc Nodes(Nbrs: Int) { Nbrs = Nodes; }", "accepted"),
+    (
+        "Procedure f(G: Graph) { Foreach (n: G.Nodes) (n.x > 1) { n.p += 1; } }",
+        "accepted",
+    ),
+    (
+        "Procedure f(G: Graph) { Foreach (n: G.nodes) { } }",
+        "refused Syntax at 1:39",
+    ),
+    ("Procedure f(G: Graph) { For (n: G.InNbrs) ; }", "accepted"),
+    (
+        "Procedure f(G: Graph) { Foreach n: G.Nodes) ; }",
+        "refused Syntax at 1:33",
+    ),
+    (
+        "Procedure f(G: Graph) { Do { x++; } While (x < 3); }",
+        "accepted",
+    ),
+    (
+        "Procedure f(G: Graph) { Do x++; While (x < 3); }",
+        "refused Syntax at 1:28",
+    ),
+    (
+        "Procedure f(G: Graph) { Do { } While (x) }",
+        "refused Syntax at 1:42",
+    ),
+    (
+        "Procedure f(G: Graph) { While () ; }",
+        "refused Syntax at 1:32",
+    ),
+    (
+        "Procedure f(G: Graph) { InBFS (n: G.Nodes From r) { } InReverse (n.x) { } }",
+        "accepted",
+    ),
+    (
+        "Procedure f(G: Graph) { InBFS (n: G.Nodes ; r) (a) { } }",
+        "accepted",
+    ),
+    (
+        "Procedure f(G: Graph) { InBFS (n: G.Nbrs From r) { } }",
+        "refused Syntax at 1:37",
+    ),
+    (
+        "Procedure f(G: Graph) { InBFS (n: G.Nodes From r) ; }",
+        "refused Syntax at 1:51",
+    ),
+    ("Procedure f(G: Graph) { Return; }", "accepted"),
+    (
+        "Procedure f(G: Graph) { Return 1 }",
+        "refused Syntax at 1:34",
+    ),
+    (
+        "Procedure f(G: Graph) { Return Sum(n: G.Nodes)(n.a == 1 && !n.b) {n.x * 2}; }",
+        "accepted",
+    ),
+    (
+        "Procedure f(G: Graph) { x = Count(n: G.Nodes); }",
+        "accepted",
+    ),
+    (
+        "Procedure f(G: Graph) { x = Sum(n: G.Nodes); }",
+        "refused Syntax at 1:44",
+    ),
+    (
+        "Procedure f(G: Graph) { x = Exist(n: G.Nodes)(a) { b } + 1; }",
+        "accepted",
+    ),
+    (
+        "Procedure f(G: Graph) { x = All(n: G.Nodes) { b ; }",
+        "refused Syntax at 1:49",
+    ),
+    (
+        "Procedure f(G: Graph) { x = (Int) a + (Long) (b); }",
+        "accepted",
+    ),
+    (
+        "Procedure f(G: Graph) { x = (Bool) a; }",
+        "refused Syntax at 1:30",
+    ),
+    (
+        "Procedure f(G: Graph) { x = (a ? b : c) ? d : e ? f : g; }",
+        "accepted",
+    ),
+    (
+        "Procedure f(G: Graph) { x = a ? b; }",
+        "refused Syntax at 1:34",
+    ),
+    ("Procedure f(G: Graph) { x = a < b == c < d; }", "accepted"),
+    ("Procedure f(G: Graph) { x = a == b != c; }", "accepted"),
+    (
+        "Procedure f(G: Graph) { x = a.b.c; }",
+        "refused Syntax at 1:32",
+    ),
+    ("Procedure f(G: Graph) { x = a.b(); }", "accepted"),
+    (
+        "Procedure f(G: Graph) { x = a.b(c); }",
+        "refused Syntax at 1:33",
+    ),
+    (
+        "Procedure f(G: Graph) { x = f(c); }",
+        "refused Syntax at 1:30",
+    ),
+    ("Procedure f(G: Graph) { f(c); }", "refused Syntax at 1:26"),
+    ("Procedure f(G: Graph) { Int a, b, c; }", "accepted"),
+    (
+        "Procedure f(G: Graph) { Int a = 1, b; }",
+        "refused Syntax at 1:34",
+    ),
+    (
+        "Procedure f(G: Graph) { Int a b; }",
+        "refused Syntax at 1:31",
+    ),
+    ("Procedure f(G: Graph) { N_P<Int>(G) a; }", "accepted"),
+    ("Procedure f(G: Graph) { x = ; }", "refused Syntax at 1:29"),
+    ("Procedure f(G: Graph) { x 1; }", "refused Syntax at 1:27"),
+    ("Procedure f(G: Graph) { x += ; }", "refused Syntax at 1:30"),
+    ("Procedure f(G: Graph) { x++ }", "refused Syntax at 1:29"),
+    ("Procedure f(G: Graph) { x.y++; }", "accepted"),
+    (
+        "Procedure f(G: Graph) { x &&= a; y ||= b; z &= c; w |= d; v *= 2; u max= 1; }",
+        "accepted",
+    ),
+    (
+        "Procedure f(G: Graph) { x /= 2; }",
+        "refused Syntax at 1:27",
+    ),
+    (
+        "Procedure f(G: Graph) { <a.x; a.y> min= <1; 2>; }",
+        "refused Syntax at 1:25",
+    ),
+    ("Procedure f(G: Graph) {{}; {;;}}", "accepted"),
+    ("Procedure f(G: Graph) {\n\n   ?", "refused Syntax at 3:4"),
+    ("Procedure f(G: Graph) { ) }", "refused Syntax at 1:25"),
+    ("Procedure f(G: Graph) { #", "refused BadByte at 1:25"),
+    (
+        "Procedure f(G: Graph) { 9223372036854775808",
+        "refused NumberTooLarge at 1:25",
+    ),
+    (
+        "Procedure f(G: Graph) { x = 9223372036854775807; }",
+        "accepted",
+    ),
+    ("", "refused Syntax at 1:1"),
+    ("  \n ", "refused Syntax at 2:2"),
+    (
+        "Procedure f(G: Graph) {{{{{{{{{{{{{{{{{{{{{{{{{{{{{{{{{{{{{{{{{{{{{{{{{{{{{{{{{{{{{{{{{{",
+        "refused TooDeep at 1:88",
+    ),
+    (
+        "Procedure f(G: Graph) {{{{{{{{{{{{{{{{{{{{{{{{{{{{{{{{{{{{{{{{{{{{{{{{{{{{{{{{{{{{{{{{{;",
+        "refused TooDeep at 1:88",
+    ),
+    (
+        "Procedure f(G: Graph) {{{{{{{{{{{{{{{{{{{{{{{{{{{{{{{{{{{{{{{{{{{{{{{{{{{{{{{{{{{{{{{{{)",
+        "refused Syntax at 1:88",
+    ),
+    (
+        "Procedure f(G: Graph) {Do{{{{{{{{{{{{{{{{{{{{{{{{{{{{{{{{{{{{{{{{{{{{{{{{{{{{{{{{{{{{{{{{{",
+        "refused TooDeep at 1:90",
+    ),
+];
+
+// A procedure with every production, in one line.
+const WHOLE: &str =
+    "Procedure f(G: Graph, v: N_P<Int>(G); m: E_P<Long>): Int { Int a = 1; Bool b, c; G.p = v.q + 2; a <= 3 @ n; a min= 4 @ n; a++; Foreach (n: G.Nodes)(n.v > 1) { ; } If (a == 1) a = 2; Else a = 3; While (!b) { } Do { } While (a < b); InBFS (n: G.Nodes From r)(a) { } InReverse (b) { } Return (Int) Sum(t: n.Nbrs)(True){t.x % 2} ? -INF : Count(t: n.UpNbrs); }";
+
+fn verdict(alloc: Global, text: &[u8]) -> Result<String, AllocError> {
+    match scan(alloc, text) {
+        Err(stop) => format!(in alloc; "{stop}"),
+        Ok(tokens) => match parse(alloc, &tokens) {
+            Err(stop) => format!(in alloc; "{stop}"),
+            Ok(_tree) => String::from_str(alloc, "accepted"),
+        },
+    }
+}
+
+// The head, one piece and again another so many times, and an end.
+fn repeated(
+    alloc: Global,
+    front: &str,
+    piece: &str,
+    count: usize,
+    end: &str,
+) -> Result<String, AllocError> {
+    let mut text = String::from_str(alloc, HEAD)?;
+    text.push_str(front)?;
+    for _ in 0..count {
+        text.push_str(piece)?;
+    }
+    text.push_str(end)?;
+    Ok(text)
+}
+
+#[test]
+fn texts(rt: HostRuntime) -> Result<(), Fail> {
+    for (text, expected) in &ROWS {
+        assert_eq!(rt;
+            verdict(rt.alloc(), text.as_bytes())?.as_str(),
+            *expected,
+            "{text}"
+        );
+    }
+    Ok(())
+}
+
+#[test]
+fn depths(rt: HostRuntime) -> Result<(), Fail> {
+    let alloc = rt.alloc();
+    let rows: [(&str, &str, usize, &str, &str); 14] = [
+        ("", "{", 65, "", "refused TooDeep at 1:88"),
+        ("", "{", 64, ";", "refused TooDeep at 1:88"),
+        ("", "{", 64, ")", "refused Syntax at 1:88"),
+        ("", "While(a)", 63, ";}", "accepted"),
+        ("", "While(a)", 64, ";}", "refused TooDeep at 1:536"),
+        ("", "Foreach(n:G.Nodes)", 63, ";}", "accepted"),
+        (
+            "",
+            "Foreach(n:G.Nodes)",
+            64,
+            "{}}",
+            "refused TooDeep at 1:1176",
+        ),
+        ("", "If(a)", 63, ";Else;}", "accepted"),
+        ("", "If(a)", 64, ";}", "refused TooDeep at 1:344"),
+        ("Do", "{", 65, "", "refused TooDeep at 1:90"),
+        ("x=", "-", 255, "1;}", "accepted"),
+        ("x=", "-", 256, "1;}", "refused TooDeep at 1:282"),
+        ("x=", "-", 256, ";}", "refused Syntax at 1:282"),
+        ("x=", "1+", 128, "1;}", "refused TooDeep at 1:282"),
+    ];
+    for (front, piece, count, end, expected) in &rows {
+        let text = repeated(alloc, front, piece, *count, end)?;
+        assert_eq!(rt;
+            verdict(alloc, text.as_str().as_bytes())?.as_str(),
+            *expected,
+            "{text}"
+        );
+    }
+    Ok(())
+}
+
+#[test]
+fn cuts(rt: HostRuntime) -> Result<(), Fail> {
+    let alloc = rt.alloc();
+    let whole = WHOLE.as_bytes();
+    assert_eq!(rt; verdict(alloc, whole)?.as_str(), "accepted");
+    let tokens = scan(alloc, whole)?;
+    for i in 0..tokens.len() {
+        let col = tokens.place(i).col as usize;
+        if col >= 1 && col <= whole.len() {
+            let answer = verdict(alloc, &whole[..col - 1])?;
+            let expected = format!(in alloc; "refused Syntax at 1:{col}")?;
+            assert_eq!(rt; answer.as_str(), expected.as_str());
+        }
+    }
+    Ok(())
+}
