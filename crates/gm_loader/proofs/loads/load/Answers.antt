@@ -15,11 +15,11 @@ returns-clause-graph g c =
     record {
       text = c.in_ok-text.text.items;
       read = c.in_ok-text.ensures.ok;
-      stands = rw (← c.deref.ensures.value) (stands c.args.shape.now c.args.limits.now c.deref.result.now c.in_ok-tables.tables c.into_raw-raw.result c.in_ok-build.field-0 (rw c.deref.ensures.value fits) h raw c.in_ok-build.ensures);
+      stands = rw (← c.deref.ensures.value) (stands c.args.shape.now c.args.limits.now c.deref.result.now c.in_ok-tables.tables c.into_raw-raw.result c.in_ok-build.field-0 (rw c.deref.ensures.value fits) h raw c.in_ok-build.ensures.made);
     }
 
 pub returns-clause-columns : goal.returns-clause-columns
 returns-clause-columns g c =
     let h = c.in_ok-tables.ensures.ok in
     let raw = made c.args.shape.now c.in_ok-shape_like.field-0 c.args.limits.now c.deref.result.now c.in_ok-tables.tables c.into_raw-raw.result c.in_ok-shape_like.ensures h c.into_raw-raw.ensures in
-    has_columns c.args.shape.now h.sound_lines c.into_raw-raw.result c.in_ok-build.field-0 raw c.in_ok-build.ensures
+    has_columns c.args.shape.now h.sound_lines c.into_raw-raw.result c.in_ok-build.field-0 raw c.in_ok-build.ensures.made
