@@ -194,7 +194,7 @@ fn stop_of(tokens: &Tokens, fault: Fault) -> Stop
 /// first token with which the tokens so far begin no program, or at its end (Syntax); or at the first token of a
 /// statement inside 64 others, or the 257th of an expression that is no part of another, where the tokens up to
 /// this one begin a program (TooDeep). `NoMemory` may come of any text, and comes where types are nested in one
-/// another more than 4,096 deep.
+/// another more than 256 deep.
 pub fn parse(alloc: Global, tokens: &Tokens) -> Result<SpelledProcedure, Stop>
     ensures tree { IfOk result (λ tree. IsTreeOf tokens.now.tokens (procedure_of tree)) }
     ensures accepted { IfOk result (λ _. IsAccepted tokens.now) }

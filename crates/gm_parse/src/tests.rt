@@ -8,7 +8,23 @@ use std::test::*;
 const HEAD: &str = "Procedure f(G: Graph) {";
 
 // Each text, and what `scan` and then `parse` answer. The answers come from an Earley recognizer of the grammar.
-const ROWS: [(&str, &str); 112] = [
+const ROWS: [(&str, &str); 116] = [
+    (
+        "Procedure f(G: Graph) { Int # x; }",
+        "refused BadByte at 1:29",
+    ),
+    (
+        "Procedure f(G: Graph) { Int x = 99999999999999999999; }",
+        "refused NumberTooLarge at 1:33",
+    ),
+    (
+        "Procedure f(G: Graph) { /* x",
+        "refused OpenComment at 1:25",
+    ),
+    (
+        "Procedure f(G: Graph) {\n  Foreach (n: G.",
+        "refused Syntax at 2:17",
+    ),
     ("Procedure f(G: Graph) { Float d; }", "refused U1 at 1:25"),
     ("Procedure f(G: Graph) { Double d; }", "refused U1 at 1:25"),
     ("Procedure f(G: Graph) { String d; }", "refused U2 at 1:25"),

@@ -17,7 +17,7 @@ use gm_token::{Tokens, Word};
 use std::alloc::Global;
 
 /// How deep types may be nested in one another before there is not enough memory for more.
-pub const TYPE_ROOM: usize = 4096;
+pub const TYPE_ROOM: usize = 256;
 
 // The name of a graph in parentheses, if there is one.
 fn of_graph(
