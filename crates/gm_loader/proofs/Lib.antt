@@ -1,5 +1,4 @@
-pub mod Parting
-pub mod Digits
+pub mod Clipping
 pub mod Members
 pub mod Filling
 pub mod Taking

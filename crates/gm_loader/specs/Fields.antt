@@ -1,7 +1,7 @@
--- The fields of a line, and the numbers and values that a field may spell.
-use Rattle.std.specs.Prelude.{ℕ, ◌+◌, ◌*◌, ◌-◌, nat_le, Bool, true, false, ◌&&◌, ◌||◌, ◌==◌, if◌then◌else◌, ℤ, pos, neg_ℤ, List, [], ◌∷◌, filter, fold, Option, Some, None, option_map, Result, Ok, Err, codes, drop, slice_index}
-use Rattle.std.specs.List.{slice_split, list_all}
+-- The node numbers and values that a field may spell.
+use Rattle.std.specs.Prelude.{ℕ, nat_le, Bool, true, false, ◌||◌, ◌==◌, if◌then◌else◌, ℤ, pos, neg_ℤ, List, Option, Some, None, option_map, Result, Ok, Err, codes, drop, slice_index}
 use Rattle.std.specs.Str.{bytes_eq}
+use Rattle.gm_fields.specs.Fields.{number_in}
 use Rattle.gm_value.specs.declared.values.VType.{VType}
 use Rattle.gm_value.specs.declared.values.VType.TheVariants.{I32, I64, Flag, Node}
 use Rattle.gm_value.specs.declared.values.Value.{Value}
@@ -9,39 +9,6 @@ use Rattle.gm_value.specs.declared.values.Value.TheVariants.{Flag}
 use Rattle.gm_value.specs.Numbers.{fits, value_at}
 use Rattle.gm_loader.specs.declared.faults.LineFault.{LineFault}
 use Rattle.gm_loader.specs.declared.faults.LineFault.TheVariants.{BadLine, OutOfRange}
-
--- a space or a tab
-abbrev pub is_blank : ℕ → Bool
-is_blank b = b == 32 || b == 9
-
--- a part of one or more bytes
-abbrev pub is_some_part : List ℕ → Bool
-is_some_part [] = false
-is_some_part (b ∷ bs) = true
-
--- the fields of a line: the parts between blanks that are not empty
-abbrev pub fields : List ℕ → List (List ℕ)
-fields line = filter is_some_part (slice_split is_blank line)
-
--- a decimal digit
-abbrev pub is_digit : ℕ → Bool
-is_digit b = nat_le 48 b && nat_le b 57
-
--- one or more decimal digits
-abbrev pub is_number : List ℕ → Bool
-is_number field = is_some_part field && list_all is_digit field
-
--- the number with one digit more
-abbrev pub with_digit : ℕ → ℕ → ℕ
-with_digit n b = 10 * n + (b - 48)
-
--- the number that digits spell
-abbrev pub decimal : List ℕ → ℕ
-decimal digits = fold with_digit 0 digits
-
--- the number that a field spells, if it is one or more digits
-abbrev pub number_in : List ℕ → Option ℕ
-number_in field = if is_number field then Some (decimal field) else None
 
 -- the whole number that a field spells, if it is digits with or without a minus before them
 abbrev pub whole_in : List ℕ → Option ℤ

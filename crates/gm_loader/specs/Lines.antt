@@ -1,12 +1,13 @@
 -- What a line of a graph text is.
 use Rattle.std.specs.Prelude.{ℕ, List, [], ◌∷◌, ◌==◌, if◌then◌else◌, drop, Result, Ok, Err, slice_index, codes}
 use Rattle.std.specs.Str.{bytes_eq}
+use Rattle.gm_fields.specs.Fields.{fields, number_in}
 use Rattle.gm_value.specs.declared.values.VType.{VType}
 use Rattle.gm_value.specs.declared.values.Value.{Value}
 use Rattle.gm_graph.specs.declared.builds.Shape.{Shape}
 use Rattle.gm_loader.specs.declared.faults.LineFault.{LineFault}
 use Rattle.gm_loader.specs.declared.faults.LineFault.TheVariants.{BadLine, MissingColumn}
-use Rattle.gm_loader.specs.Fields.{fields, number_in, node_number, value_in}
+use Rattle.gm_loader.specs.Fields.{node_number, value_in}
 
 -- a line without a fault: one that is skipped, a node with a value for each node column, or an edge from a
 -- node number to a node number with a value for each edge column

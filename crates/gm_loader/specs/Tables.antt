@@ -1,6 +1,7 @@
 -- What the parts of the loader say of one another.
 use Rattle.std.specs.Prelude.{◌≡◌, ◌≢◌, ◌<◌, ◌≤◌, ℕ, ⊤, min, ℤ, pos, negsuc, false, List, [], ◌∷◌, ◌++◌, length, map, Result, Ok, Err, IsOkAnd, slice_index, AllPairs}
 use Rattle.std.specs.Str.Lines.{lines}
+use Rattle.gm_fields.specs.Fields.{number_in}
 use Rattle.gm_value.specs.declared.values.Value.{Value}
 use Rattle.gm_value.specs.declared.values.VType.{VType}
 use Rattle.gm_value.specs.declared.values.VType.TheVariants.{I32, I64, Flag, Node}
@@ -12,7 +13,7 @@ use Rattle.gm_loader.specs.declared.faults.LineStop.{LineStop}
 use Rattle.gm_loader.specs.declared.faults.LineStop.TheVariants.{Fault, NoMemory}
 use Rattle.gm_loader.specs.declared.limits.Limits.{Limits}
 use Rattle.gm_loader.specs.declared.tables.Tables.{Tables}
-use Rattle.gm_loader.specs.Fields.{is_blank, number_in, node_number, value_in}
+use Rattle.gm_loader.specs.Fields.{node_number, value_in}
 use Rattle.gm_loader.specs.Lines.{Line, ◌>>=◌, line_of}
 use Rattle.gm_loader.specs.GraphText.{edge_rows, node_rows, numbers_on, node_count, edge_count, columns_of, judged, lines_after}
 use Rattle.gm_loader.specs.Sets.{HasEach, IsSetOf}
@@ -28,11 +29,6 @@ IsWholeType Node = ⊥
 abbrev pub clipped : ℤ → ℤ
 clipped (pos n) = pos (min 18446744073709551615 n)
 clipped (negsuc n) = negsuc (min 18446744073709551614 n)
-
--- a text that begins with a field
-pub record StartsField (text : List ℕ) : Type 0 where
-  pub nonempty : 0 < length text
-  pub no_blank : is_blank (slice_index text 0) ≡ false
 
 -- a column with one value more
 abbrev pub with_value : TypedRow → Value → TypedRow

@@ -9,10 +9,10 @@ ghost use Rattle.gm_loader.specs.Tables.{HoldsLines};
 ghost use Rattle.gm_loader.specs.Loads.{LoadsGraph, LoadsFault, IsLineFault};
 
 use crate::faults::GraphFault;
-use crate::fields::cut_line;
 use crate::limits::Limits;
 use crate::tables::Tables;
 use gm_base::{Items, Source, read_all};
+use gm_fields::cut_line;
 use gm_graph::{Graph, Shape, build};
 use std::alloc::{AllocError, Global};
 

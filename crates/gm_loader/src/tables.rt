@@ -3,16 +3,17 @@
 ghost use Rattle.std.specs.Prelude.{◌≡◌, ◌∷◌, ◌++◌, [], ℕ, List, drop, MatchResult, IfOk, IfErr, OnOk, Ok, Err};
 ghost use Rattle.gm_graph.specs.declared.builds.Shape.{Shape as ShapeValue};
 ghost use Rattle.gm_loader.specs.declared.limits.Limits.{Limits as LimitsValue};
-ghost use Rattle.gm_loader.specs.Fields.{fields};
+ghost use Rattle.gm_fields.specs.Fields.{fields};
 ghost use Rattle.gm_loader.specs.Lines.{Line, first_number, node_line, edge_line, line_of};
 ghost use Rattle.gm_loader.specs.GraphText.{columns_of, raw_of};
 ghost use Rattle.gm_loader.specs.Tables.{IfFault, Holds, Takes, ReadsValue, ReadsNumber, row_added};
 
 use crate::faults::{LineFault, LineStop};
-use crate::fields::{cut_field, first_byte, is_word, node_number, value_in};
+use crate::fields::{first_byte, is_word, node_number, value_in};
 use crate::limits::Limits;
 use crate::sets::NumberSet;
 use gm_base::{Items, NoMemory};
+use gm_fields::cut_field;
 use gm_graph::{Column, RawGraph, Shape};
 use gm_value::VType;
 use std::alloc::{AllocError, Global};

@@ -1,5 +1,5 @@
 use Rattle.std.proofs.Common.{◌≡◌, length, take, drop}
-use Rattle.gm_loader.specs.Fields.{fields}
+use Rattle.gm_fields.specs.Fields.{fields}
 use Rattle.gm_loader.specs.Tables.{row_added}
 use Rattle.gm_loader.proofs.Filling.{behind_columns}
 use Rattle.gm_loader.proofs.tables.read_values.Given as goal

@@ -1,6 +1,6 @@
 use Rattle.std.proofs.Common.{◌<◌, refl, arith}
 use Rattle.std.proofs.lemmas.Result.{err_from_is_err_and}
-use Rattle.gm_loader.specs.Fields.{fields}
+use Rattle.gm_fields.specs.Fields.{fields}
 use Rattle.gm_loader.proofs.Taking.{edge_stop, edge_taken, edge_many, edge_far, edge_holds}
 use Rattle.gm_loader.proofs.tables.Tables.take_edge.Goals as goal
 

@@ -1,6 +1,6 @@
 use Rattle.std.proofs.Common.{◌≡◌, ◌<◌, true, false, refl, arith, rules}
 use Rattle.std.proofs.lemmas.Result.{err_from_is_err_and}
-use Rattle.gm_loader.specs.Fields.{fields}
+use Rattle.gm_fields.specs.Fields.{fields}
 use Rattle.gm_loader.proofs.Taking.{node_stop, node_twice, node_many, node_holds}
 use Rattle.gm_loader.proofs.tables.Tables.take_node.Goals as goal
 
