@@ -1,7 +1,7 @@
 -- Columns that are filled row by row.
-use Rattle.std.proofs.Common.{◌≡◌, ◌<◌, ◌+◌, ℕ, List, [], ◌∷◌, ◌++◌, length, map, take, drop, set, get_or, refl, ap, sym, ◌∙◌, arith, append_assoc, add-one, drop-cons}
+use Rattle.std.proofs.Common.{◌≡◌, ◌<◌, ◌+◌, ℕ, List, [], ◌∷◌, ◌++◌, length, map, take, drop, get_or, refl, ap, sym, ◌∙◌}
 use Rattle.std.specs.Prelude.{Result, Ok, Err}
-use Rattle.std.proofs.lemmas.List.{map-append, take_more, take_more_set, drop-set-lt}
+use Rattle.std.proofs.lemmas.List.{map-append, take_more}
 use Rattle.gm_value.specs.declared.values.VType.{VType}
 use Rattle.gm_value.specs.declared.values.Value.{Value}
 use Rattle.gm_graph.specs.Columns.{TypedRow}
@@ -10,48 +10,11 @@ use Rattle.gm_loader.specs.declared.faults.LineFault.{LineFault}
 use Rattle.gm_loader.specs.Fields.{value_in}
 use Rattle.gm_loader.specs.Lines.{NodeLine, EdgeLine, ◌>>=◌, first_number, values_in, edge_line, node_line}
 use Rattle.gm_loader.specs.GraphText.{columns_of, first_value}
-use Rattle.gm_loader.specs.Tables.{row_added, with_value, ReadsValue, ReadsNumber}
+use Rattle.gm_loader.specs.Tables.{row_added, with_value, ReadsNumber}
 
 -- columns behind others
 abbrev pub behind_columns : List TypedRow → Result (List TypedRow) LineFault → Result (List TypedRow) LineFault
 behind_columns done rest = rest >>= λ columns. Ok (done ++ columns)
-
-pub behind_none : (rest : Result (List TypedRow) LineFault) → behind_columns [] rest ≡ rest
-behind_none (Ok columns) = refl
-behind_none (Err e) = refl
-
--- the fault of one column stops all behind it
-pub fault_first : (column : TypedRow) (columns : List TypedRow) (parts : List (List ℕ)) (e : LineFault) → row_added (column ∷ []) parts ≡ Err e → row_added (column ∷ columns) parts ≡ Err e
-fault_first column columns [] e h = h
-fault_first column columns (part ∷ parts) e h = stops (value_in column.vtype part) h where
-  stops : (r : Result Value LineFault) → (r >>= λ value. Ok (with_value column value ∷ [])) ≡ Err e
-      → (r >>= λ value. row_added columns parts >>= λ longer. Ok (with_value column value ∷ longer)) ≡ Err e
-  stops (Ok value) i = cc
-  stops (Err f) i = cc
-
--- the fault of one column, behind others
-pub fault_behind : (done rest : List TypedRow) (column : TypedRow) (columns : List TypedRow) (parts : List (List ℕ)) (e : LineFault)
-    → columns ≡ column ∷ rest → row_added (column ∷ []) parts ≡ Err e → behind_columns done (row_added columns parts) ≡ Err e
-fault_behind done rest column columns parts e same h =
-    rw (same, fault_first column rest parts e h) refl
-
--- one column more was read
-pub value_behind : (done rest : List TypedRow) (old new : TypedRow) (parts more : List (List ℕ)) → ReadsValue old new parts more
-    → behind_columns done (row_added (old ∷ rest) parts) ≡ behind_columns (done ++ new ∷ []) (row_added rest more)
-value_behind done rest old new parts more r =
-    rw (r.first, r.spelled, r.added) (joins (row_added rest more)) where
-      joins : (longer : Result (List TypedRow) LineFault) → behind_columns done (longer >>= λ columns. Ok (with_value old r.value ∷ columns)) ≡ behind_columns (done ++ with_value old r.value ∷ []) longer
-      joins (Ok columns) = ap Ok (sym (append_assoc done (with_value old r.value ∷ []) columns))
-      joins (Err e) = refl
-
--- the same, at a place of the columns
-pub value_at_place : (columns : List TypedRow) (place : ℕ) (old new d : TypedRow) (parts more : List (List ℕ)) → place < length columns → old ≡ get_or columns place d → ReadsValue old new parts more
-    → behind_columns (take place columns) (row_added (drop place columns) parts) ≡ behind_columns (take (place + 1) (set columns place new)) (row_added (drop (place + 1) (set columns place new)) more)
-value_at_place columns place old new d parts more h is r =
-    let first : drop place columns ≡ old ∷ drop (place + 1) columns = rw (add-one, is) (drop-cons columns place d h) in
-    let front : take (place + 1) (set columns place new) ≡ take place columns ++ new ∷ [] = take_more_set columns place new h in
-    let back : drop (place + 1) (set columns place new) ≡ drop (place + 1) columns = drop-set-lt (place + 1) columns place new (omega arith) in
-    rw (first, front, back) (value_behind (take place columns) (drop (place + 1) columns) old new parts more r)
 
 -- a row of fields, added to columns with rows
 pub row_columns : (types : List VType) (rows : List (List Value)) (parts : List (List ℕ)) → row_added (columns_of types rows) parts ≡ (values_in types parts >>= λ values. Ok (columns_of types (rows ++ values ∷ [])))

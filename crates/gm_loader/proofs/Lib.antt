@@ -1,4 +1,3 @@
-pub mod Clipping
 pub mod Members
 pub mod Filling
 pub mod Taking

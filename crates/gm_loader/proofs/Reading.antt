@@ -1,5 +1,5 @@
 -- A text that is read line by line, and the graph that is made of its lines.
-use Rattle.std.proofs.Common.{◌≡◌, ◌≢◌, ◌≤◌, ◌<◌, ◌+◌, ℕ, suc, Bool, true, false, cond, ◌||◌, List, [], ◌∷◌, ◌++◌, length, map, drop, eqb, ltb, refl, ap, sym, ◌∙◌, arith, length-append}
+use Rattle.std.proofs.Common.{◌≡◌, ◌≤◌, ◌<◌, ◌+◌, ℕ, suc, Bool, true, false, cond, ◌||◌, List, [], ◌∷◌, ◌++◌, length, map, drop, eqb, ltb, refl, ap, sym, ◌∙◌, arith, length-append}
 use Rattle.std.specs.Prelude.{Result, Ok, Err, All, IsOkAnd, Option, Some, None}
 use Rattle.std.specs.Str.Lines.{lines}
 use Rattle.std.proofs.lemmas.Bool.Decides.{nat_tests}
@@ -14,18 +14,13 @@ use Rattle.gm_graph.specs.declared.builds.RawGraph.{RawGraph}
 use Rattle.gm_graph.specs.Graphs.{NumberedGraph}
 use Rattle.gm_graph.specs.Columns.{TypedRow}
 use Rattle.gm_graph.specs.Builds.{IsBuildable, IsBuiltOf, spread_out}
-use Rattle.gm_loader.specs.declared.faults.GraphFault.{GraphFault}
 use Rattle.gm_loader.specs.declared.faults.GraphFault.TheVariants as fault
 use Rattle.gm_loader.specs.declared.faults.LineFault.{LineFault}
-use Rattle.gm_loader.specs.declared.faults.LineFault.TheVariants.{BadLine, MissingColumn, OutOfRange, NodeTwice, TooManyNodes, TooManyEdges}
-use Rattle.gm_loader.specs.declared.faults.LineStop.{LineStop}
-use Rattle.gm_loader.specs.declared.faults.LineStop.TheVariants.{Fault, NoMemory}
 use Rattle.gm_loader.specs.declared.limits.Limits.{Limits}
 use Rattle.gm_loader.specs.declared.tables.Tables.{Tables}
 use Rattle.gm_loader.specs.Lines.{Line, Skipped, NodeLine, EdgeLine, line_of}
-use Rattle.gm_loader.specs.GraphText.{edge_rows, node_rows, numbers_on, node_count, edge_count, judged, at_line, on_line, lines_after, lines_of, columns_of, first_value, raw_of, StandsFor, HasColumns}
+use Rattle.gm_loader.specs.GraphText.{edge_rows, node_rows, numbers_on, node_count, edge_count, judged, on_line, lines_after, lines_of, columns_of, first_value, raw_of, StandsFor, HasColumns}
 use Rattle.gm_loader.specs.Tables.{Holds, HoldsLines, Takes}
-use Rattle.gm_loader.specs.Loads.{IsLineFault, stop_at_line}
 use Rattle.gm_loader.proofs.Members.{among, distinct-within}
 use Rattle.gm_loader.proofs.Filling.{columns_types}
 
@@ -55,42 +50,6 @@ reading_more shape limits text rest line behind number old new done r cut shorte
         held = t;
       }
       goes (Err f) e t = absurd t
-
--- a line with a fault
-pub line_fault : (k : ℕ) (f : LineFault) → IsLineFault (at_line k f)
-line_fault k BadLine = tt
-line_fault k MissingColumn = tt
-line_fault k OutOfRange = tt
-line_fault k NodeTwice = tt
-line_fault k TooManyNodes = tt
-line_fault k TooManyEdges = tt
-
-pub reading_fault : (shape : Shape) (limits : Limits) (text rest line behind : List ℕ) (number : ℕ) (old : Tables) (f : LineFault)
-    → (r : IsReading shape limits text rest number old) → lines rest ≡ line ∷ lines behind
-    → judged limits r.before (line_of shape line) ≡ Err f → lines_after limits [] (map (line_of shape) (lines text)) ≡ Err (at_line (number + 1) f)
-reading_fault shape limits text rest line behind number old f r cut e =
-    r.same
-    ∙ ap (λ ls. lines_after limits r.before (map (line_of shape) ls)) cut
-    ∙ ap (λ j. on_line (length r.before + 1) j (λ s. lines_after limits (r.before ++ s ∷ []) (map (line_of shape) (lines behind)))) e
-    ∙ ap (λ k. Err (at_line (k + 1) f)) (sym r.count)
-
--- what stopped a line
-abbrev pub Stops : Shape → Limits → List ℕ → GraphFault → Type 0
-Stops shape limits text e =
-    (e ≢ fault.NoMemory → IsLineFault e) × (e ≢ fault.NoMemory → lines_after limits [] (map (line_of shape) (lines text)) ≡ Err e)
-
-pub reading_stop : (shape : Shape) (limits : Limits) (text rest line behind : List ℕ) (number : ℕ) (old new : Tables) (stop : LineStop)
-    → (r : IsReading shape limits text rest number old) → lines rest ≡ line ∷ lines behind
-    → Takes shape limits r.before (line_of shape line) new (Err stop) → Stops shape limits text (stop_at_line (number + 1) stop)
-reading_stop shape limits text rest line behind number old new (Fault f) r cut takes =
-    (λ _. line_fault (number + 1) f, λ _. reading_fault shape limits text rest line behind number old f r cut takes)
-reading_stop shape limits text rest line behind number old new NoMemory r cut takes =
-    (λ no. absurd (no refl), λ no. absurd (no refl))
-
--- the end of the text
-pub reading_end : (shape : Shape) (limits : Limits) (text rest : List ℕ) (number : ℕ) (tables : Tables) → IsReading shape limits text rest number tables → length rest ≡ 0 → HoldsLines shape limits text tables
-reading_end shape limits text [] number tables r none = record { sound_lines = r.before; no_fault = r.same; held = r.held }
-reading_end shape limits text (x ∷ xs) number tables r none = absurd (omega (arith, none))
 
 -- the rows of columns
 columns_rows : (types : List VType) (rows : List (List Value)) (k : ℕ) → length rows ≡ k → All (λ (c : TypedRow). length c.values ≡ k) (columns_of types rows)

@@ -15,7 +15,7 @@ use Rattle.gm_loader.specs.declared.faults.LineStop.TheVariants.{Fault, NoMemory
 use Rattle.gm_loader.specs.declared.limits.Limits.{Limits}
 use Rattle.gm_loader.specs.declared.sets.NumberSet.{NumberSet}
 use Rattle.gm_loader.specs.declared.tables.Tables.{Tables}
-use Rattle.gm_loader.specs.Lines.{Line, Skipped, NodeLine, EdgeLine, node_line, edge_line}
+use Rattle.gm_loader.specs.Lines.{Line, NodeLine, EdgeLine, node_line, edge_line}
 use Rattle.gm_loader.specs.GraphText.{EdgeRow, NodeRow, edges_in, nodes_in, numbers_in, edge_rows, node_rows, numbers_on, node_count, edge_count, repeats, unless, judged, columns_of}
 use Rattle.gm_loader.specs.Sets.{has, IsSetOf}
 use Rattle.gm_loader.specs.Tables.{Holds, Takes, IfFault, ReadsNumber, row_added}
@@ -43,9 +43,6 @@ numbers_edge before a b vs =
 
 pub numbers_node : (before : List Line) (n : ℕ) (vs : List Value) → numbers_on (before ++ NodeLine n vs ∷ []) ≡ numbers_on before ++ n ∷ []
 numbers_node before n vs = flat_map-append numbers_in before (NodeLine n vs ∷ [])
-
-pub numbers_same : (before : List Line) → numbers_on (before ++ Skipped ∷ []) ≡ numbers_on before
-numbers_same before = flat_map-append numbers_in before (Skipped ∷ []) ∙ append-nil (numbers_on before)
 
 -- how a line is judged after others
 within : (k n : ℕ) → n ≤ k → ltb k n ≡ false
@@ -86,30 +83,6 @@ takes_fault shape limits before read line tables fault e j = rw e j
 pub takes_field_fault : (shape : Shape) (limits : Limits) (before : List Line) (read : Result Line LineFault) (tables : Tables) (fault : LineFault)
     → read ≡ Err fault → Takes shape limits before read tables (Err (Fault fault))
 takes_field_fault shape limits before read tables fault e = rw e refl
-
--- a skipped line
-pub takes_skipped : (shape : Shape) (limits : Limits) (before : List Line) (read : Result Line LineFault) (tables : Tables) (done : Unit {0})
-    → read ≡ Ok Skipped → Holds shape limits before tables → Takes shape limits before read tables (Ok done)
-takes_skipped shape limits before read tables done e h =
-    let same_edges : edge_rows (before ++ Skipped ∷ []) ≡ edge_rows before = edge_rows_same before Skipped refl in
-    let same_nodes : node_rows (before ++ Skipped ∷ []) ≡ node_rows before = node_rows_same before Skipped refl in
-    let same_numbers : numbers_on (before ++ Skipped ∷ []) ≡ numbers_on before = numbers_same before in
-    let few : node_count (before ++ Skipped ∷ []) ≤ limits.nodes = rw same_numbers h.few_nodes in
-    let few_edges : edge_count (before ++ Skipped ∷ []) ≤ limits.edges = rw same_edges h.few_edges in
-    takes_sound shape limits before read Skipped tables done e
-    (judged_sound limits before Skipped refl few few_edges)
-    (record {
-      from = rw same_edges h.from;
-      to = rw same_edges h.to;
-      edge_columns = rw same_edges h.edge_columns;
-      extra = rw same_nodes h.extra;
-      node_columns = rw same_nodes h.node_columns;
-      seen = rw same_numbers h.seen;
-      listed = rw same_nodes h.listed;
-      distinct_nodes = rw same_nodes h.distinct_nodes;
-      few_nodes = few;
-      few_edges = few_edges;
-    })
 
 -- an edge line: what was read of it
 pub record EdgeRead (shape : Shape) (limits : Limits) (before : List Line) (old : Tables) (columns : List TypedRow) (seen : NumberSet) (parts : List (List ℕ)) (source target : ℕ) : Type 0 where

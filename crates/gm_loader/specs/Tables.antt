@@ -1,5 +1,5 @@
 -- What the parts of the loader say of one another.
-use Rattle.std.specs.Prelude.{◌≡◌, ◌≢◌, ◌<◌, ◌≤◌, ℕ, ⊤, min, ℤ, pos, negsuc, false, List, [], ◌∷◌, ◌++◌, length, map, Result, Ok, Err, IsOkAnd, slice_index, AllPairs}
+use Rattle.std.specs.Prelude.{◌≡◌, ◌≢◌, ◌≤◌, ℕ, ⊤, min, ℤ, pos, negsuc, List, [], ◌∷◌, ◌++◌, map, Result, Ok, Err, IsOkAnd, AllPairs}
 use Rattle.std.specs.Str.Lines.{lines}
 use Rattle.gm_fields.specs.Fields.{number_in}
 use Rattle.gm_value.specs.declared.values.Value.{Value}
