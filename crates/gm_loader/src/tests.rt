@@ -276,3 +276,35 @@ fn sources_are_loaded(rt: HostRuntime) -> Result<(), Fail> {
     assert_eq!(rt; fault.as_str(), "MissingColumn(2)");
     Ok(())
 }
+
+#[test]
+fn faults_say_what_and_where(rt: HostRuntime) -> Result<(), Fail> {
+    let said = [
+        (GraphFault::BadLine(3), "bad line 3"),
+        (
+            GraphFault::MissingColumn(4),
+            "a column is missing in line 4",
+        ),
+        (
+            GraphFault::OutOfRange(5),
+            "a number is out of range in line 5",
+        ),
+        (
+            GraphFault::NodeTwice(6),
+            "a second line of one node in line 6",
+        ),
+        (GraphFault::TooManyNodes(7), "too many nodes from line 7 on"),
+        (
+            GraphFault::TooManyEdges(18_446_744_073_709_551_615),
+            "too many edges from line 18446744073709551615 on",
+        ),
+        (GraphFault::ReadFault, "a read failed"),
+        (GraphFault::TooLong, "too long"),
+        (GraphFault::NoMemory, "out of memory"),
+    ];
+    for (fault, want) in said {
+        let text = format!(in rt.alloc(); "{fault}")?;
+        assert_eq!(rt; text.as_str(), want, "of {fault:?}");
+    }
+    Ok(())
+}
