@@ -1,6 +1,6 @@
 //! The bounds of node numbers.
 
-ghost use Rattle.std.specs.Prelude.{◌≡◌, ◌<◌, ◌≤◌, ◌-◌, ◌+◌, ◌^◌, ◌↔◌, ◌⊎◌, IsTrue, Contains, length};
+ghost use Rattle.std.specs.Prelude.{◌<◌, ◌≤◌, ◌-◌, ◌+◌, ◌^◌, ◌↔◌, ◌≡◌, ◌++◌, IsTrue, Contains};
 ghost use Rattle.gm_graph.specs.Numberings.{AreWithin, IsWidened};
 
 // The least and the greatest of some numbers. Where there is no number, the least is above the greatest.
@@ -16,6 +16,8 @@ impl Bounds {
         ensures from { AreWithin result from.now }
         ensures to { AreWithin result to.now }
         ensures extra { AreWithin result extra.now }
+        ensures least { result.least ≤ result.greatest → Contains (from.now ++ to.now ++ extra.now) result.least }
+        ensures greatest { result.least ≤ result.greatest → Contains (from.now ++ to.now ++ extra.now) result.greatest }
     {
         let none = Bounds {
             least: u64::MAX,

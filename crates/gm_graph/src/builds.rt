@@ -48,7 +48,9 @@ pub fn build(alloc: Global, raw: RawGraph) -> Result<Graph, NoMemory>
         raw.extra.as_slice(),
     )?;
     let sources = numbering.indices(alloc, raw.from.as_slice())?;
+    drop(raw.from);
     let targets = numbering.indices(alloc, raw.to.as_slice())?;
+    drop(raw.to);
     let rows = rows_of(alloc, &numbering, raw.extra.as_slice())?;
     let numbers = numbering.into_numbers();
     let node_columns = spread_all(alloc, rows.as_slice(), raw.node_columns.as_slice())?;
