@@ -8,7 +8,7 @@ use Rattle.gm_value.specs.declared.values.Value.{Value}
 use Rattle.gm_graph.specs.declared.builds.RawGraph.{RawGraph}
 use Rattle.gm_graph.specs.declared.groups.Groups.{Groups}
 use Rattle.gm_graph.specs.Columns.{TypedRow}
-use Rattle.gm_graph.specs.Builds.{IsBuildable, numbers_of, spread_out}
+use Rattle.gm_graph.specs.Builds.{IsBuildable, distinct, numbers_of, spread_out}
 use Rattle.gm_graph.specs.Spreads.{IsRowOf, HasRow, value_in}
 use Rattle.gm_graph.specs.Rows.{IsGrouped}
 use Rattle.gm_graph.proofs.Building.{numbers-few, rows-few, columns-spread, spread-rows}
@@ -26,6 +26,19 @@ numbering raw numbers from to extra a b e up members = record {
       let same : from ++ to ++ extra ≡ numbers_of raw = cc in
       subst P same (members n);
 }
+
+-- the same of numbers that are the numbering's
+pub numbering-as : (raw : RawGraph) (numbers known from to extra : List ℕ) → numbers ≡ known → from ≡ raw.from → to ≡ raw.to → extra ≡ raw.extra → IsStrictlyIncreasing known → ((n : ℕ) → Contains known n ↔ Contains (from ++ to ++ extra) n) → IsNumbering raw numbers
+numbering-as raw numbers known from to extra same a b e up members =
+    let P : List ℕ → Type 0 = λ l. IsNumbering raw l in
+    subst P (sym same) (numbering raw known from to extra a b e up members)
+
+-- there are no more different numbers in the lists that were lent
+pub lent-few : (raw : RawGraph) (from to extra : List ℕ) → from ≡ raw.from → to ≡ raw.to → extra ≡ raw.extra → IsBuildable raw → length (distinct (from ++ to ++ extra)) ≤ 2147483647
+lent-few raw from to extra a b e can =
+    let P : List ℕ → Type 0 = λ l. length (distinct l) ≤ 2147483647 in
+    let same : from ++ to ++ extra ≡ numbers_of raw = cc in
+    subst P (sym same) can.few_nodes
 
 pub nodes-few : (raw : RawGraph) (numbers : List ℕ) → IsBuildable raw → IsNumbering raw numbers → length numbers ≤ 2147483647
 nodes-few raw numbers can held = omega (arith, numbers-few numbers (numbers_of raw) held.ascending held.members, can.few_nodes)

@@ -1,5 +1,6 @@
 pub mod Grouping
 pub mod Ascending
+pub mod Numbering
 pub mod Spreading
 pub mod Steps
 pub mod Building

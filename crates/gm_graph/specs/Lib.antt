@@ -4,3 +4,5 @@ pub mod Graphs
 pub mod Builds
 pub mod Rows
 pub mod Spreads
+pub mod Numberings
+pub mod Lookups

@@ -7,7 +7,7 @@ ghost use Rattle.gm_graph.specs.Columns.{CanHold};
 use crate::columns::Column;
 use crate::graphs::Graph;
 use crate::groups::Groups;
-use crate::numbers::{indices, node_numbers};
+use crate::numberings::Numbering;
 use crate::rows::{rows_of, spread_all};
 use gm_base::{Items, NoMemory};
 use gm_value::VType;
@@ -41,15 +41,18 @@ pub fn build(alloc: Global, raw: RawGraph) -> Result<Graph, NoMemory>
     ensures made { IfOk result (IsBuiltOf raw) }
     ensures shape { IfOk result (HasShape raw.shape) }
 {
-    let numbers = node_numbers(
+    let numbering = Numbering::new(
         alloc,
         raw.from.as_slice(),
         raw.to.as_slice(),
         raw.extra.as_slice(),
     )?;
-    let sources = indices(alloc, numbers.as_slice(), raw.from.as_slice())?;
-    let targets = indices(alloc, numbers.as_slice(), raw.to.as_slice())?;
-    let rows = rows_of(alloc, numbers.as_slice(), raw.extra.as_slice())?;
+    let sources = numbering.indices(alloc, raw.from.as_slice())?;
+    drop(raw.from);
+    let targets = numbering.indices(alloc, raw.to.as_slice())?;
+    drop(raw.to);
+    let rows = rows_of(alloc, &numbering, raw.extra.as_slice())?;
+    let numbers = numbering.into_numbers();
     let node_columns = spread_all(alloc, rows.as_slice(), raw.node_columns.as_slice())?;
     let outward = Groups::new(alloc, sources.as_slice(), numbers.len())?;
     let inward = Groups::new(alloc, targets.as_slice(), numbers.len())?;

@@ -1,11 +1,14 @@
 //! Graphs in flat rows: their making, what can be asked of them, and the outcome of a run over one.
 #![tactic(auto)]
 
+mod bounds;
 mod builds;
 mod columns;
 mod graphs;
 mod groups;
 mod laws;
+mod marks;
+mod numberings;
 mod numbers;
 mod outcomes;
 mod rows;

@@ -6,7 +6,7 @@ ghost use Rattle.gm_graph.specs.Columns.{CanHold};
 ghost use Rattle.gm_graph.specs.Spreads.{IsRowOf, HasRow, value_in};
 
 use crate::columns::Column;
-use crate::numbers::index_of;
+use crate::numberings::Numbering;
 use gm_base::NoMemory;
 use gm_value::Value;
 use std::alloc::Global;
@@ -15,9 +15,12 @@ use std::alloc::Global;
 const NO_ROW: u32 = u32::MAX;
 
 // The row of each node, by index, in columns whose rows belong to the numbers of `extra`.
-pub(crate) fn rows_of(alloc: Global, numbers: &[u64], extra: &[u64]) -> Result<Vec<u32>, NoMemory>
+pub(crate) fn rows_of(
+    alloc: Global,
+    numbers: &Numbering,
+    extra: &[u64],
+) -> Result<Vec<u32>, NoMemory>
     requires ascending { IsStrictlyIncreasing numbers.now }
-    requires few { length numbers.now ≤ 2147483647 }
     requires few_rows { length extra.now ≤ 2147483647 }
     requires known { All (Contains numbers.now) extra.now }
     ensures len { IfOk result (λ rows. vec_len rows ≡ length numbers.now) }
@@ -26,7 +29,7 @@ pub(crate) fn rows_of(alloc: Global, numbers: &[u64], extra: &[u64]) -> Result<V
 {
     let mut rows = vec![in alloc; NO_ROW; numbers.len()]?;
     for (row, number) in extra.iter().enumerate() {
-        rows[index_of(numbers, *number) as usize] = row as u32;
+        rows[numbers.index_of(*number) as usize] = row as u32;
     }
     Ok(rows)
 }

@@ -42,6 +42,23 @@ fn lines(alloc: Global) -> Result<RawGraph, NoMemory>
     })
 }
 
+// The line `9223372036854775807 3`, of numbers that are far apart.
+fn far_line(alloc: Global) -> Result<RawGraph, NoMemory>
+    ensures { IfOk result IsBuildable }
+{
+    Ok(RawGraph {
+        shape: Shape {
+            nodes: Items::new(Vec::new(alloc)),
+            edges: Items::new(Vec::new(alloc)),
+        },
+        from: Items::new(vec![in alloc; 9_223_372_036_854_775_807u64]?),
+        to: Items::new(vec![in alloc; 3u64]?),
+        edge_columns: Items::new(Vec::new(alloc)),
+        extra: Items::new(Vec::new(alloc)),
+        node_columns: Items::new(Vec::new(alloc)),
+    })
+}
+
 // Each node's number, then its edges with their places and other ends, away from it (`>`) and to it (`<`).
 fn listing(alloc: Global, graph: &Graph) -> Result<String, AllocError> {
     let mut text = String::new(alloc);
@@ -82,5 +99,13 @@ fn a_graph_is_made_and_read(rt: HostRuntime) -> Result<(), Fail> {
     ] {
         assert_eq!(rt; graph.node_of(number), node);
     }
+    Ok(())
+}
+
+#[test]
+fn numbers_far_apart_have_indices(rt: HostRuntime) -> Result<(), Fail> {
+    let graph = build(rt.alloc(), far_line(rt.alloc())?)?;
+    let text = listing(rt.alloc(), &graph)?;
+    assert_eq!(rt; text.as_str(), "3: <0/1;9223372036854775807: >0/0;");
     Ok(())
 }
