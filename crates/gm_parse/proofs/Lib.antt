@@ -10,6 +10,7 @@ mod Ranks
 mod LevelLaws
 mod NumberLaws
 mod TypeLaws
+mod NestingLaws
 mod StatementLaws
 mod Verdict
 mod SupportLaws

@@ -7,4 +7,5 @@ pub mod Goes
 pub mod Choices
 pub mod Levels
 pub mod Trees
+pub mod Nesting
 pub mod Refused

@@ -15,7 +15,7 @@ use crate::choices::procedure_word;
 use crate::faults::Fault;
 use crate::reading::{choose, eat_name, next_is, next_is_name, peek, place_at, skip};
 use crate::statements::block;
-use crate::types::{TYPE_ROOM, more_names, type_name};
+use crate::types::{more_names, type_name};
 use gm_ast::surface::{SpelledGroup, SpelledProcedure, SpelledType};
 use gm_base::{Refusal, Rule, Stop};
 use gm_token::{Tokens, Word};
@@ -37,7 +37,7 @@ fn group(
     first.push(name)?;
     let (names, end) = more_names(alloc, tokens, after, around, first)?;
     let colon = skip(tokens, end, Word::Colon, around)?;
-    let (vtype, last) = type_name(alloc, tokens, colon, around, TYPE_ROOM)?;
+    let (vtype, last) = type_name(alloc, tokens, colon, around)?;
     Ok((SpelledGroup { names, vtype }, last))
 }
 
@@ -103,7 +103,7 @@ fn result_type(
         return Ok((None, at));
     }
     let colon = skip(tokens, at, Word::Colon, around)?;
-    let (vtype, end) = type_name(alloc, tokens, colon, around, TYPE_ROOM)?;
+    let (vtype, end) = type_name(alloc, tokens, colon, around)?;
     Ok((Some(vtype), end))
 }
 
@@ -193,8 +193,7 @@ fn stop_of(tokens: &Tokens, fault: Fault) -> Stop
 /// Refused is the first word that this version does not take (U1 to U8). Without one, the text is refused at the
 /// first token with which the tokens so far begin no program, or at its end (Syntax); or at the first token of a
 /// statement inside 64 others, or the 257th of an expression that is no part of another, where the tokens up to
-/// this one begin a program (TooDeep). `NoMemory` may come of any text, and comes where types are nested in one
-/// another more than 256 deep.
+/// this one begin a program (TooDeep). `NoMemory` may come of any text.
 pub fn parse(alloc: Global, tokens: &Tokens) -> Result<SpelledProcedure, Stop>
     ensures tree { IfOk result (λ tree. IsTreeOf tokens.now.tokens (procedure_of tree)) }
     ensures accepted { IfOk result (λ _. IsAccepted tokens.now) }

@@ -19,7 +19,7 @@ use crate::reading::{
     choose, eat, eat_name, next_is, next_is_expression, next_is_loop, next_is_name,
     next_is_statement, next_is_type, peek, skip,
 };
-use crate::types::{TYPE_ROOM, more_names, type_name};
+use crate::types::{more_names, type_name};
 use gm_ast::surface::{Name, SpelledExpr, SpelledStmt, SpelledTarget};
 use gm_base::Place;
 use gm_token::{Tokens, Word};
@@ -147,7 +147,7 @@ fn declaration(
     ensures tree { IfOk result (λ read. ReadsStmt (drop at tokens.now.tokens) (stmt_of read.0) (drop read.1 tokens.now.tokens)) }
     ensures next { IfOk result (λ read. (at < read.1) × (read.1 ≤ length tokens.now.tokens)) }
 {
-    let (vtype, named) = type_name(alloc, tokens, at, around, TYPE_ROOM)?;
+    let (vtype, named) = type_name(alloc, tokens, at, around)?;
     let (name, after) = eat_name(alloc, tokens, named, around)?;
     if next_is(tokens, after, Word::Assign) {
         let (equals, start) = eat(tokens, after, Word::Assign, around)?;

@@ -1,6 +1,7 @@
 //! Texts and their verdicts, by scanning and parsing.
 
 use super::*;
+use gm_ast::surface::{SpelledProcedure, SpelledStmt};
 use gm_token::scan;
 use std::alloc::{AllocError, Global};
 use std::test::*;
@@ -396,6 +397,48 @@ fn cuts(rt: HostRuntime) -> Result<(), Fail> {
             let expected = format!(in alloc; "refused Syntax at 1:{col}")?;
             assert_eq!(rt; answer.as_str(), expected.as_str());
         }
+    }
+    Ok(())
+}
+
+// A declaration of a type within so many property types, of which so many have their `>`.
+fn nested(alloc: Global, depth: usize, ends: usize) -> Result<String, AllocError> {
+    let mut text = repeated(alloc, "", "N_P<", depth, "Int")?;
+    for _ in 0..ends {
+        text.push_str(">")?;
+    }
+    text.push_str(" x;}")?;
+    Ok(text)
+}
+
+// How many property types are around the type that the first statement declares.
+fn layers(tree: &SpelledProcedure) -> usize {
+    match tree.body.first() {
+        Some(SpelledStmt::Declare { vtype, .. }) => vtype.layers.len(),
+        _ => 0,
+    }
+}
+
+#[test]
+fn nested_types(rt: HostRuntime) -> Result<(), Fail> {
+    let alloc = rt.alloc();
+    for depth in [0, 1, 2, 257, 2_000] {
+        let text = nested(alloc, depth, depth)?;
+        let tree = parse(alloc, &scan(alloc, text.as_str().as_bytes())?)?;
+        assert_eq!(rt; layers(&tree), depth);
+    }
+    let rows: [(usize, usize, &str); 4] = [
+        (1, 0, "refused Syntax at 1:32"),
+        (257, 256, "refused Syntax at 1:1312"),
+        (2_000, 1_999, "refused Syntax at 1:10027"),
+        (2_000, 2_001, "refused Syntax at 1:10027"),
+    ];
+    for (depth, ends, expected) in &rows {
+        let text = nested(alloc, *depth, *ends)?;
+        assert_eq!(rt;
+            verdict(alloc, text.as_str().as_bytes())?.as_str(),
+            *expected
+        );
     }
     Ok(())
 }
