@@ -1,1 +1,2 @@
 pub mod SurfaceTrees
+mod Rows

@@ -1,13 +1,11 @@
 -- The syntax of trees, level by level: one equation for each form.
-use Rattle.std.proofs.Common.{◌≡◌, ℤ, Bool, List, [], ◌∷◌, map, refl, ap, rules}
+use Rattle.std.proofs.Common.{◌≡◌, ℤ, Bool, map, rules}
 use Rattle.std.specs.Prelude.{Box, box_value, Option, Some, None, option_map}
 use Rattle.std.specs.Global.{Vec}
 use Rattle.std.specs.declared.alloc.Global.{Global}
 use Rattle.gm_base.specs.declared.places.Place.{Place}
 use Rattle.gm_value.specs.declared.reductions.Reduce.{Reduce}
 use Rattle.gm_ast.specs.declared.surface.Name.{Name}
-use Rattle.gm_ast.specs.declared.surface.TypeWord.{TypeWord}
-use Rattle.gm_ast.specs.declared.surface.Bearer.{Bearer}
 use Rattle.gm_ast.specs.declared.surface.Prefix.{Prefix}
 use Rattle.gm_ast.specs.declared.surface.Infix.{Infix}
 use Rattle.gm_ast.specs.declared.surface.LoopWord.{LoopWord}
@@ -21,7 +19,7 @@ use Rattle.gm_ast.specs.declared.surface.SpelledStmt as W
 use Rattle.gm_ast.specs.declared.surface.SpelledStmt.{SpelledStmt, the_lemmas as stmt_lemmas}
 use Rattle.gm_ast.specs.Surface as S
 use Rattle.gm_ast.specs.Surface.{sequence}
-use Rattle.gm_ast.specs.SurfaceTree.{name_of, type_of, head_of, target_of, expr_of, optional_of, test_of, stmt_of, branch_of}
+use Rattle.gm_ast.specs.SurfaceTree.{name_of, type_of, head_of, target_of, expr_of, optional_of, test_of, stmt_of}
 
 pub expr_of-Number : (at : Place) (n : ℤ) → expr_of (E.Number at n) ≡ S.Number at n
 expr_of-Number at n = search (rules, expr_lemmas)

@@ -1,2 +1,10 @@
 pub mod Surface
 pub mod SurfaceTree
+pub mod Program
+pub mod Tree
+pub mod Judged
+pub mod Names
+pub mod Kinds
+pub mod Typing
+pub mod Statements
+pub mod Procedures

@@ -1,7 +1,6 @@
 -- The syntax that a tree of the text holds.
-use Rattle.std.specs.Prelude.{List, map, fold, Option, Some, None, option_map, Box, box_value}
+use Rattle.std.specs.Prelude.{map, fold, Option, Some, None, option_map, Box, box_value}
 use Rattle.std.specs.declared.alloc.Global.{Global}
-use Rattle.gm_base.specs.declared.places.Place.{Place}
 use Rattle.gm_ast.specs.declared.surface.Name.{Name}
 use Rattle.gm_ast.specs.declared.surface.PropertyLayer.{PropertyLayer}
 use Rattle.gm_ast.specs.declared.surface.SpelledType.{SpelledType}

@@ -1,4 +1,7 @@
-//! The tree that a program text spells.
+//! The tree that a program text spells, and the program that it stands for.
 #![tactic(auto)]
 
+pub mod forms;
+pub mod kinds;
 pub mod surface;
+pub mod tree;

@@ -1,0 +1,3 @@
+mod Notation
+mod Types
+mod Programs
