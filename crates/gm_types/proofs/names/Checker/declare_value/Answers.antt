@@ -1,0 +1,14 @@
+use Rattle.std.proofs.Common.{refl}
+use Rattle.gm_ast.specs.Typing.{typed}
+use Rattle.gm_ast.specs.Statements.{declared_typed, declared_value, sort_of, vtype_of}
+use Rattle.gm_ast.specs.SurfaceTree.{name_of, type_of, expr_of}
+use Rattle.gm_types.proofs.Walks.{judges-both, judges-by}
+use Rattle.gm_types.proofs.names.Checker.declare_value.Goals as goal
+
+pub returns-clause-judged : goal.returns-clause-judged
+returns-clause-judged c =
+    let t = type_of c.args.vtype.now in
+    let x = name_of c.args.name.now in
+    judges-by (declared_value c.args.self.now.key x c.args.equals (vtype_of t) (sort_of t))
+    (judges-both (declared_typed t x) (typed (expr_of c.args.value.now)) c.in_ok-index.ensures c.in_ok-part.ensures)
+    (rw (c.vtype_of.ensures, c.sort_of.ensures) at c.in_ok-stmt.ensures.part) (rw (c.vtype_of.ensures, c.sort_of.ensures) at c.in_ok-stmt.ensures.least) refl refl

@@ -1,0 +1,8 @@
+use Rattle.std.proofs.Common.{map, refl}
+use Rattle.gm_ast.specs.SurfaceTree.{target_of}
+use Rattle.gm_ast.specs.Statements.{apart_from_first}
+use Rattle.gm_types.proofs.Together.{judges-noted}
+use Rattle.gm_types.proofs.names.Checker.goals_together.Goals as goal
+
+pub returns : goal.returns
+returns c = judges-noted (apart_from_first (map target_of c.args.targets.now)) c.in_ok-goals.ensures c.note_apart.ensures refl refl

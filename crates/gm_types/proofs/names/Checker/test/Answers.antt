@@ -1,0 +1,13 @@
+use Rattle.std.proofs.Common.{refl}
+use Rattle.gm_base.specs.declared.rules.Rule.TheVariants.{T10}
+use Rattle.gm_ast.specs.Judged.{refused_unless}
+use Rattle.gm_ast.specs.Kinds.{is_flag}
+use Rattle.gm_ast.specs.Typing.{start_of}
+use Rattle.gm_ast.specs.SurfaceTree.{expr_of}
+use Rattle.gm_types.proofs.Walks.{judges-by}
+use Rattle.gm_types.proofs.names.Checker.test.Goals as goal
+
+pub returns : goal.returns
+returns c =
+    judges-by (λ p. refused_unless (is_flag p.kind) T10 (start_of (expr_of c.args.e.now)) p.core) c.in_ok-part.ensures
+    (rw c.start_of.ensures at c.condition.ensures.part) (rw c.start_of.ensures at c.condition.ensures.least) refl refl

@@ -1,0 +1,9 @@
+pub mod Parts
+pub mod Views
+pub mod Notes
+pub mod Groups
+pub mod WithValues
+pub mod Shapes
+pub mod Stops
+pub mod Blocks
+pub mod Declaring
