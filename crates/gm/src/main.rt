@@ -1,7 +1,7 @@
-//! The program `gm`: the streams of the process, handed to the driver.
+//! The program `gm`: the streams of the process and the files of the system, handed to the driver.
 #![tactic(auto)]
 
-use gm_base::{NoMemory, ReadSource, Status, WriteSink};
+use gm_base::{DiskFiles, NoMemory, ReadSource, Status, WriteSink};
 use gm_driver::gm;
 use std::env;
 use std::io::ErrorKind;
@@ -26,13 +26,18 @@ fn words(rt: &HostRuntime) -> Result<Vec<String>, NoMemory> {
     Ok(words)
 }
 
+// The answer for these words, over the streams of the process and the files of the system.
+fn answer(rt: &HostRuntime) -> Result<Status, NoMemory> {
+    let words = words(rt)?;
+    let mut input = ReadSource::new(rt.stdin());
+    let mut files = DiskFiles::new(rt.alloc(), rt)?;
+    let mut output = WriteSink::new(rt.stdout());
+    Ok(gm(rt.alloc(), &words, &mut input, &mut files, &mut output))
+}
+
 fn main(rt: HostRuntime) -> ExitCode {
-    let status = match words(&rt) {
-        Ok(words) => {
-            let mut input = ReadSource::new(rt.stdin());
-            let mut output = WriteSink::new(rt.stdout());
-            gm(rt.alloc(), &words, &mut input, &mut output)
-        }
+    let status = match answer(&rt) {
+        Ok(status) => status,
         Err(NoMemory) => Status::NoMemory,
     };
     ExitCode::from(status.code())

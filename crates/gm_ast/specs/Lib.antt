@@ -8,3 +8,9 @@ pub mod Kinds
 pub mod Typing
 pub mod Statements
 pub mod Procedures
+pub mod Loops
+pub mod Accesses
+pub mod Races
+pub mod Ways
+pub mod Canonical
+pub mod Keyed

@@ -1,6 +1,6 @@
 -- The answer, case by case.
-use Rattle.std.proofs.Common.{◌≡◌, ◌≤◌, ◌<◌, ◌+◌, ℕ, zero, suc, Bool, true, false, cond, List, [], ◌∷◌, ◌++◌, length, eqb, refl, arith, append-nil, length-append}
-use Rattle.std.specs.Prelude.{Option, Some, None}
+use Rattle.std.proofs.Common.{◌≡◌, ◌≤◌, ◌<◌, ◌+◌, ℕ, zero, suc, inl, inr, Bool, true, false, cond, List, [], ◌∷◌, ◌++◌, length, eqb, refl, arith, append-nil, length-append}
+use Rattle.std.specs.Prelude.{Option, Some, None, ◌⊎◌}
 use Rattle.std.specs.List.{list_any}
 use Rattle.gm_base.specs.declared.statuses.Status.{Status}
 use Rattle.gm_base.specs.declared.statuses.Status.TheVariants.{Done as DoneStatus, Refused as RefusedStatus, Usage, BadInput, Fault as FaultStatus, Cut as CutStatus, ReadFault, WriteFault, NoMemory}
@@ -19,7 +19,8 @@ use Rattle.gm_driver.specs.Meaning.{outcome_of}
 use Rattle.gm_driver.specs.Listing.{outcome_status}
 use Rattle.gm_driver.specs.Reading.{AreEdgesOf}
 use Rattle.gm_driver.specs.Answer.{Says, raw_between, IsGraphOf, IsFormAnswer, bad_graph, ran, IsTokensAnswer, other_form, first_form, IsRunAnswer, comment, no_tokens, tokens, IsAnswer, no_job, too_long, runs, most_bytes, too_long_text}
-use Rattle.gm_driver.specs.Whole.{Tells, IsReply, answered, read_fault, IsWrittenStatus, IsAnswerStatus}
+use Rattle.gm_driver.specs.Whole.{Tells, Misses, misses, KeepsFiles, SomeMiss, IsRunReply, answered, read_fault, IsInputCheck, input_judged, input_fault, IsFileCheck, file_judged, file_fault, file_absent, IsReply, run_reply as run_replied, check_reply, IsCheckReply, from_input, from_file, IsWrittenStatus, IsAnswerStatus}
+use Rattle.gm_driver.specs.Checks.{IsVerdict, accepted, refused}
 
 -- ---- the graph
 
@@ -69,16 +70,16 @@ pub some_bytes : (left : Option (List ℕ)) → (bytes : List ℕ) × Tells left
 some_bytes None = ([], tt)
 some_bytes (Some left) = (left, refl)
 
-pub usage_reply : (words : List (List ℕ)) (left : Option (List ℕ)) (faults : ℕ) (text : List ℕ) (status : Status) → IsAnswer words (some_bytes left).0 text status → IsReply words left faults faults text status
+pub usage_reply : (words : List (List ℕ)) (left : Option (List ℕ)) (faults : ℕ) (text : List ℕ) (status : Status) → IsAnswer words (some_bytes left).0 text status → IsRunReply words left faults faults text status
 usage_reply words left faults text status a = answered (some_bytes left).0 (some_bytes left).1 refl a
 
 pub run_reply : (words : List (List ℕ)) (left after : Option (List ℕ)) (faults faults_after : ℕ) (bytes program graph text : List ℕ) (status : Status) → IsRun words → ReadsAll left after bytes most_bytes → faults_after ≡ faults
-    → (texts_of bytes).program ≡ program → (texts_of bytes).graph ≡ graph → IsRunAnswer program graph text status → IsReply words left faults faults_after text status
+    → (texts_of bytes).program ≡ program → (texts_of bytes).graph ≡ graph → IsRunAnswer program graph text status → IsRunReply words left faults faults_after text status
 run_reply words None after faults faults_after bytes program graph text status run all quiet p q a = answered bytes tt quiet (runs run all.1 (rw (p, q) a))
 run_reply words (Some left) after faults faults_after bytes program graph text status run all quiet p q a = answered bytes all.1 quiet (runs run (rw all.1 all.2) (rw (p, q) a))
 
 pub long_reply : (words : List (List ℕ)) (left after : Option (List ℕ)) (faults faults_after : ℕ) (text : List ℕ) (status : Status) → IsRun words → ReadsPast left after most_bytes → faults_after ≡ faults
-    → Says text status too_long_text BadInput → IsReply words left faults faults_after text status
+    → Says text status too_long_text BadInput → IsRunReply words left faults faults_after text status
 long_reply words None after faults faults_after text status run past quiet says = let long = long_bytes most_bytes in answered long.0 tt quiet (too_long run long.1 says)
 long_reply words (Some left) after faults faults_after text status run past quiet says = answered left refl quiet (too_long run past.0 says)
 
@@ -106,7 +107,7 @@ run_status program graph text status (no_tokens it is says) = says_answer text _
 run_status program graph text status (tokens it plain is a) = tokens_status it graph text status a
 
 answer_status : (words : List (List ℕ)) (bytes text : List ℕ) (status : Status) → IsAnswer words bytes text status → IsAnswerStatus status
-answer_status words bytes text status (no_job none says) = says_answer text _ status Usage says tt
+answer_status words bytes text status (no_job none no_check says) = says_answer text _ status Usage says tt
 answer_status words bytes text status (too_long run long says) = says_answer text _ status BadInput says tt
 answer_status words bytes text status (runs run few a) = run_status (texts_of bytes).program (texts_of bytes).graph text status a
 
@@ -121,20 +122,89 @@ written_status ReadFault h = absurd h
 written_status WriteFault h = absurd h
 written_status NoMemory h = absurd h
 
+-- the reply of a run has a status that is written
+run_written : (words : List (List ℕ)) (left : Option (List ℕ)) (f h : ℕ) (text : List ℕ) (status : Status) → IsRunReply words left f h text status → IsWrittenStatus status
+run_written words left f h text status (answered bytes tells quiet a) = written_status status (answer_status words bytes text status a)
+run_written words left f h text status (read_fault run rises says) = rw says.1 tt
+
+-- the reply of a run without a read fault leaves the count of faults
+run_quiet : (words : List (List ℕ)) (left : Option (List ℕ)) (f h : ℕ) (text : List ℕ) (status : Status) → IsRunReply words left f h text status → IsAnswerStatus status → h ≡ f
+run_quiet words left f h text status (answered bytes tells quiet a) is = quiet
+run_quiet words left f h text status (read_fault run rises says) is = absurd (rw says.1 at is)
+
+-- the reply of a run with a read fault comes only where the count rose
+run_rises : (words : List (List ℕ)) (left : Option (List ℕ)) (f h : ℕ) (text : List ℕ) (status : Status) → IsRunReply words left f h text status → status ≡ ReadFault → Rises f h
+run_rises words left f h text status (answered bytes tells quiet a) is = absurd (rw is at (answer_status words bytes text status a))
+run_rises words left f h text status (read_fault run rises says) is = rises
+
+-- ---- the whole call
+
+verdict_status : (program text : List ℕ) (status : Status) → IsVerdict program text status → IsAnswerStatus status
+verdict_status program text status (accepted p stands says) = says_answer text _ status DoneStatus says tt
+verdict_status program text status (refused r breaks says) = says_answer text _ status RefusedStatus says tt
+
+input_written : (left : Option (List ℕ)) (f h : ℕ) (text : List ℕ) (status : Status) → IsInputCheck left f h text status → IsWrittenStatus status
+input_written left f h text status (input_judged program tells quiet v) = written_status status (verdict_status program text status v)
+input_written left f h text status (input_fault rises says) = rw says.1 tt
+
+input_quiet : (left : Option (List ℕ)) (f h : ℕ) (text : List ℕ) (status : Status) → IsInputCheck left f h text status → IsAnswerStatus status → h ≡ f
+input_quiet left f h text status (input_judged program tells quiet v) is = quiet
+input_quiet left f h text status (input_fault rises says) is = absurd (rw says.1 at is)
+
+input_rises : (left : Option (List ℕ)) (f h : ℕ) (text : List ℕ) (status : Status) → IsInputCheck left f h text status → status ≡ ReadFault → Rises f h
+input_rises left f h text status (input_judged program tells quiet v) is = absurd (rw is at (verdict_status program text status v))
+input_rises left f h text status (input_fault rises says) is = rises
+
+file_written : (told : Option (List (List ℕ × List ℕ))) (name : List ℕ) (b a : Misses) (text : List ℕ) (status : Status) → IsFileCheck told name b a text status → IsWrittenStatus status
+file_written told name b a text status (file_judged program tells kept v) = written_status status (verdict_status program text status v)
+file_written told name b a text status (file_fault rises says) = rw says.1 tt
+file_written told name b a text status (file_absent lacks rises says) = rw says.1 tt
+
+file_quiet : (told : Option (List (List ℕ × List ℕ))) (name : List ℕ) (b a : Misses) (text : List ℕ) (status : Status) → IsFileCheck told name b a text status → IsAnswerStatus status → KeepsFiles b a
+file_quiet told name b a text status (file_judged program tells kept v) is = kept
+file_quiet told name b a text status (file_fault rises says) is = absurd (rw says.1 at is)
+file_quiet told name b a text status (file_absent lacks rises says) is = absurd (rw says.1 at is)
+
+file_rises : (told : Option (List (List ℕ × List ℕ))) (name : List ℕ) (b a : Misses) (text : List ℕ) (status : Status) → IsFileCheck told name b a text status → status ≡ ReadFault → Rises b.files a.files ⊎ Rises b.absences a.absences
+file_rises told name b a text status (file_judged program tells kept v) is = absurd (rw is at (verdict_status program text status v))
+file_rises told name b a text status (file_fault rises says) is = inl rises
+file_rises told name b a text status (file_absent lacks rises says) is = inr rises
+
+check_written : (name : List ℕ) (left : Option (List ℕ)) (told : Option (List (List ℕ × List ℕ))) (b a : Misses) (text : List ℕ) (status : Status) → IsCheckReply name left told b a text status → IsWrittenStatus status
+check_written name left told b a text status (from_input named kept r) = input_written left b.reads a.reads text status r
+check_written name left told b a text status (from_file named same r) = file_written told name b a text status r
+
+check_quiet : (name : List ℕ) (left : Option (List ℕ)) (told : Option (List (List ℕ × List ℕ))) (b a : Misses) (text : List ℕ) (status : Status) → IsCheckReply name left told b a text status → IsAnswerStatus status → a.reads ≡ b.reads
+check_quiet name left told b a text status (from_input named kept r) is = input_quiet left b.reads a.reads text status r is
+check_quiet name left told b a text status (from_file named same r) is = same
+
+check_keeps : (name : List ℕ) (left : Option (List ℕ)) (told : Option (List (List ℕ × List ℕ))) (b a : Misses) (text : List ℕ) (status : Status) → IsCheckReply name left told b a text status → IsAnswerStatus status → KeepsFiles b a
+check_keeps name left told b a text status (from_input named kept r) is = kept
+check_keeps name left told b a text status (from_file named same r) is = file_quiet told name b a text status r is
+
+check_rises : (name : List ℕ) (left : Option (List ℕ)) (told : Option (List (List ℕ × List ℕ))) (b a : Misses) (text : List ℕ) (status : Status) → IsCheckReply name left told b a text status → status ≡ ReadFault → SomeMiss b a
+check_rises name left told b a text status (from_input named kept r) is = inl (input_rises left b.reads a.reads text status r is)
+check_rises name left told b a text status (from_file named same r) is = inr (file_rises told name b a text status r is)
+
 -- a reply has a status that is written
-pub reply_written : (words : List (List ℕ)) (left : Option (List ℕ)) (f h : ℕ) (text : List ℕ) (status : Status) → IsReply words left f h text status → IsWrittenStatus status
-reply_written words left f h text status (answered bytes tells quiet a) = written_status status (answer_status words bytes text status a)
-reply_written words left f h text status (read_fault run rises says) = rw says.1 tt
+pub reply_written : (words : List (List ℕ)) (left : Option (List ℕ)) (told : Option (List (List ℕ × List ℕ))) (b a : Misses) (text : List ℕ) (status : Status) → IsReply words left told b a text status → IsWrittenStatus status
+reply_written words left told b a text status (run_replied kept r) = run_written words left b.reads a.reads text status r
+reply_written words left told b a text status (check_reply name asks r) = check_written name left told b a text status r
 
--- a reply without a read fault leaves the count of faults
-pub reply_quiet : (words : List (List ℕ)) (left : Option (List ℕ)) (f h : ℕ) (text : List ℕ) (status : Status) → IsReply words left f h text status → IsAnswerStatus status → h ≡ f
-reply_quiet words left f h text status (answered bytes tells quiet a) is = quiet
-reply_quiet words left f h text status (read_fault run rises says) is = absurd (rw says.1 at is)
+-- a reply without a fault leaves the count of the source's faults
+pub reply_quiet : (words : List (List ℕ)) (left : Option (List ℕ)) (told : Option (List (List ℕ × List ℕ))) (b a : Misses) (text : List ℕ) (status : Status) → IsReply words left told b a text status → IsAnswerStatus status → a.reads ≡ b.reads
+reply_quiet words left told b a text status (run_replied kept r) is = run_quiet words left b.reads a.reads text status r is
+reply_quiet words left told b a text status (check_reply name asks r) is = check_quiet name left told b a text status r is
 
--- a reply with a read fault comes only where the count rose
-pub reply_rises : (words : List (List ℕ)) (left : Option (List ℕ)) (f h : ℕ) (text : List ℕ) (status : Status) → IsReply words left f h text status → status ≡ ReadFault → Rises f h
-reply_rises words left f h text status (answered bytes tells quiet a) is = absurd (rw is at (answer_status words bytes text status a))
-reply_rises words left f h text status (read_fault run rises says) is = rises
+-- a reply without a fault leaves the counts of files
+pub reply_keeps : (words : List (List ℕ)) (left : Option (List ℕ)) (told : Option (List (List ℕ × List ℕ))) (b a : Misses) (text : List ℕ) (status : Status) → IsReply words left told b a text status → IsAnswerStatus status → KeepsFiles b a
+reply_keeps words left told b a text status (run_replied kept r) is = kept
+reply_keeps words left told b a text status (check_reply name asks r) is = check_keeps name left told b a text status r is
+
+-- a reply with a read fault comes only where a count rose
+pub reply_rises : (words : List (List ℕ)) (left : Option (List ℕ)) (told : Option (List (List ℕ × List ℕ))) (b a : Misses) (text : List ℕ) (status : Status) → IsReply words left told b a text status → status ≡ ReadFault → SomeMiss b a
+reply_rises words left told b a text status (run_replied kept r) is = inl (run_rises words left b.reads a.reads text status r is)
+reply_rises words left told b a text status (check_reply name asks r) is = check_rises name left told b a text status r is
 
 -- what was read whole is no longer than the limit
 pub reads_few : (left after : Option (List ℕ)) (bytes : List ℕ) (limit : ℕ) → ReadsAll left after bytes limit → length bytes ≤ limit

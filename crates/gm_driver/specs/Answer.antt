@@ -12,6 +12,8 @@ use Rattle.gm_graph.specs.Graphs.{NumberedGraph}
 use Rattle.gm_graph.specs.Builds.{IsBuiltOf}
 use Rattle.gm_token.specs.Tokens.{Listing}
 use Rattle.gm_token.specs.Scanning.{IsScanOf, IsStopOf}
+use Rattle.gm_words.specs.declared.jobs.Job.TheVariants as job
+use Rattle.gm_words.specs.Jobs.{job_of}
 use Rattle.gm_driver.specs.Words.{IsRun}
 use Rattle.gm_driver.specs.Parts.{texts_of}
 use Rattle.gm_driver.specs.FirstForm.{Form, IsFirstForm, form_of}
@@ -88,9 +90,9 @@ pub data IsRunAnswer (program graph text : List ℕ) (status : Status) : Type 0 
   no_tokens : (it : Refusal) → IsStopOf program (Refused it) → Says text status not_built_text RefusedStatus → IsRunAnswer program graph text status
   tokens : (it : Listing) → has_slash program ≡ false → IsScanOf program it → IsTokensAnswer it graph text status → IsRunAnswer program graph text status
 
--- the answer for the words of the command line and the bytes of standard input: the words give no job, there are
--- too many bytes, or the program is run over the graph
+-- the answer for the words of the command line and the bytes of standard input where these ask for no check: they
+-- give no job that is done so far, there are too many bytes, or the program is run over the graph
 pub data IsAnswer (words : List (List ℕ)) (bytes text : List ℕ) (status : Status) : Type 0 where
-  no_job : ¬ IsRun words → Says text status usage_text Usage → IsAnswer words bytes text status
+  no_job : ¬ IsRun words → ((name : List ℕ) → job_of words ≡ Some (job.Check name) → ⊥) → Says text status usage_text Usage → IsAnswer words bytes text status
   too_long : IsRun words → most_bytes < length bytes → Says text status too_long_text BadInput → IsAnswer words bytes text status
   runs : IsRun words → length bytes ≤ most_bytes → IsRunAnswer (texts_of bytes).program (texts_of bytes).graph text status → IsAnswer words bytes text status

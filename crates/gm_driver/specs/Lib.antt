@@ -9,4 +9,7 @@ pub mod Meaning
 pub mod Listing
 pub mod Answer
 pub mod Runs
+pub mod Fronts
+pub mod Checks
+pub mod Tasks
 pub mod Whole

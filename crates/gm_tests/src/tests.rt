@@ -1,6 +1,6 @@
 //! The program's answers for words, texts and graphs, over a source and a sink in memory.
 
-use gm_base::{MemSink, MemSource, Status};
+use gm_base::{MemFiles, MemSink, MemSource, Status};
 use gm_driver::gm;
 use std::alloc::Global;
 use std::process::Abort;
@@ -13,14 +13,14 @@ const ADD: &str =
 // How the streams of a run behave: the greatest numbers of bytes that a read and a write take, and the numbers of
 // the calls that fail, 0 for none.
 #[derive(Clone, Copy)]
-struct Streams {
-    piece_in: usize,
-    fails_in: u64,
-    piece_out: usize,
-    fails_out: u64,
+pub struct Streams {
+    pub piece_in: usize,
+    pub fails_in: u64,
+    pub piece_out: usize,
+    pub fails_out: u64,
 }
 
-const PLAIN: Streams = Streams {
+pub const PLAIN: Streams = Streams {
     piece_in: 65536,
     fails_in: 0,
     piece_out: 65536,
@@ -38,12 +38,24 @@ fn words_in(alloc: Global, line: &str) -> Result<Vec<String>, Fail> {
     Ok(words)
 }
 
-// The status of a run, and what it wrote.
+// The status of a run without files, and what it wrote.
 fn run(
     alloc: Global,
     words: &str,
     input: Vec<u8>,
     streams: Streams,
+) -> Result<(Status, String), Fail> {
+    let mut files = MemFiles::new(Vec::new(alloc), Vec::new(alloc));
+    run_with(alloc, words, input, streams, &mut files)
+}
+
+// The status of a run, and what it wrote.
+pub fn run_with(
+    alloc: Global,
+    words: &str,
+    input: Vec<u8>,
+    streams: Streams,
+    files: &mut MemFiles,
 ) -> Result<(Status, String), Fail> {
     let words = words_in(alloc, words)?;
     let mut source = MemSource::new(
@@ -57,7 +69,7 @@ fn run(
         vec![in alloc; streams.fails_out]?,
         65536,
     )?;
-    let status = gm(alloc, &words, &mut source, &mut sink);
+    let status = gm(alloc, &words, &mut source, files, &mut sink);
     let written = String::from_utf8_lossy(alloc, sink.taken())?;
     Ok((status, written))
 }
@@ -282,10 +294,18 @@ fn answers_for_words(rt: HostRuntime) -> Result<(), Fail> {
         "run - - -",
         "run - x",
         "run x -",
-        "check -",
+        "check",
+        "check - -",
+        "check --image -",
+        "check - --image",
+        "check -x",
+        "Check -",
         "Run - -",
         "run -- -",
         "run - - k=1",
+        "run - - root",
+        "run - - --observe",
+        "run - - --workers 65",
         "demo 1",
         "- - run",
     ] {

@@ -1,0 +1,5 @@
+mod Items
+mod Leasts
+mod Parts
+mod Trees
+mod Verdicts

@@ -1,0 +1,13 @@
+pub mod Items
+pub mod Walked
+pub mod Trees
+pub mod Parted
+pub mod Targets
+pub mod Summed
+pub mod AnyOf
+pub mod Places
+pub mod Mixed
+pub mod Told
+pub mod Judged
+pub mod Leasts
+pub mod Listed

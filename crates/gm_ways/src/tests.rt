@@ -1,0 +1,185 @@
+use super::*;
+use gm_ast::tree::{Domain, Key, Stage, Target, TotalKey};
+use gm_value::Reduce;
+use std::test::Fail;
+
+// The variables of the bodies below: a node and its neighbour, two properties of nodes, an edge and its property, and
+// three locals.
+const NODE: u32 = 0;
+
+const NEIGHBOUR: u32 = 1;
+
+const INPUT: u32 = 2;
+
+const OUTPUT: u32 = 3;
+
+const EDGE: u32 = 4;
+
+const WEIGHT: u32 = 5;
+
+const FIRST: u32 = 6;
+
+const SECOND: u32 = 7;
+
+const THIRD: u32 = 8;
+
+const KEY: Key = Key {
+    statement: 0,
+    stage: Stage::Operator,
+};
+
+fn at(col: u32) -> Place {
+    Place { line: 1, col }
+}
+
+fn local(variable: u32) -> Expr {
+    Expr::Var {
+        variable,
+        place: at(1),
+    }
+}
+
+fn input(owner: u32) -> Expr {
+    Expr::Property {
+        owner,
+        property: INPUT,
+        place: at(1),
+    }
+}
+
+fn weight(col: u32) -> Expr {
+    Expr::EdgeProperty {
+        edge: EDGE,
+        property: WEIGHT,
+        place: at(col),
+    }
+}
+
+fn declare(variable: u32) -> Stmt {
+    Stmt::Declare {
+        key: KEY,
+        variable,
+        value: None,
+    }
+}
+
+fn assign(variable: u32, value: Expr) -> Stmt {
+    Stmt::Assign {
+        key: KEY,
+        target: Target::Scalar {
+            variable,
+            place: at(1),
+        },
+        value,
+    }
+}
+
+// Adds a value to a node's output.
+fn add(alloc: Global, owner: u32, value: Expr) -> Result<Stmt, AllocError> {
+    let mut targets = Vec::new(alloc);
+    targets.push(Target::Property {
+        owner,
+        property: OUTPUT,
+        place: at(1),
+    })?;
+    let mut values = Vec::new(alloc);
+    values.push(value)?;
+    Ok(Stmt::Reduce {
+        key: KEY,
+        total: TotalKey {
+            key: KEY,
+            place: at(1),
+            shown: at(1),
+        },
+        reduce: Reduce::Sum,
+        targets,
+        values,
+    })
+}
+
+fn when(alloc: Global, test: Expr, then: Stmt) -> Result<Stmt, AllocError> {
+    let yes = Box::new(alloc, then)?;
+    let no = Box::new(alloc, Stmt::Block(Vec::new(alloc)))?;
+    Ok(Stmt::If {
+        key: KEY,
+        test,
+        yes,
+        no,
+    })
+}
+
+fn head(domain: Domain) -> Head {
+    Head {
+        iterator: NEIGHBOUR,
+        domain,
+        owner: NODE,
+        place: at(1),
+    }
+}
+
+#[test]
+fn reads_through_locals(rt: HostRuntime) -> Result<(), Fail> {
+    let alloc = rt.alloc();
+    let mut stmts = Vec::new(alloc);
+    stmts.push(declare(FIRST))?;
+    stmts.push(declare(SECOND))?;
+    stmts.push(declare(THIRD))?;
+    stmts.push(assign(FIRST, local(SECOND)))?;
+    stmts.push(assign(SECOND, local(THIRD)))?;
+    stmts.push(when(alloc, input(NEIGHBOUR), assign(THIRD, input(NODE)))?)?;
+    stmts.push(add(alloc, NODE, local(FIRST))?)?;
+    stmts.push(add(alloc, NODE, input(NODE))?)?;
+    stmts.push(add(alloc, NEIGHBOUR, input(NODE))?)?;
+    let body = Stmt::Block(stmts);
+    // the filter, and what is found
+    let table = [
+        (
+            input(NODE),
+            "LoopWays { ways: [Pull, Home, Push], against: None }",
+        ),
+        (
+            input(NEIGHBOUR),
+            "LoopWays { ways: [Pull, Pull, Push], against: None }",
+        ),
+    ];
+    for (filter, want) in table {
+        let found = ways_in_loop(alloc, &head(Domain::OutNbrs), &filter, &body)?;
+        assert_eq!(rt; format!(in alloc; "{found:?}")?.as_str(), want);
+    }
+    Ok(())
+}
+
+#[test]
+fn reads_edges_against_the_way(rt: HostRuntime) -> Result<(), Fail> {
+    let alloc = rt.alloc();
+    let mut stmts = Vec::new(alloc);
+    stmts.push(declare(FIRST))?;
+    stmts.push(assign(FIRST, weight(20)))?;
+    stmts.push(assign(FIRST, weight(9)))?;
+    stmts.push(when(alloc, local(FIRST), add(alloc, NEIGHBOUR, weight(12))?)?)?;
+    stmts.push(add(alloc, NODE, weight(5))?)?;
+    let body = Stmt::Block(stmts);
+    // the range, the ways, and the column of the first read
+    let table = [
+        (Domain::OutNbrs, Way::Home, None),
+        (Domain::InNbrs, Way::Pull, Some(9)),
+        (Domain::UpNbrs, Way::Pull, Some(9)),
+        (Domain::DownNbrs, Way::Pull, Some(5)),
+    ];
+    for (domain, way, col) in table {
+        let found = ways_in_loop(alloc, &head(domain), &input(NODE), &body)?;
+        assert_eq!(rt;
+            format!(in alloc; "{found:?}")?.as_str(),
+            format!(in alloc;
+                "{:?}",
+                LoopWays {
+                    ways: vec![in alloc; Way::Push, way]?,
+                    against: refusal_at(col.map(at)),
+                }
+            )?
+            .as_str(),
+            "{domain:?}"
+        );
+    }
+    Ok(())
+}
