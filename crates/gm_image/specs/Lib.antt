@@ -1,0 +1,15 @@
+pub mod RuleNames
+pub mod Term
+pub mod Program
+pub mod Views
+pub mod Parts
+pub mod Rows
+pub mod Sorts
+pub mod Indices
+pub mod Fits
+pub mod Jumps
+pub mod Spans
+pub mod Leaves
+pub mod Folds
+pub mod Names
+pub mod Soundness

@@ -1,0 +1,5 @@
+pub mod Views
+pub mod Rows
+pub mod Walks
+pub mod Searches
+pub mod Groups

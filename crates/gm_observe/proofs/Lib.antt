@@ -1,0 +1,3 @@
+mod Reporting
+mod Rows
+mod Telling

@@ -1,0 +1,8 @@
+pub mod LeastLaws
+pub mod Leasts
+pub mod ContributionLaws
+pub mod OrderLaws
+pub mod ExpressionFrames
+pub mod BodyFrames
+pub mod StatementFrames
+mod Rows

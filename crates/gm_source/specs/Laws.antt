@@ -1,0 +1,57 @@
+-- What passes may know of the meaning beside its definition.
+use Rattle.std.specs.Prelude.{◌≡◌, ℕ, List, map}
+use Rattle.gm_value.specs.Bag.{SameBag, IsIn}
+use Rattle.gm_source.specs.declared.contributions.Contribution.{Contribution}
+use Rattle.gm_source.specs.declared.faults.Fault.{Fault}
+use Rattle.gm_source.specs.declared.slots.Slot.{Slot}
+use Rattle.gm_source.specs.declared.slots.Slot.TheVariants.{Scalar, Node}
+use Rattle.gm_source.specs.declared.slots.Write.{Write}
+use Rattle.gm_source.specs.Stores.{Store}
+use Rattle.gm_source.specs.Faults.{least, joined}
+use Rattle.gm_source.specs.Contributions.{settled_store, total_faults}
+use Rattle.gm_source.specs.Iterations.{Iteration, inner_done}
+use Rattle.gm_source.specs.Loops.{loop_done}
+
+-- the least fault does not depend on the order of the faults
+abbrev pub LeastTakesBags : Type 0
+LeastTakesBags = (faults other : List Fault) → SameBag faults other → least faults ≡ least other
+
+-- contributions to one slot are by one reduction, as the rules of races leave them
+abbrev pub OneReduction : List Contribution → Type 0
+OneReduction cs = (c d : Contribution) → IsIn c cs → IsIn d cs → c.slot ≡ d.slot → c.reduce ≡ d.reduce
+
+-- what contributions leave does not depend on their order
+abbrev pub SettlingTakesBags : Type 0
+SettlingTakesBags = (s : Store) (cs other : List Contribution) → OneReduction cs → SameBag cs other → settled_store s cs ≡ settled_store s other
+
+-- nor does the least fault of their totals
+abbrev pub TotalsTakeBags : Type 0
+TotalsTakeBags = (s : Store) (cs other : List Contribution) → OneReduction cs → SameBag cs other → least (total_faults s cs) ≡ least (total_faults s other)
+
+-- a slot at a node
+abbrev pub IsAt : ℕ → Slot → Type 0
+IsAt k (Scalar x) = ⊥
+IsAt k (Node p n) = n ≡ k
+
+-- each iteration defers writes at its own node alone, as the rules of races leave it
+abbrev pub DefersAtHome : (ℕ → Iteration) → List ℕ → Type 0
+DefersAtHome iteration ks = (k : ℕ) → IsIn k ks → (w : Write) → IsIn w (iteration k).deferred → IsAt k w.slot
+
+-- a loop does not depend on the order of its iterations
+abbrev pub LoopTakesBags : Type 0
+LoopTakesBags = (s : Store) (iteration : ℕ → Iteration) (ks other : List ℕ) → SameBag ks other
+    → OneReduction (joined (map (λ it. it.with_outermost) (map iteration ks))) → DefersAtHome iteration ks
+    → loop_done s ks (map iteration ks) ≡ loop_done s other (map iteration other)
+
+-- two iterations are the same but for the order of their contributions
+pub record SameIteration (a b : Iteration) : Type 0 where
+  pub store : a.store ≡ b.store
+  pub with_inner : SameBag a.with_inner b.with_inner
+  pub with_outermost : SameBag a.with_outermost b.with_outermost
+  pub deferred : a.deferred ≡ b.deferred
+  pub fault : a.fault ≡ b.fault
+
+-- an inner loop does not depend on the order of its edges, but for the order in which its contributions go on
+abbrev pub InnerLoopTakesBags : Type 0
+InnerLoopTakesBags = (it : Iteration) (turns other : List Iteration) → SameBag turns other → OneReduction (joined (map (λ t. t.with_inner) turns))
+    → SameIteration (inner_done it turns) (inner_done it other)

@@ -1,0 +1,11 @@
+pub mod Levels
+pub mod Stores
+pub mod Faults
+pub mod Expressions
+pub mod Contributions
+pub mod Iterations
+pub mod Loops
+pub mod Statements
+pub mod Outcomes
+pub mod Laws
+pub mod Frames

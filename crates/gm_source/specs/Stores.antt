@@ -1,0 +1,37 @@
+-- Stores: values of variables, of properties at nodes, and of edge properties at edges.
+use Rattle.std.specs.Prelude.{ℕ, nat_eq, Bool, false, ◌&&◌, if◌then◌else◌, List, [], ◌∷◌}
+use Rattle.gm_value.specs.declared.values.Value.{Value}
+use Rattle.gm_source.specs.declared.slots.Slot.{Slot}
+use Rattle.gm_source.specs.declared.slots.Slot.TheVariants.{Scalar, Node}
+use Rattle.gm_source.specs.declared.slots.Write.{Write}
+
+-- the values of scalars, by variable; of node properties, by variable and node; and of edge properties, by variable and edge
+pub record Store : Type 0 where
+  pub scalar : ℕ → Value
+  pub node : ℕ → ℕ → Value
+  pub edge : ℕ → ℕ → Value
+
+-- whether two slots are one
+abbrev pub slot_eq : Slot → Slot → Bool
+slot_eq (Scalar x) (Scalar y) = nat_eq x y
+slot_eq (Node p n) (Node q m) = nat_eq p q && nat_eq n m
+slot_eq _ _ = false
+
+-- what a slot holds
+abbrev pub read : Store → Slot → Value
+read s (Scalar x) = s.scalar x
+read s (Node p n) = s.node p n
+
+-- the store after a write
+abbrev pub write : Store → Slot → Value → Store
+write s (Scalar x) v = record s { scalar = λ y. if nat_eq x y then v else s.scalar y }
+write s (Node p n) v = record s { node = λ q m. if nat_eq p q && nat_eq n m then v else s.node q m }
+
+-- a property with one value at every node
+abbrev pub fill : Store → ℕ → Value → Store
+fill s p v = record s { node = λ q m. if nat_eq p q then v else s.node q m }
+
+-- the store after writes in order, of which the last to a slot counts
+abbrev pub overlaid : Store → List Write → Store
+overlaid s [] = s
+overlaid s (w ∷ ws) = overlaid (write s w.slot w.value) ws
