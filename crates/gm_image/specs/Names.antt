@@ -20,10 +20,14 @@ is_digit b = nat_le 48 b && nat_le b 57
 abbrev pub is_name_byte : ℕ → Bool
 is_name_byte b = is_letter b || is_digit b
 
--- whether bytes are a name: a letter or `_`, and then letters, digits and `_`
+-- whether bytes begin with a letter or `_`
+abbrev pub begins_with_letter : List ℕ → Bool
+begins_with_letter [] = false
+begins_with_letter (b ∷ bs) = is_letter b
+
+-- whether bytes are a name: they begin with a letter or `_`, and have only letters, digits and `_`
 abbrev pub is_name : List ℕ → Bool
-is_name [] = false
-is_name (b ∷ bs) = is_letter b && list_all is_name_byte bs
+is_name bs = begins_with_letter bs && list_all is_name_byte bs
 
 -- whether two holders are one
 abbrev pub same_holder : Holder → Holder → Bool

@@ -1,0 +1,94 @@
+-- What small images do on small graphs, worked out by hand.
+use Rattle.std.specs.Prelude.{◌≡◌, true, false, ℕ, pos, negsuc, Some, None, List, [], ◌∷◌, refl}
+use Rattle.gm_value.specs.declared.faults.FaultKind.TheVariants.{Overflow}
+use Rattle.gm_value.specs.declared.values.Value.{Value}
+use Rattle.gm_value.specs.declared.values.Value.TheVariants.{I32, Flag}
+use Rattle.gm_value.specs.declared.reductions.Reduce.TheVariants.{Sum, Product}
+use Rattle.gm_graph.specs.declared.outcomes.Outcome.{Outcome}
+use Rattle.gm_graph.specs.declared.outcomes.Outcome.TheVariants.{Done, Fault, Cut}
+use Rattle.gm_graph.specs.declared.outcomes.RunEnd.{RunEnd}
+use Rattle.gm_graph.specs.Graphs.{NumberedGraph}
+use Rattle.gm_machine.specs.Vertex.{Message}
+use Rattle.gm_machine.specs.Machine.{machine, after, Ready}
+use Rattle.gm_machine.proofs.Samples.{spin_to, total, pair, pair_merged, total_of, push, weigh, ints, edge, graph_of, weighed}
+
+abbrev ends : Outcome → ℕ → ℕ → RunEnd
+ends outcome supersteps messages = record { outcome = outcome; supersteps = supersteps; messages = messages }
+
+abbrev empty : NumberedGraph
+empty = record { numbers = []; edges = []; node_columns = []; edge_columns = [] }
+
+-- six turns are enough to count to six, and five are not
+spin_ends : machine (spin_to 6) empty [] 6 ≡ ends (Done [] (Some (I32 (pos 6))) [] 6) 0 0
+spin_ends = refl
+
+spin_is_cut : machine (spin_to 6) empty [] 5 ≡ ends (Cut 5) 0 0
+spin_is_cut = refl
+
+-- a far bound costs nothing
+spin_ends_below : machine (spin_to 1000) empty [] 1000000 ≡ ends (Done [] (Some (I32 (pos 1000))) [] 1000) 0 0
+spin_ends_below = refl
+
+-- three messages go along three edges, two of them between the same nodes
+abbrev two_nodes : NumberedGraph
+two_nodes = graph_of (4 ∷ 9 ∷ []) (pos 5 ∷ pos 7 ∷ []) (edge 0 1 ∷ edge 0 1 ∷ edge 1 1 ∷ [])
+
+total_ends : machine total two_nodes [] 1000000 ≡ ends (Done [] None (ints (pos 0 ∷ pos 17 ∷ []) ∷ []) 0) 2 3
+total_ends = refl
+
+abbrev message : ℕ → ℕ → Message
+message to n = record { to = to; kind = 0; values = I32 (pos n) ∷ [] }
+
+-- before the second step they wait
+total_waits : after total two_nodes [] 1000000 1 ≡ Ready 1 2 (record { globals = []; turns = 0 }) (record {
+  fields = ints (pos 5 ∷ pos 0 ∷ []) ∷ ints (pos 7 ∷ pos 0 ∷ []) ∷ [];
+  sent = message 1 5 ∷ message 1 5 ∷ message 1 7 ∷ [];
+  supersteps = 1;
+  messages = 3;
+})
+total_waits = refl
+
+-- two steps, and the same with one
+abbrev one_edge : NumberedGraph
+one_edge = record { numbers = 0 ∷ 1 ∷ []; edges = edge 0 1 ∷ []; node_columns = []; edge_columns = [] }
+
+abbrev threes : List (List Value)
+threes = ints (pos 3 ∷ pos 3 ∷ []) ∷ ints (pos 3 ∷ pos 3 ∷ []) ∷ []
+
+pair_ends : machine pair one_edge [] 9 ≡ ends (Done [] None threes 0) 2 0
+pair_ends = refl
+
+pair_merged_ends : machine pair_merged one_edge [] 9 ≡ ends (Done [] None threes 0) 1 0
+pair_merged_ends = refl
+
+-- one more than the greatest number is a fault; a sum that leaves the range on the way is none; a product with a factor 0 is 0
+sum_overflows : machine (total_of Sum) (graph_of (0 ∷ 1 ∷ []) (pos 2147483647 ∷ pos 1 ∷ []) []) [] 9
+    ≡ ends (Fault Overflow (record { line = 1; col = 53 })) 1 0
+sum_overflows = refl
+
+sum_returns : machine (total_of Sum) (graph_of (0 ∷ 1 ∷ 2 ∷ []) (pos 2147483647 ∷ pos 2147483647 ∷ negsuc 2147483646 ∷ []) []) [] 9
+    ≡ ends (Done [] (Some (I32 (pos 2147483647))) [] 0) 1 0
+sum_returns = refl
+
+product_overflows : machine (total_of Product) (graph_of (0 ∷ 1 ∷ []) (pos 2147483647 ∷ pos 2147483647 ∷ []) []) [] 9
+    ≡ ends (Fault Overflow (record { line = 1; col = 53 })) 1 0
+product_overflows = refl
+
+product_of_zero : machine (total_of Product) (graph_of (0 ∷ 1 ∷ 2 ∷ []) (pos 2147483647 ∷ pos 2147483647 ∷ pos 0 ∷ []) []) [] 9
+    ≡ ends (Done [] (Some (I32 (pos 0))) [] 0) 1 0
+product_of_zero = refl
+
+-- the first place overflows, though both places together would not
+first_place_overflows : machine push (graph_of (0 ∷ 1 ∷ 2 ∷ []) (pos 2147483647 ∷ pos 1 ∷ pos 0 ∷ []) (edge 0 2 ∷ edge 1 2 ∷ [])) [] 9
+    ≡ ends (Fault Overflow (record { line = 3; col = 31 })) 2 4
+first_place_overflows = refl
+
+-- an each that folds, and a skip
+weigh_ends : machine weigh (weighed (0 ∷ 1 ∷ []) (edge 0 1 ∷ edge 0 1 ∷ edge 1 0 ∷ []) (pos 5 ∷ pos 7 ∷ pos 3 ∷ [])) [] 9
+    ≡ ends (Done [] None (ints (pos 12 ∷ pos 3 ∷ []) ∷ (Flag false ∷ Flag true ∷ []) ∷ []) 0) 1 0
+weigh_ends = refl
+
+-- the sum of an each overflows at the place of its fold
+weigh_overflows : machine weigh (weighed (0 ∷ 1 ∷ []) (edge 1 0 ∷ edge 1 1 ∷ []) (pos 2147483647 ∷ pos 1 ∷ [])) [] 9
+    ≡ ends (Fault Overflow (record { line = 3; col = 5 })) 1 0
+weigh_overflows = refl

@@ -1,0 +1,6 @@
+-- The slots so far are settled.
+use Rattle.gm_machine.proofs.SlotSteps.{IsSettledTo}
+use Rattle.gm_machine.proofs.settling.settle.Given as goal
+
+abbrev pub invariant-loop-slot : goal.invariant-loop-slot
+invariant-loop-slot l = IsSettledTo l.places l.contributions l.slot l.fn.values.items l.values.items l.fault

@@ -1,0 +1,51 @@
+-- What does not depend on the order of messages.
+use Rattle.std.specs.Prelude.{ℕ, ◌≡◌, IsTrue, List, [], ◌∷◌}
+use Rattle.gm_value.specs.declared.values.Value.{Value}
+use Rattle.gm_value.specs.declared.reductions.Reduce.{Reduce}
+use Rattle.gm_value.specs.Bag.{SameBag}
+use Rattle.gm_image.specs.Program.{Program, Block, Handler, Line, Target, SetField, Fold, SetRegister, Put, Send, Skip, Each}
+use Rattle.gm_image.specs.Soundness.{is_sound}
+use Rattle.gm_machine.specs.Vertex.{Message, Scene, After, vertex_after}
+use Rattle.gm_machine.specs.Machine.{block_at}
+
+-- targets that are reduced by the reduction of their slot
+abbrev pub AreReducedBy : (ℕ → Reduce) → Reduce → List Target → Type 0
+AreReducedBy reduction r [] = Unit {0}
+AreReducedBy reduction r (t ∷ targets) = (r ≡ reduction t.slot) × AreReducedBy reduction r targets
+
+-- a line that folds each field by the field's reduction
+abbrev pub LineFoldsBy : (ℕ → Reduce) → Line → Type 0
+LineFoldsBy reduction (Fold r place ts) = AreReducedBy reduction r ts
+LineFoldsBy reduction (SetField f a) = Unit {0}
+LineFoldsBy reduction (SetRegister r a) = Unit {0}
+LineFoldsBy reduction (Put r place ts) = Unit {0}
+LineFoldsBy reduction (Send kind to ts) = Unit {0}
+LineFoldsBy reduction (Skip n a) = Unit {0}
+LineFoldsBy reduction (Each d n) = Unit {0}
+
+abbrev pub LinesFoldBy : (ℕ → Reduce) → List Line → Type 0
+LinesFoldBy reduction [] = Unit {0}
+LinesFoldBy reduction (l ∷ ls) = LineFoldsBy reduction l × LinesFoldBy reduction ls
+
+-- handlers that fold each field by one reduction
+abbrev pub HandlersFoldBy : (ℕ → Reduce) → List Handler → Type 0
+HandlersFoldBy reduction [] = Unit {0}
+HandlersFoldBy reduction (h ∷ handlers) = LinesFoldBy reduction h.lines × HandlersFoldBy reduction handlers
+
+-- two ends of a vertex's step that differ in the order of messages and contributions alone
+pub record SameStep (a b : After) : Type 0 where
+  pub fields : a.work.fields ≡ b.work.fields
+  pub fault : a.fault ≡ b.fault
+  pub puts : SameBag a.work.puts b.work.puts
+  pub messages : SameBag a.work.messages b.work.messages
+
+-- the step of a vertex depends on its inbox as a bag alone, where its handlers fold each field by one reduction
+abbrev pub StepTakesBags : Type 0
+StepTakesBags = (p : Program) (b : Block) (s : Scene) (inbox other : List Message) (fields : List Value) (reduction : ℕ → Reduce) →
+    HandlersFoldBy reduction b.handlers → SameBag inbox other →
+    SameStep (vertex_after p b s inbox fields) (vertex_after p b s other fields)
+
+-- so does the step of a vertex with a block of a sound image
+abbrev pub SoundStepTakesBags : Type 0
+SoundStepTakesBags = (p : Program) (q : ℕ) (s : Scene) (inbox other : List Message) (fields : List Value) → IsTrue (is_sound p) → SameBag inbox other →
+    SameStep (vertex_after p (block_at p q) s inbox fields) (vertex_after p (block_at p q) s other fields)

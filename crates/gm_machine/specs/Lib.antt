@@ -1,0 +1,12 @@
+pub mod Faults
+pub mod Expressions
+pub mod Taking
+pub mod Vertex
+pub mod Batches
+pub mod Inboxes
+pub mod Sights
+pub mod Settling
+pub mod Machine
+pub mod Steps
+pub mod Laws
+pub mod Masters

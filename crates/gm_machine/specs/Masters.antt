@@ -1,0 +1,46 @@
+-- The master list's run, as the code holds it.
+use Rattle.std.specs.Prelude.{ℕ, List, length}
+use Rattle.gm_value.specs.declared.values.Value.{Value}
+use Rattle.gm_graph.specs.Graphs.{NumberedGraph}
+use Rattle.gm_image.specs.declared.images.Image.{Image}
+use Rattle.gm_machine.specs.declared.masters.Leg as L
+use Rattle.gm_machine.specs.declared.masters.Leg.TheVariants as legs
+use Rattle.gm_machine.specs.declared.masters.Lead as D
+use Rattle.gm_machine.specs.declared.masters.Lead.TheVariants as leads
+use Rattle.gm_machine.specs.declared.masters.Master.{Master}
+use Rattle.gm_machine.specs.declared.masters.MasterStop.{MasterStop}
+use Rattle.gm_machine.specs.declared.masters.MasterStop.TheVariants as stops
+use Rattle.gm_machine.specs.Sights.{HasColumns}
+use Rattle.gm_machine.specs.Machine.{Control, Pause, Stops, Steps, Leg, AtEnd, AtStep, AtTurn, Lead, On, ToStep, ToTurn, ToStop, Ended, Faulted, Cut}
+
+-- a graph has the edge columns that an image declares
+abbrev pub FitsGraph : Image → NumberedGraph → Type 0
+FitsGraph image g = HasColumns g (length image.columns)
+
+abbrev pub control : List Value → ℕ → Control
+control globals turns = record { globals = globals; turns = turns }
+
+abbrev pub control_of : Master → Control
+control_of m = control m.globals.items m.turns
+
+-- how a part of a run ends, with the globals and the turns that it leaves
+abbrev pub leg_of : L.Leg → Control → Leg
+leg_of legs.Ended c = AtEnd (Ended c)
+leg_of (legs.Faulted f) c = AtEnd (Faulted f c)
+leg_of (legs.Step q line) c = AtStep q line c
+leg_of (legs.Turn line) c = AtTurn line c
+
+-- where a line leads, with the globals and the turns that it leaves
+abbrev pub lead_of : D.Lead → Control → Lead
+lead_of (leads.On k) c = On k c
+lead_of (leads.Step q) c = ToStep q c
+lead_of (leads.Turn line) c = ToTurn line c
+lead_of leads.Ended c = ToStop (Ended c)
+lead_of (leads.Faulted f) c = ToStop (Faulted f c)
+
+-- where a run to the next superstep stops, with so many turns left
+abbrev pub pause_of : MasterStop → ℕ → ℕ → Control → Pause
+pause_of (stops.Step q) left line c = Steps left q line c
+pause_of stops.Ended left line c = Stops (Ended c)
+pause_of (stops.Faulted f) left line c = Stops (Faulted f c)
+pause_of stops.Cut left line c = Stops (Cut c)

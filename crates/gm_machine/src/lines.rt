@@ -1,0 +1,342 @@
+//! The lines of vertex programs.
+
+ghost use Rattle.std.specs.Prelude.{◌≡◌, ◌<◌, ◌++◌, ℕ, Some, IfOk, OnOk, map, length, slice_get, slice_set};
+ghost use Rattle.gm_value.specs.Numbers.{zero_of};
+ghost use Rattle.gm_graph.specs.Graphs.{HasNode};
+ghost use Rattle.gm_image.specs.Views.{term, line, target};
+ghost use Rattle.gm_image.specs.Program.{SetField, Fold, SetRegister, Put, Send, Skip};
+ghost use Rattle.gm_machine.specs.Expressions.{values};
+ghost use Rattle.gm_machine.specs.Sights.{HasColumns, scene_of, work_of, after_line, after_lines, direction, answered};
+ghost use Rattle.gm_machine.specs.Vertex.{view_with, gives, messages_to, line_after, lines_after, turns_after, steps};
+
+use crate::batches::Batch;
+use crate::contributions::Contribution;
+use crate::expressions::{Scene, evaluate, holds};
+use crate::faults::{Fault, lesser};
+use gm_base::NoMemory;
+use gm_graph::Graph;
+use gm_image::{Expr, VertexLine};
+use gm_value::{Reduce, VType, Value};
+
+/// What a vertex changes: its fields and registers, what it has sent and put, and the folds that are not yet taken.
+/// The rows `found` and `given` are room for the values of one line.
+#[derive(Drop)]
+pub(crate) struct Work {
+    pub(crate) fields: Vec<Value>,
+    pub(crate) registers: Vec<Value>,
+    pub(crate) messages: Batch,
+    pub(crate) puts: Vec<Contribution>,
+    pub(crate) folds: Vec<Contribution>,
+    pub(crate) found: Vec<Value>,
+    pub(crate) given: Vec<Contribution>,
+}
+
+/// What follows a line: the next line but so many, or a fault.
+#[derive(Clone, Copy)]
+pub(crate) enum LineEnd {
+    Next(u32),
+    Faulted(Fault),
+}
+
+// Puts the values of expressions into a row, left to right, up to the first fault.
+fn evaluate_all(
+    terms: &[Expr],
+    s: &Scene,
+    fields: &[Value],
+    registers: &[Value],
+    found: &mut Vec<Value>,
+) -> Result<Option<Fault>, NoMemory>
+    requires { HasColumns s.now.graph.now s.now.columns }
+    ensures { IfOk result (λ f. answered f found.new.items ≡ values (view_with (scene_of s.now) fields.now registers.now) (map term terms.now)) }
+{
+    found.clear();
+    for e in terms {
+        match evaluate(e, s, fields, registers) {
+            Ok(v) => found.push(v)?,
+            Err(f) => return Ok(Some(f)),
+        }
+    }
+    Ok(None)
+}
+
+// Puts the contributions to some slots into a row, left to right, up to the first fault.
+fn evaluate_targets(
+    reduce: Reduce,
+    place: u32,
+    targets: &[(u32, Expr)],
+    s: &Scene,
+    fields: &[Value],
+    registers: &[Value],
+    given: &mut Vec<Contribution>,
+) -> Result<Option<Fault>, NoMemory>
+    requires { HasColumns s.now.graph.now s.now.columns }
+    ensures { IfOk result (λ f. answered f given.new.items
+        ≡ gives (view_with (scene_of s.now) fields.now registers.now) reduce place (map target targets.now)) }
+{
+    given.clear();
+    for t in targets {
+        match evaluate(&t.1, s, fields, registers) {
+            Ok(value) => given.push(Contribution {
+                place,
+                reduce,
+                slot: t.0,
+                value,
+            })?,
+            Err(f) => return Ok(Some(f)),
+        }
+    }
+    Ok(None)
+}
+
+// Writes a value at an index. One that is out of range changes nothing.
+pub(crate) fn write(values: &mut Vec<Value>, i: u32, v: Value)
+    ensures { values.new.items ≡ slice_set values.old.items i v }
+{
+    let i = i as usize;
+    if i < values.len() {
+        values[i] = v;
+    }
+}
+
+fn set_field(field: u32, a: &Expr, scene: &Scene, work: &mut Work) -> LineEnd
+    requires { HasColumns scene.now.graph.now scene.now.columns }
+    ensures { after_line (work_of work.new) result ≡ line_after (scene_of scene.now) (SetField field (term a.now)) (work_of work.old) }
+{
+    match evaluate(a, scene, &work.fields, &work.registers) {
+        Ok(v) => {
+            write(&mut work.fields, field, v);
+            LineEnd::Next(0)
+        }
+        Err(f) => LineEnd::Faulted(f),
+    }
+}
+
+fn set_register(register: u32, a: &Expr, scene: &Scene, work: &mut Work) -> LineEnd
+    requires { HasColumns scene.now.graph.now scene.now.columns }
+    ensures { after_line (work_of work.new) result ≡ line_after (scene_of scene.now) (SetRegister register (term a.now)) (work_of work.old) }
+{
+    match evaluate(a, scene, &work.fields, &work.registers) {
+        Ok(v) => {
+            write(&mut work.registers, register, v);
+            LineEnd::Next(0)
+        }
+        Err(f) => LineEnd::Faulted(f),
+    }
+}
+
+fn fold(
+    reduce: Reduce,
+    place: u32,
+    targets: &[(u32, Expr)],
+    scene: &Scene,
+    work: &mut Work,
+) -> Result<LineEnd, NoMemory>
+    requires { HasColumns scene.now.graph.now scene.now.columns }
+    ensures { IfOk result (λ end. after_line (work_of work.new) end
+        ≡ line_after (scene_of scene.now) (Fold reduce place (map target targets.now)) (work_of work.old)) }
+{
+    match evaluate_targets(
+        reduce,
+        place,
+        targets,
+        scene,
+        &work.fields,
+        &work.registers,
+        &mut work.given,
+    )? {
+        None => {
+            work.folds.extend_from_slice(&work.given)?;
+            Ok(LineEnd::Next(0))
+        }
+        Some(f) => Ok(LineEnd::Faulted(f)),
+    }
+}
+
+fn put(
+    reduce: Reduce,
+    place: u32,
+    targets: &[(u32, Expr)],
+    scene: &Scene,
+    work: &mut Work,
+) -> Result<LineEnd, NoMemory>
+    requires { HasColumns scene.now.graph.now scene.now.columns }
+    ensures { IfOk result (λ end. after_line (work_of work.new) end
+        ≡ line_after (scene_of scene.now) (Put reduce place (map target targets.now)) (work_of work.old)) }
+{
+    match evaluate_targets(
+        reduce,
+        place,
+        targets,
+        scene,
+        &work.fields,
+        &work.registers,
+        &mut work.given,
+    )? {
+        None => {
+            work.puts.extend_from_slice(&work.given)?;
+            Ok(LineEnd::Next(0))
+        }
+        Some(f) => Ok(LineEnd::Faulted(f)),
+    }
+}
+
+// A message to what was found, which may be NIL.
+fn send_to(target: Value, kind: u32, values: &[Value], messages: &mut Batch) -> Result<(), NoMemory>
+    ensures { OnOk result (messages.new ≡ messages.old ++ messages_to target kind values.now) }
+{
+    if let Value::At(Some(to)) = target {
+        messages.add(to, kind, values)?;
+    }
+    Ok(())
+}
+
+fn send(
+    kind: u32,
+    to: &Expr,
+    values: &[Expr],
+    scene: &Scene,
+    work: &mut Work,
+) -> Result<LineEnd, NoMemory>
+    requires { HasColumns scene.now.graph.now scene.now.columns }
+    ensures { IfOk result (λ end. after_line (work_of work.new) end
+        ≡ line_after (scene_of scene.now) (Send kind (term to.now) (map term values.now)) (work_of work.old)) }
+{
+    let target = match evaluate(to, scene, &work.fields, &work.registers) {
+        Ok(target) => target,
+        Err(f) => return Ok(LineEnd::Faulted(f)),
+    };
+    match evaluate_all(
+        values,
+        scene,
+        &work.fields,
+        &work.registers,
+        &mut work.found,
+    )? {
+        None => {
+            send_to(target, kind, &work.found, &mut work.messages)?;
+            Ok(LineEnd::Next(0))
+        }
+        Some(f) => Ok(LineEnd::Faulted(f)),
+    }
+}
+
+fn skip(n: u32, a: &Expr, scene: &Scene, work: &Work) -> LineEnd
+    requires { HasColumns scene.now.graph.now scene.now.columns }
+    ensures { after_line (work_of work.now) result ≡ line_after (scene_of scene.now) (Skip n (term a.now)) (work_of work.now) }
+{
+    match evaluate(a, scene, &work.fields, &work.registers) {
+        Ok(v) => LineEnd::Next(if holds(v) { 0 } else { n }),
+        Err(f) => LineEnd::Faulted(f),
+    }
+}
+
+/// Runs one line that is no each. An each leaves out its lines.
+pub(crate) fn run_line(l: &VertexLine, scene: &Scene, work: &mut Work) -> Result<LineEnd, NoMemory>
+    requires { HasColumns scene.now.graph.now scene.now.columns }
+    ensures { IfOk result (λ end. after_line (work_of work.new) end ≡ line_after (scene_of scene.now) (line l.now) (work_of work.old)) }
+{
+    match l {
+        VertexLine::SetField(f, a) => Ok(set_field(*f, a, scene, work)),
+        VertexLine::SetRegister(r, a) => Ok(set_register(*r, a, scene, work)),
+        VertexLine::Fold {
+            reduce,
+            place,
+            slots,
+        } => fold(*reduce, *place, slots.as_slice(), scene, work),
+        VertexLine::Put {
+            reduce,
+            place,
+            slots,
+        } => put(*reduce, *place, slots.as_slice(), scene, work),
+        VertexLine::Send { kind, to, values } => send(*kind, to, values.as_slice(), scene, work),
+        VertexLine::Skip(n, a) => Ok(skip(*n, a, scene, work)),
+        VertexLine::EachOut(n) => Ok(LineEnd::Next(*n)),
+        VertexLine::EachIn(n) => Ok(LineEnd::Next(*n)),
+    }
+}
+
+/// Runs lines without an each, to their end or their first fault.
+pub(crate) fn run_lines(
+    lines: &[VertexLine],
+    scene: &Scene,
+    work: &mut Work,
+) -> Result<Option<Fault>, NoMemory>
+    requires { HasColumns scene.now.graph.now scene.now.columns }
+    ensures { IfOk result (λ f. after_lines (work_of work.new) f ≡ lines_after (scene_of scene.now) (map line lines.now) 0 (work_of work.old)) }
+{
+    let mut skip = 0;
+    for l in lines {
+        if skip > 0 {
+            skip -= 1;
+        } else {
+            match run_line(l, scene, work)? {
+                LineEnd::Next(k) => skip = k,
+                LineEnd::Faulted(f) => return Ok(Some(f)),
+            }
+        }
+    }
+    Ok(None)
+}
+
+// How many edges of a node an each goes over.
+fn degree(graph: &Graph, out: bool, node: u32) -> u32
+    requires { HasNode graph.now node }
+    ensures { result ≡ length (steps (direction out) graph.now node) }
+{
+    if out {
+        graph.out_degree(node)
+    } else {
+        graph.in_degree(node)
+    }
+}
+
+// The neighbour and the edge of a turn of an each.
+fn step_at(graph: &Graph, out: bool, node: u32, k: u32) -> (u32, u32)
+    requires node { HasNode graph.now node }
+    requires step { k < length (steps (direction out) graph.now node) }
+    ensures { slice_get (steps (direction out) graph.now node) k ≡ Some (record { node = result.0; edge = result.1 }) }
+{
+    if out {
+        (graph.out_target(node, k), graph.out_edge(node, k))
+    } else {
+        (graph.in_source(node, k), graph.in_edge(node, k))
+    }
+}
+
+/// Runs lines once for each edge of a node in a direction, each time to their end or their first fault, and answers
+/// the least of these faults.
+pub(crate) fn run_turns(
+    out: bool,
+    lines: &[VertexLine],
+    scene: &Scene,
+    work: &mut Work,
+) -> Result<Option<Fault>, NoMemory>
+    requires columns { HasColumns scene.now.graph.now scene.now.columns }
+    requires node { HasNode scene.now.graph.now scene.now.node }
+    ensures { IfOk result (λ f. after_lines (work_of work.new) f
+        ≡ turns_after (scene_of scene.now) (map line lines.now) (steps (direction out) scene.now.graph.now scene.now.node) (work_of work.old) None) }
+{
+    let mut fault = None;
+    for k in 0..degree(scene.graph, out, scene.node) {
+        let (neighbour, edge) = step_at(scene.graph, out, scene.node, k);
+        let turn = Scene {
+            neighbour,
+            edge,
+            ..*scene
+        };
+        let one = run_lines(lines, &turn, work)?;
+        fault = lesser(fault, one);
+    }
+    Ok(fault)
+}
+
+/// Sets the registers to zero.
+pub(crate) fn reset(registers: &mut Vec<Value>, types: &[VType]) -> Result<(), NoMemory>
+    ensures { OnOk result (registers.new.items ≡ map zero_of types.now) }
+{
+    registers.clear();
+    for t in types {
+        registers.push(t.zero())?;
+    }
+    Ok(())
+}

@@ -1,0 +1,136 @@
+//! The written step of one vertex, for all that run images.
+
+ghost use Rattle.std.specs.Prelude.{◌≡◌, ◌<◌, ◌++◌, None, OnOk, [], length};
+ghost use Rattle.gm_graph.specs.Graphs.{HasNode};
+ghost use Rattle.gm_image.specs.Views.{program};
+ghost use Rattle.gm_machine.specs.Masters.{FitsGraph};
+ghost use Rattle.gm_machine.specs.Faults.{lesser};
+ghost use Rattle.gm_machine.specs.Steps.{KeepsFields, step_after};
+
+use crate::batches::Batch;
+use crate::bodies::run_vertex;
+use crate::contributions::Contribution;
+use crate::expressions::Scene;
+use crate::faults::{Fault, lesser};
+use crate::lines::Work;
+use gm_base::NoMemory;
+use gm_graph::Graph;
+use gm_image::{Image, Sound};
+use gm_value::Value;
+use std::alloc::Global;
+use std::mem;
+
+/// The messages, the contributions and the least fault of vertex steps, in order.
+#[derive(Drop)]
+pub struct Sent {
+    pub messages: Batch,
+    pub puts: Vec<Contribution>,
+    pub fault: Option<Fault>,
+}
+
+impl Sent {
+    /// Nothing yet. It keeps the allocator and takes no memory.
+    pub fn empty(alloc: Global) -> Self
+        ensures messages { result.messages ≡ [] }
+        ensures puts { result.puts.items ≡ [] }
+        ensures fault { result.fault ≡ None }
+    {
+        Sent {
+            messages: Batch::empty(alloc),
+            puts: Vec::new(alloc),
+            fault: None,
+        }
+    }
+}
+
+// The step of a vertex, for an image whose block sets no field in its handlers.
+pub(crate) fn step(
+    alloc: Global,
+    image: &Image,
+    block: u32,
+    globals: &[Value],
+    graph: &Graph,
+    node: u32,
+    fields: &mut Vec<Value>,
+    inbox: &Batch,
+    sent: &mut Sent,
+) -> Result<(), NoMemory>
+    requires block { block < length image.now.blocks }
+    requires node { HasNode graph.now node }
+    requires columns { FitsGraph image.now graph.now }
+    requires keeps { KeepsFields (program image.now) block }
+    ensures fields { OnOk result (fields.new.items
+        ≡ (step_after (program image.now) block globals.now graph.now node inbox.now fields.old.items).work.fields) }
+    ensures messages { OnOk result (sent.new.messages
+        ≡ sent.old.messages ++ (step_after (program image.now) block globals.now graph.now node inbox.now fields.old.items).work.messages) }
+    ensures puts { OnOk result (sent.new.puts.items
+        ≡ sent.old.puts.items ++ (step_after (program image.now) block globals.now graph.now node inbox.now fields.old.items).work.puts) }
+    ensures fault { OnOk result (sent.new.fault
+        ≡ lesser sent.old.fault (step_after (program image.now) block globals.now graph.now node inbox.now fields.old.items).fault) }
+{
+    let blocks = image.blocks.as_slice();
+    let todo = &blocks[block as usize];
+    let scene = Scene {
+        graph,
+        columns: image.columns.len(),
+        globals,
+        node,
+        message: &[],
+        neighbour: 0,
+        edge: 0,
+    };
+    let mut work = Work {
+        fields: mem::replace(fields, Vec::new(alloc)),
+        registers: Vec::new(alloc),
+        messages: mem::replace(&mut sent.messages, Batch::empty(alloc)),
+        puts: mem::replace(&mut sent.puts, Vec::new(alloc)),
+        folds: Vec::new(alloc),
+        found: Vec::new(alloc),
+        given: Vec::new(alloc),
+    };
+    let fault = run_vertex(image, todo, &inbox.heads, &inbox.values, &scene, &mut work)?;
+    *fields = work.fields;
+    sent.messages = work.messages;
+    sent.puts = work.puts;
+    sent.fault = lesser(sent.fault, fault);
+    Ok(())
+}
+
+/// The written step of one vertex: it puts the new fields in the place of the old ones, and adds what the vertex sent
+/// and put behind what `sent` holds. A fault is kept in `sent`, the least of all. Where there is not enough memory the
+/// run is to be given up.
+pub fn vertex_step(
+    alloc: Global,
+    image: &Sound,
+    block: u32,
+    globals: &[Value],
+    graph: &Graph,
+    node: u32,
+    fields: &mut Vec<Value>,
+    inbox: &Batch,
+    sent: &mut Sent,
+) -> Result<(), NoMemory>
+    requires block { block < length image.now.blocks }
+    requires node { HasNode graph.now node }
+    requires columns { FitsGraph image.now graph.now }
+    ensures fields { OnOk result (fields.new.items
+        ≡ (step_after (program image.now) block globals.now graph.now node inbox.now fields.old.items).work.fields) }
+    ensures messages { OnOk result (sent.new.messages
+        ≡ sent.old.messages ++ (step_after (program image.now) block globals.now graph.now node inbox.now fields.old.items).work.messages) }
+    ensures puts { OnOk result (sent.new.puts.items
+        ≡ sent.old.puts.items ++ (step_after (program image.now) block globals.now graph.now node inbox.now fields.old.items).work.puts) }
+    ensures fault { OnOk result (sent.new.fault
+        ≡ lesser sent.old.fault (step_after (program image.now) block globals.now graph.now node inbox.now fields.old.items).fault) }
+{
+    step(
+        alloc,
+        image.image(),
+        block,
+        globals,
+        graph,
+        node,
+        fields,
+        inbox,
+        sent,
+    )
+}
