@@ -119,3 +119,44 @@ impl Checked {
         self.tree
     }
 }
+
+/// A checked program, or what passes have made of one. Contracts see it as its tree.
+#[derive(Debug, Drop)]
+pub struct Work {
+    tree: Tree,
+}
+
+impl Model for Work {
+    ghost use Rattle.std.specs.Coded.{codes};
+    ghost use Rattle.gm_ast.specs.declared.tree.Tree.{Tree};
+    ghost use Rattle.gm_ast.specs.contracts.tree.Stmt as stmt;
+
+    ghost Value = { Tree };
+
+    ghost coded = { Prim.hlevel (codes, stmt.the_row.coded) };
+
+    ghost view = { λ work. work.tree };
+}
+
+impl Work {
+    /// The work on a tree. It takes no memory.
+    pub fn new(tree: Tree) -> Self
+        ensures { result ≡ tree }
+    {
+        Work { tree }
+    }
+
+    /// The tree of the program.
+    pub fn tree(&self) -> &Tree
+        ensures { result.now ≡ self.now }
+    {
+        &self.tree
+    }
+
+    /// The tree of the program. It takes no memory.
+    pub fn into_tree(self) -> Tree
+        ensures { result ≡ self }
+    {
+        self.tree
+    }
+}

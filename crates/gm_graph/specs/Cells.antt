@@ -1,10 +1,12 @@
 -- The cells of a column: one row of numbers or truth values for each type.
-use Rattle.std.specs.Prelude.{ℕ, nat_lt, map, Some, None, if◌then◌else◌}
+use Rattle.std.specs.Prelude.{ℕ, nat_lt, List, map, Some, None, if◌then◌else◌}
 use Rattle.gm_value.specs.declared.values.Value.{Value}
 use Rattle.gm_value.specs.declared.values.VType.TheVariants.{I32, I64, Flag, Node}
 use Rattle.gm_value.specs.declared.values.Value.TheVariants.{I32, I64, Flag, At}
 use Rattle.gm_graph.specs.declared.columns.Cells.{Cells}
 use Rattle.gm_graph.specs.declared.columns.Cells.TheVariants.{Ints, Longs, Flags, Nodes}
+use Rattle.gm_graph.specs.declared.columns.Finished.{Finished}
+use Rattle.gm_graph.specs.declared.columns.Finished.TheVariants.{Typed, Mixed}
 use Rattle.gm_graph.specs.Columns.{TypedRow}
 
 -- the node whose index a cell holds, or NIL in a cell of the greatest number
@@ -17,3 +19,8 @@ typed_row (Ints cells) = record { vtype = I32; values = map (λ z. I32 z) cells.
 typed_row (Longs cells) = record { vtype = I64; values = map (λ z. I64 z) cells.items }
 typed_row (Flags cells) = record { vtype = Flag; values = map (λ b. Flag b) cells.items }
 typed_row (Nodes cells) = record { vtype = Node; values = map node_in cells.items }
+
+-- the values of a finished list
+abbrev pub finished_values : Finished → List Value
+finished_values (Typed column) = column.values
+finished_values (Mixed values) = values.items

@@ -147,10 +147,18 @@ fn cell_of(node: Option<u32>) -> u32
     node.unwrap_or(NIL)
 }
 
-/// A finished column, which contracts see as the list of its values alone.
+// Finished values: of one type in a column, or of any types one by one.
+#[derive(Debug, Drop)]
+enum Finished {
+    Typed(Column),
+    Mixed(Vec<Value>),
+}
+
+/// A finished list of values, which contracts see as that list alone. It takes the room of a typed column where its
+/// values are of one type.
 #[derive(Debug, Drop)]
 pub struct Values {
-    column: Column,
+    finished: Finished,
 }
 
 impl Model for Values {
@@ -159,7 +167,9 @@ impl Model for Values {
 
     ghost Value = { List GmValue };
 
-    ghost view = { λ it. it.column.values };
+    ghost use Rattle.gm_graph.specs.Cells.{finished_values};
+
+    ghost view = { λ it. finished_values it.finished };
 }
 
 impl Values {
@@ -167,21 +177,35 @@ impl Values {
     pub fn new(column: Column) -> Self
         ensures { result ≡ column.values }
     {
-        Values { column }
+        Values {
+            finished: Finished::Typed(column),
+        }
+    }
+
+    /// Values of any types, one by one. It takes no memory.
+    pub fn of_any_type(values: Vec<Value>) -> Self
+        ensures { result ≡ values.items }
+    {
+        Values {
+            finished: Finished::Mixed(values),
+        }
     }
 
     /// How many values there are.
     pub fn len(&self) -> usize
         ensures { result ≡ length self.now }
     {
-        self.column.len()
+        match &self.finished {
+            Finished::Typed(column) => column.len(),
+            Finished::Mixed(values) => values.len(),
+        }
     }
 
     /// Whether there is no value.
     pub fn is_empty(&self) -> bool
         ensures { result ≡ (length self.now == 0) }
     {
-        self.column.is_empty()
+        self.len() == 0
     }
 
     /// The value at an index from 0.
@@ -189,6 +213,9 @@ impl Values {
         requires { index < length self.now }
         ensures { slice_get self.now index ≡ Some result }
     {
-        self.column.get(index)
+        match &self.finished {
+            Finished::Typed(column) => column.get(index),
+            Finished::Mixed(values) => values[index],
+        }
     }
 }

@@ -52,6 +52,20 @@ impl Graph {
         self.targets.len() as u32
     }
 
+    /// How many node columns there are. Their indices are the numbers below.
+    pub fn node_column_count(&self) -> usize
+        ensures { result ≡ length self.now.node_columns }
+    {
+        self.node_columns.len()
+    }
+
+    /// How many edge columns there are. Their indices are the numbers below.
+    pub fn edge_column_count(&self) -> usize
+        ensures { result ≡ length self.now.edge_columns }
+    {
+        self.edge_columns.len()
+    }
+
     /// The number of the node of an index.
     pub fn number(&self, node: u32) -> u64
         requires { HasNode self.now node }

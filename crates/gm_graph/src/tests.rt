@@ -4,7 +4,7 @@ ghost use Rattle.std.specs.Prelude.{◌≡◌, [], ◌∷◌, All, IfOk, length}
 ghost use Rattle.gm_value.specs.declared.values.VType.TheVariants.{I32};
 ghost use Rattle.gm_graph.specs.Builds.{IsBuildable, types_of};
 
-use crate::{Column, Graph, RawGraph, Shape, build};
+use crate::{Column, Graph, RawGraph, Shape, Values, build};
 use gm_base::{Items, NoMemory};
 use gm_value::{VType, Value};
 use std::alloc::{AllocError, Global};
@@ -89,6 +89,8 @@ fn a_graph_is_made_and_read(rt: HostRuntime) -> Result<(), Fail> {
         "3: >2/1 <0/1 <1/1;7: >0/0 >1/0 >3/1 <2/0 <3/1;9:;"
     );
     assert_eq!(rt; graph.edge_count(), 4);
+    assert_eq!(rt; graph.node_column_count(), 1);
+    assert_eq!(rt; graph.edge_column_count(), 1);
     for (number, node) in [
         (3, Some(0)),
         (7, Some(1)),
@@ -107,5 +109,21 @@ fn numbers_far_apart_have_indices(rt: HostRuntime) -> Result<(), Fail> {
     let graph = build(rt.alloc(), far_line(rt.alloc())?)?;
     let text = listing(rt.alloc(), &graph)?;
     assert_eq!(rt; text.as_str(), "3: <0/1;9223372036854775807: >0/0;");
+    Ok(())
+}
+
+#[test]
+fn values_of_any_type_are_kept(rt: HostRuntime) -> Result<(), Fail> {
+    let values = Values::of_any_type(vec![in rt.alloc();
+        Value::Flag(true),
+        Value::I64(-5),
+        Value::At(Some(u32::MAX)),
+    ]?);
+    assert_eq!(rt; values.len(), 3);
+    if values.len() == 3 {
+        assert_eq!(rt; values.get(0), Value::Flag(true));
+        assert_eq!(rt; values.get(1), Value::I64(-5));
+        assert_eq!(rt; values.get(2), Value::At(Some(u32::MAX)));
+    }
     Ok(())
 }

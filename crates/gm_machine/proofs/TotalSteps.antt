@@ -114,7 +114,7 @@ total-more slot place r a new b cs i d within is at long adds held =
     ap longs_of more
     ∙ ap (map long_of) (map-append (λ d. d.value) (members slot place (take i cs)) (c ∷ []))
     ∙ map-append long_of (map (λ d. d.value) (members slot place (take i cs))) (c.value ∷ []) in
-    subst (λ bag. IsTotal r I64 new bag) (sym longs) (adds_long before (before ++ long_of c.value ∷ []) held (SameBag-last before (long_of c.value)))
+    subst (λ bag. IsTotal r I64 new bag) (sym longs) (adds_long I64 before (before ++ long_of c.value ∷ []) held (SameBag-last before (long_of c.value)))
 
 -- a contribution to another slot or at another place changes nothing
 pub total-same : (slot place : ℕ) (r : Reduce) (a : Total) (cs : List Contribution) (i : ℕ) (d : Contribution) →

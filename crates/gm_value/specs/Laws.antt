@@ -12,7 +12,7 @@ use Rattle.gm_value.specs.Numbers.{type_of, fits, IsOf}
 use Rattle.gm_value.specs.Operations.{result1, result2, type1, type2}
 use Rattle.gm_value.specs.Bag.{SameBag}
 use Rattle.gm_value.specs.Reductions.{combined, unit_of, total, close, picks}
-use Rattle.gm_value.specs.Totals.{IsTotal, HasRoom}
+use Rattle.gm_value.specs.Totals.{IsTotal, HasType, HasRoom}
 use Rattle.gm_value.specs.Taking.{of_rank, then_take, taken, before, from_on, TakesBags, AreBelow, rank_by, KeepsOrder}
 
 -- an operation on a value gives a value of its result's type
@@ -83,9 +83,10 @@ FewHaveRoom = (r : Reduce) (t : VType) (a : Total) (bag : List Value) → IsTota
 abbrev pub TotalStandsForBags : Type 0
 TotalStandsForBags = (r : Reduce) (t : VType) (a : Total) (bag other : List Value) → SameBag bag other → IsTotal r t a bag → IsTotal r t a other
 
--- one total alone stands for a bag
+-- one total alone of a type stands for a bag
 abbrev pub TotalIsOne : Type 0
-TotalIsOne = (r : Reduce) (t : VType) (a b : Total) (bag : List Value) → IsTotal r t a bag → IsTotal r t b bag → a ≡ b
+TotalIsOne =
+    (r : Reduce) (t kind : VType) (a b : Total) (bag : List Value) → HasType kind a → HasType kind b → IsTotal r t a bag → IsTotal r t b bag → a ≡ b
 
 -- taking depends on the contributions of each rank only as a bag, where the closing does
 abbrev pub TakingTakesRanks : (C V : Type 0) → Type 0

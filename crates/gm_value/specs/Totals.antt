@@ -6,14 +6,14 @@ use Rattle.gm_value.specs.declared.reductions.Reduce.{Reduce}
 use Rattle.gm_value.specs.declared.reductions.Reduce.TheVariants.{Sum, Product, Min, Max, And, Or}
 use Rattle.gm_value.specs.declared.totals.Total.{Total}
 use Rattle.gm_value.specs.declared.totals.Total.TheVariants as totals
-use Rattle.gm_value.specs.Numbers.{number_of, type_of, IsOf}
-use Rattle.gm_value.specs.Reductions.{total}
+use Rattle.gm_value.specs.Numbers.{number_of, type_of}
+use Rattle.gm_value.specs.Reductions.{combined, total}
 use Rattle.gm_value.specs.Bag.{SameBag}
 
--- all members of a bag are values of a type
-abbrev pub AreOf : VType → List Value → Type 0
-AreOf t [] = Unit {0}
-AreOf t (v ∷ bag) = IsOf t v × AreOf t bag
+-- all members of a bag are numbers of at most 2 ^ 63 in magnitude, as each value of each type is
+abbrev pub AreNear : List Value → Type 0
+AreNear [] = Unit {0}
+AreNear (v ∷ bag) = (unsigned_abs (number_of v) ≤ 2 ^ 63) × AreNear bag
 
 -- a product is kept exactly while its magnitude is at most 2 ^ 63, and is else only known to be over it
 abbrev pub IsProduct : ℤ → Bool → ℤ → Type 0
@@ -25,23 +25,24 @@ abbrev pub IsProductTotal : Total → ℤ → Type 0
 IsProductTotal (totals.Product value over) exact = IsProduct value over exact
 IsProductTotal a exact = ⊥
 
--- a value of a type that has this number
-abbrev pub HasNumber : VType → Value → ℤ → Type 0
-HasNumber t v exact = (type_of v ≡ t) × (number_of v ≡ exact)
+-- a total of the code shows an exact number, whatever the types of its members are
+abbrev pub Shows : Reduce → Total → ℤ → Type 0
+Shows Sum (totals.Sum z) exact = z ≡ exact
+Shows Product a exact = IsProductTotal a exact
+Shows Min (totals.Small v) exact = number_of v ≡ exact
+Shows Max (totals.Small v) exact = number_of v ≡ exact
+Shows And (totals.Small v) exact = number_of v ≡ exact
+Shows Or (totals.Small v) exact = number_of v ≡ exact
+Shows r a exact = ⊥
 
--- a total of the code shows an exact number
-abbrev pub Shows : Reduce → VType → Total → ℤ → Type 0
-Shows Sum t (totals.Sum z) exact = z ≡ exact
-Shows Product t a exact = IsProductTotal a exact
-Shows Min t (totals.Small v) exact = HasNumber t v exact
-Shows Max t (totals.Small v) exact = HasNumber t v exact
-Shows And t (totals.Small v) exact = HasNumber t v exact
-Shows Or t (totals.Small v) exact = HasNumber t v exact
-Shows r t a exact = ⊥
+-- a total of the code that is a value is one of a type
+abbrev pub HasType : VType → Total → Type 0
+HasType t (totals.Small v) = type_of v ≡ t
+HasType t a = Unit {0}
 
--- a total of the code stands for a bag of values of a type: it shows the bag's exact total
+-- a total of the code stands for a bag of values: it shows the bag's exact total, of which the type says the unit alone
 abbrev pub IsTotal : Reduce → VType → Total → List Value → Type 0
-IsTotal r t a bag = AreOf t bag × Shows r t a (total r t bag)
+IsTotal r t a bag = AreNear bag × Shows r a (total r t bag)
 
 -- a total has room for one more member: a sum is at most 2 ^ 126 in magnitude, and a product at most 2 ^ 63
 abbrev pub HasRoom : Total → Type 0
@@ -51,5 +52,8 @@ HasRoom (totals.Product value over) = unsigned_abs value ≤ 2 ^ 63
 
 -- whatever bag a total stands for, the new one stands for each bag that has one more member, in any order
 abbrev pub AddsMember : Reduce → Total → Value → Total → Type 0
-AddsMember r a b new =
-    (bag more : List Value) → IsTotal r (type_of b) a bag → SameBag more (b ∷ bag) → IsTotal r (type_of b) new more
+AddsMember r a b new = (t : VType) (bag more : List Value) → IsTotal r t a bag → SameBag more (b ∷ bag) → IsTotal r t new more
+
+-- whatever number a total shows, the new one shows that number combined with one more
+abbrev pub ShowsMore : Reduce → Total → ℤ → Total → Type 0
+ShowsMore r a number new = (exact : ℤ) → Shows r a exact → Shows r new (combined r number exact)

@@ -2,10 +2,11 @@
 
 ghost use Rattle.std.specs.Prelude.{◌≡◌, ◌↔◌, IsTrue, ℤ, ◌*ℤ◌, ◌^◌, ◌≤◌, unsigned_abs, List, []};
 ghost use Rattle.gm_value.specs.declared.values.Value.{Value};
+ghost use Rattle.gm_value.specs.declared.values.VType.{VType};
 ghost use Rattle.gm_value.specs.declared.reductions.Reduce.{Reduce};
-ghost use Rattle.gm_value.specs.Numbers.{type_of, number_of, checked, IsOf};
+ghost use Rattle.gm_value.specs.Numbers.{type_of, number_of, checked};
 ghost use Rattle.gm_value.specs.Reductions.{combined, close};
-ghost use Rattle.gm_value.specs.Totals.{IsTotal, IsProduct, HasRoom, AddsMember, IsProductTotal, Shows};
+ghost use Rattle.gm_value.specs.Totals.{IsTotal, IsProduct, HasRoom, HasType, AddsMember, IsProductTotal, Shows, ShowsMore};
 
 use crate::faults::FaultKind;
 use crate::operations::{product, sum};
@@ -40,7 +41,8 @@ impl Total {
 fn multiplied(value: i128, over: bool, factor: i128) -> Total
     requires factor { unsigned_abs factor ≤ 2 ^ 63 }
     requires value { unsigned_abs value ≤ 2 ^ 63 }
-    ensures { (exact : ℤ) → IsProduct value over exact → IsProductTotal result (factor *ℤ exact) }
+    ensures product { (exact : ℤ) → IsProduct value over exact → IsProductTotal result (factor *ℤ exact) }
+    ensures typed { (t : VType) → HasType t result }
 {
     if factor == 0 {
         return Total::Product {
@@ -68,9 +70,10 @@ fn multiplied(value: i128, over: bool, factor: i128) -> Total
     }
 }
 
-/// The total of the empty bag.
+/// The total of the empty bag. The type says what the unit is.
 pub fn total_unit(r: Reduce, t: VType) -> Total
-    ensures { IsTotal r t result [] }
+    ensures total { IsTotal r t result [] }
+    ensures typed { HasType t result }
 {
     match r {
         Reduce::Sum => Total::Sum(0),
@@ -85,9 +88,9 @@ pub fn total_unit(r: Reduce, t: VType) -> Total
 // The total that shows one more member's number.
 fn with_member(r: Reduce, a: Total, b: Value) -> Total
     requires { HasRoom a }
-    ensures shows { (exact : ℤ) → Shows r (type_of b) a exact
-        → Shows r (type_of b) result (combined r (number_of b) exact) }
-    ensures member { IsOf (type_of b) b }
+    ensures shows { ShowsMore r a (number_of b) result }
+    ensures typed { HasType (type_of b) a → HasType (type_of b) result }
+    ensures near { unsigned_abs (number_of b) ≤ 2 ^ 63 }
 {
     let x = b.number();
     match (r, a) {
@@ -107,17 +110,19 @@ fn with_member(r: Reduce, a: Total, b: Value) -> Total
     }
 }
 
-/// The total with one more member. The total is one by the same reduction, of values of the member's type.
+/// The total with one more member, of whatever type. The total is one by the same reduction.
 pub fn total_add(r: Reduce, a: Total, b: Value) -> Total
     requires { HasRoom a }
-    ensures { AddsMember r a b result }
+    ensures adds { AddsMember r a b result }
+    ensures shows { ShowsMore r a (number_of b) result }
+    ensures typed { HasType (type_of b) a → HasType (type_of b) result }
 {
     with_member(r, a, b)
 }
 
 // The value of a type for the number that a total shows.
 fn fitted(t: VType, a: Total) -> Result<Value, FaultKind>
-    ensures { (r : Reduce) (exact : ℤ) → Shows r t a exact → result ≡ checked t exact }
+    ensures { (r : Reduce) (exact : ℤ) → Shows r a exact → result ≡ checked t exact }
 {
     match a {
         Total::Small(v) => t.checked(v.number()),
@@ -127,11 +132,13 @@ fn fitted(t: VType, a: Total) -> Result<Value, FaultKind>
     }
 }
 
-/// The held value combined with a total, or the fault Overflow where the exact result is out of its type's
-/// range. The total is one by the same reduction, of values of the held value's type.
+/// The held value combined with a total, or the fault Overflow where the exact result is out of the held value's
+/// type's range. The total is one by the same reduction.
 pub fn total_close(r: Reduce, held: Value, t: Total) -> Result<Value, FaultKind>
     requires { HasRoom t }
-    ensures { (bag : List Value) → IsTotal r (type_of held) t bag → result ≡ close r held bag }
+    ensures bags { (bag : List Value) → IsTotal r (type_of held) t bag → result ≡ close r held bag }
+    ensures exact { (exact : ℤ) → Shows r t exact
+        → result ≡ checked (type_of held) (combined r (number_of held) exact) }
 {
     fitted(held.type_of(), with_member(r, t, held))
 }

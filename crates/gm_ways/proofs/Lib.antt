@@ -9,3 +9,5 @@ pub mod Growing
 pub mod Gathering
 pub mod Bodies
 pub mod Found
+pub mod Webs
+pub mod Spreading

@@ -4,3 +4,4 @@ pub mod Tests
 pub mod Locals
 pub mod Sweeps
 pub mod Finding
+pub mod Webs

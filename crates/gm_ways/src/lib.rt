@@ -11,7 +11,9 @@ ghost use Rattle.gm_ast.specs.Ways.{edges_against, ways_of};
 mod finding;
 mod locals;
 mod reads;
+mod spread;
 mod sweeps;
+mod web;
 
 use crate::finding::Finder;
 use crate::locals::Locals;
@@ -52,6 +54,7 @@ fn locals_of(alloc: Global, iterator: u32, body: &Stmt) -> Result<Locals, AllocE
         facts: IndexMap::new(alloc),
     };
     locals.gather(body)?;
+    locals.spread(alloc, body)?;
     locals.settle(body)?;
     Ok(locals)
 }

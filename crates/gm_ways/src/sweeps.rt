@@ -15,7 +15,7 @@ use std::alloc::AllocError;
 
 impl Locals {
     // Adds a local.
-    fn declare(&mut self, variable: u32) -> Result<(), AllocError>
+    pub fn declare(&mut self, variable: u32) -> Result<(), AllocError>
         ensures { OnOk result (Gathers self.old self.new (variable ∷ [])) }
     {
         self.facts.insert(variable, NOTHING)?;
@@ -67,7 +67,7 @@ impl Locals {
     }
 
     // Adds reads to those of a variable that is a local. Answers whether they are new.
-    fn add(&mut self, variable: u32, reads: Reads) -> Result<bool, AllocError>
+    pub fn add(&mut self, variable: u32, reads: Reads) -> Result<bool, AllocError>
         ensures { IfOk result (λ changed. Grows self.old self.new (λ t B. Demand (is_known self.old) B (nat_eq variable) (holds reads t)) changed) }
     {
         let Some(known) = self.facts.get(&variable) else {

@@ -183,3 +183,92 @@ fn reads_edges_against_the_way(rt: HostRuntime) -> Result<(), Fail> {
     }
     Ok(())
 }
+
+// A body whose six locals rest on one another in a chain, and whose last one reads the neighbour and edges. Of each step,
+// in the order of the text, the local that is written and the one that is read.
+fn chain(alloc: Global, steps: [(u32, u32); 5]) -> Result<Stmt, AllocError> {
+    let mut stmts = Vec::new(alloc);
+    for variable in [10, 11, 12, 13, 14, 15] {
+        stmts.push(declare(variable))?;
+    }
+    for (written, read) in steps {
+        stmts.push(assign(written, local(read)))?;
+    }
+    stmts.push(assign(15, input(NEIGHBOUR)))?;
+    stmts.push(assign(15, weight(20)))?;
+    stmts.push(assign(15, weight(9)))?;
+    stmts.push(add(alloc, NODE, local(10))?)?;
+    Ok(Stmt::Block(stmts))
+}
+
+#[test]
+fn reads_through_chains_of_locals(rt: HostRuntime) -> Result<(), Fail> {
+    let alloc = rt.alloc();
+    // against the order of the text, along it, and in zig-zag order
+    let table = [
+        [(10, 11), (11, 12), (12, 13), (13, 14), (14, 15)],
+        [(14, 15), (13, 14), (12, 13), (11, 12), (10, 11)],
+        [(10, 11), (14, 15), (11, 12), (13, 14), (12, 13)],
+    ];
+    for steps in table {
+        let body = chain(alloc, steps)?;
+        let found = ways_in_loop(alloc, &head(Domain::OutNbrs), &input(NODE), &body)?;
+        assert_eq!(rt;
+            format!(in alloc; "{found:?}")?.as_str(),
+            "LoopWays { ways: [Pull], against: Some(Refusal { rule: C7, place: Place { line: 1, col: 9 } }) }"
+        );
+    }
+    Ok(())
+}
+
+#[test]
+fn reads_through_nested_conditions(rt: HostRuntime) -> Result<(), Fail> {
+    let alloc = rt.alloc();
+    // the range, what the inner condition's local and the outer one's read, which get their values further down only,
+    // and what is found
+    let table = [
+        (
+            Domain::OutNbrs,
+            input(NEIGHBOUR),
+            input(NODE),
+            Way::Pull,
+            None,
+        ),
+        (
+            Domain::OutNbrs,
+            input(NODE),
+            input(NEIGHBOUR),
+            Way::Pull,
+            None,
+        ),
+        (Domain::OutNbrs, input(NODE), input(NODE), Way::Home, None),
+        (Domain::InNbrs, input(NODE), weight(7), Way::Pull, None),
+        (Domain::InNbrs, input(NODE), input(NODE), Way::Home, None),
+        (Domain::DownNbrs, weight(7), weight(3), Way::Pull, Some(3)),
+    ];
+    for (domain, inner, outer, way, col) in table {
+        let mut stmts = Vec::new(alloc);
+        stmts.push(declare(FIRST))?;
+        stmts.push(declare(SECOND))?;
+        stmts.push(declare(THIRD))?;
+        let within = when(alloc, local(SECOND), assign(FIRST, input(NODE)))?;
+        stmts.push(when(alloc, local(THIRD), within)?)?;
+        stmts.push(assign(SECOND, inner))?;
+        stmts.push(assign(THIRD, outer))?;
+        stmts.push(add(alloc, NODE, local(FIRST))?)?;
+        let body = Stmt::Block(stmts);
+        let found = ways_in_loop(alloc, &head(domain), &input(NODE), &body)?;
+        assert_eq!(rt;
+            format!(in alloc; "{found:?}")?.as_str(),
+            format!(in alloc;
+                "{:?}",
+                LoopWays {
+                    ways: vec![in alloc; way]?,
+                    against: refusal_at(col.map(at)),
+                }
+            )?
+            .as_str(),
+        );
+    }
+    Ok(())
+}

@@ -4,7 +4,8 @@ use Rattle.std.specs.Map.{lookup}
 use Rattle.gm_ast.specs.Tree.{stmt_of}
 use Rattle.gm_ways.specs.declared.reads.Reads.{Reads}
 use Rattle.gm_ways.proofs.Found.{settled-body}
+use Rattle.gm_ways.proofs.Spreading.{spreads-settles}
 use Rattle.gm_ways.proofs.locals_of.Goals as goal
 
 pub returns : goal.returns
-returns c = settled-body c.args.iterator (stmt_of c.args.body.now) refl (λ x. ap (λ (es : List (ℕ × Reads)). lookup (nat_eq x) es) c.new.ensures.empty) c.in_ok-gather.ensures c.in_ok-settle.ensures
+returns c = settled-body c.args.iterator (stmt_of c.args.body.now) refl (λ x. ap (λ (es : List (ℕ × Reads)). lookup (nat_eq x) es) c.new.ensures.empty) c.in_ok-gather.ensures (spreads-settles (stmt_of c.args.body.now) c.in_ok-spread.ensures c.in_ok-settle.ensures)

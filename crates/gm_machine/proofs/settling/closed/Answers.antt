@@ -14,9 +14,9 @@ returns-in-Ok-clause-value c = λ bag held_total.
     ∙ ap (λ t. checked t c.number.result) c.type_of.ensures
     ∙ ap (checked (type_of c.args.held)) c.number.ensures.number
     ∙ closed-at c.reductions_are_monoids.ensures.unit c.args.reduce c.args.held c.long-long_held.result c.args.total bag (Ok c.in-Ok.v)
-    c.long-long_held.ensures.long c.long-long_held.ensures.in_range c.in-Ok.ensures held_total
+    c.long-long_held.ensures.long c.long-long_held.ensures.in_range c.in-Ok.ensures.bags held_total
 
 pub returns-in-Err-clause-value : goal.returns-in-Err-clause-value
 returns-in-Err-clause-value c = λ bag held_total.
     closed-at c.reductions_are_monoids.ensures.unit c.args.reduce c.args.held c.long-long_held.result c.args.total bag (Err c.in-Err.kind)
-    c.long-long_held.ensures.long c.long-long_held.ensures.in_range c.in-Err.ensures held_total
+    c.long-long_held.ensures.long c.long-long_held.ensures.in_range c.in-Err.ensures.bags held_total

@@ -19,7 +19,7 @@ loop-c-preserved c =
       | then-c-slot+then-c-place+else-not-has_room w ↦
           subst P (sym w.total-is)
           (total-more c.args.slot c.args.place c.args.reduce c.loop-c.total w.total_add-total.result w.long.result c.args.contributions.now c.loop-c.c-index d
-          c.loop-c-test.true w.if-c-slot.true w.if-c-place.true w.long.ensures.long w.total_add-total.ensures c.loop-c.invariant)
+          c.loop-c-test.true w.if-c-slot.true w.if-c-place.true w.long.ensures.long w.total_add-total.ensures.adds c.loop-c.invariant)
       | else-c-slot w ↦ elim w.else-c-slot.branch [
         | else-c-slot-via-then-c-slot+else-c-place w' ↦
             subst P (sym w.total-is) (total-same c.args.slot c.args.place c.args.reduce c.loop-c.total c.args.contributions.now c.loop-c.c-index d c.loop-c-test.true (λ is at. w'.if-c-place.false at) c.loop-c.invariant)
