@@ -3,6 +3,7 @@
 
 use gm_base::{DiskFiles, NoMemory, ReadSource, Status, WriteSink};
 use gm_driver::gm;
+use gm_observe::{Counter, Observer, Table};
 use std::env;
 use std::io::ErrorKind;
 use std::process::ExitCode;
@@ -26,13 +27,26 @@ fn words(rt: &HostRuntime) -> Result<Vec<String>, NoMemory> {
     Ok(words)
 }
 
-// The answer for these words, over the streams of the process and the files of the system.
+// The answer for these words, over the streams of the process and the files of the system. A run of an image may be
+// observed by a counter and by a table, which report in this order.
 fn answer(rt: &HostRuntime) -> Result<Status, NoMemory> {
     let words = words(rt)?;
     let mut input = ReadSource::new(rt.stdin());
     let mut files = DiskFiles::new(rt.alloc(), rt)?;
     let mut output = WriteSink::new(rt.stdout());
-    Ok(gm(rt.alloc(), &words, &mut input, &mut files, &mut output))
+    let counter: Box<dyn Observer> = Box::new(rt.alloc(), Counter::new(rt.alloc()))?;
+    let table: Box<dyn Observer> = Box::new(rt.alloc(), Table::new(rt.alloc()))?;
+    let mut observers: Vec<Box<dyn Observer>> = Vec::new(rt.alloc());
+    observers.push(counter).map_err(NoMemory::from)?;
+    observers.push(table).map_err(NoMemory::from)?;
+    Ok(gm(
+        rt.alloc(),
+        &words,
+        &mut input,
+        &mut files,
+        &mut output,
+        &mut observers,
+    ))
 }
 
 fn main(rt: HostRuntime) -> ExitCode {

@@ -2,7 +2,7 @@
 use Rattle.std.specs.Prelude.{◌≡◌, ℕ, nat_lt, Bool, false, All, Contains, ◌&&◌, ◌||◌, if◌then◌else◌, List, [], ◌∷◌, ◌++◌, Option, Some, None, codes}
 use Rattle.gm_base.specs.declared.places.Place.{Place}
 use Rattle.gm_base.specs.declared.rules.Rule.{Rule}
-use Rattle.gm_base.specs.declared.rules.Rule.TheVariants.{BadByte, NumberTooLarge, OpenComment, TextTooLong, U1, U2, U3, U4, U5, U6, U7, U8, Syntax, TooDeep, T1, T2, T3, T4, T5, T6, T7, T8, T9, T10, T11, T12, T13, T14, T15, R1, R2, R3, R4, R5, R6, C1, C2, C3, C4, C5, C6, C7, C8, C9, C10, TooLarge, NotBuilt}
+use Rattle.gm_base.specs.declared.rules.Rule.TheVariants.{BadByte, NumberTooLarge, OpenComment, TextTooLong, U1, U2, U3, U4, U5, U6, U7, U8, Syntax, TooDeep, T1, T2, T3, T4, T5, T6, T7, T8, T9, T10, T11, T12, T13, T14, T15, R1, R2, R3, R4, R5, R6, C1, C2, C3, C4, C5, C6, C7, C8, C9, C10, TooLarge}
 use Rattle.gm_base.specs.declared.rules.Refusal.{Refusal}
 use Rattle.gm_base.specs.declared.rules.Stop.{Stop}
 use Rattle.gm_base.specs.declared.rules.Stop.TheVariants.{Refused, NoMemory}
@@ -56,7 +56,6 @@ rank_of C8 = 42
 rank_of C9 = 43
 rank_of C10 = 44
 rank_of TooLarge = 45
-rank_of NotBuilt = 46
 
 -- a rule's name
 abbrev pub rule_text : Rule → List ℕ
@@ -106,7 +105,6 @@ rule_text C8 = codes "C8"
 rule_text C9 = codes "C9"
 rule_text C10 = codes "C10"
 rule_text TooLarge = codes "TooLarge"
-rule_text NotBuilt = codes "NotBuilt"
 
 -- whether a refusal comes before another: by place, and at one place by rule
 abbrev pub refusal_lt : Refusal → Refusal → Bool

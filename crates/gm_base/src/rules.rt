@@ -105,8 +105,6 @@ pub enum Rule {
     C10,
     /// A procedure with its calls replaced is too large.
     TooLarge,
-    /// This version does not run the text yet.
-    NotBuilt,
 }
 
 impl Rule {
@@ -168,7 +166,6 @@ impl Rule {
             Rule::C9 => "C9",
             Rule::C10 => "C10",
             Rule::TooLarge => "TooLarge",
-            Rule::NotBuilt => "NotBuilt",
         }
     }
 }

@@ -1,37 +1,20 @@
--- What `check` writes of a program text.
-use Rattle.std.specs.Prelude.{◌≡◌, ℕ, List, ◌++◌, Some, codes}
+-- What `check` writes of a program.
+use Rattle.std.specs.Prelude.{ℕ, List, Option}
 use Rattle.gm_base.specs.declared.rules.Refusal.{Refusal}
 use Rattle.gm_base.specs.declared.statuses.Status.{Status}
-use Rattle.gm_base.specs.declared.statuses.Status.TheVariants.{Done, Refused}
-use Rattle.gm_base.specs.Rules.{refusal_text}
+use Rattle.gm_base.specs.declared.statuses.Status.TheVariants.{Done, Refused, ReadFault}
 use Rattle.gm_ast.specs.Program.{Program}
 use Rattle.gm_canon.specs.Verdict.{Breaks, StandsFor}
-use Rattle.gm_words.specs.declared.jobs.Job.TheVariants as job
-use Rattle.gm_words.specs.Jobs.{job_of}
-use Rattle.gm_driver.specs.Listing.{line_end}
-use Rattle.gm_driver.specs.Answer.{Says}
-
-abbrev pub accepted_text : List ℕ
-accepted_text = codes "accepted" ++ line_end
-
-abbrev pub refused_text : Refusal → List ℕ
-refused_text r = refusal_text r ++ line_end
-
-abbrev pub absent_text : List ℕ → List ℕ
-absent_text name = codes "absent " ++ name ++ line_end
-
-abbrev pub file_fault_text : List ℕ → List ℕ
-file_fault_text name = codes "read fault " ++ name ++ line_end
-
--- the words ask for the check of a program with this name
-abbrev pub Checks : List (List ℕ) → List ℕ → Type 0
-Checks words name = job_of words ≡ Some (job.Check name)
-
--- the name of standard input
-abbrev pub standard_input : List ℕ
-standard_input = codes "-"
+use Rattle.gm_input.specs.Texts.{Says}
+use Rattle.gm_driver.specs.Texts.{accepted_text, refused_text}
+use Rattle.gm_input.specs.Outside.{Outside, IsText, IsUnread}
 
 -- the answer for a program text: it stands for a program that breaks no rule, or this is what it breaks
 pub data IsVerdict (program text : List ℕ) (status : Status) : Type 0 where
   accepted : (p : Program) → StandsFor program p → Says text status accepted_text Done → IsVerdict program text status
   refused : (r : Refusal) → Breaks program r → Says text status (refused_text r) Refused → IsVerdict program text status
+
+-- what is to be written for the check of the program under a name: it could not be read, or it is judged
+pub data IsCheckReply (name : List ℕ) (told : Option (List (List ℕ × List ℕ))) (before after : Outside) (text : List ℕ) (status : Status) : Type 0 where
+  unread : (line : List ℕ) → IsUnread name told before after line → Says text status line ReadFault → IsCheckReply name told before after text status
+  judged : (program : List ℕ) → IsText name told before after program → IsVerdict program text status → IsCheckReply name told before after text status

@@ -1,67 +1,52 @@
--- The whole call: what is written and answered, and what is known of the source, the files and the sink afterwards.
-use Rattle.std.specs.Prelude.{◌≡◌, ◌≢◌, ◌⊎◌, ℕ, List, Option, Some, None}
+-- The whole call: what is written and answered, and what is known of standard input and the files afterwards.
+use Rattle.std.specs.Prelude.{◌≡◌, ◌⊎◌, ℕ, true, false, List, Option, Some, None}
 use Rattle.gm_base.specs.declared.statuses.Status.{Status}
-use Rattle.gm_base.specs.declared.statuses.Status.TheVariants.{ReadFault, WriteFault, NoMemory}
-use Rattle.gm_base.specs.Files.{file_of, Lacks}
+use Rattle.gm_base.specs.declared.statuses.Status.TheVariants.{Usage, ReadFault, WriteFault, NoMemory}
 use Rattle.gm_base.specs.Streams.{Rises}
-use Rattle.gm_driver.specs.Words.{IsRun}
-use Rattle.gm_driver.specs.Answer.{IsAnswer, Says, read_fault_text}
-use Rattle.gm_driver.specs.Checks.{Checks, IsVerdict, standard_input, absent_text, file_fault_text}
+use Rattle.gm_words.specs.declared.jobs.Job.{Job}
+use Rattle.gm_words.specs.declared.jobs.Job.TheVariants as job
+use Rattle.gm_words.specs.declared.jobs.Options.{Options}
+use Rattle.gm_words.specs.Jobs.{job_of}
+use Rattle.gm_observe.specs.declared.notes.Note.{Note}
+use Rattle.gm_exec.specs.Runs.{audience}
+use Rattle.gm_exec.specs.Replies.{IsExecReply}
+use Rattle.gm_input.specs.Texts.{Says}
+use Rattle.gm_driver.specs.Texts.{usage_text}
+use Rattle.gm_input.specs.Outside.{Outside, KeepsInput, KeepsFiles}
+use Rattle.gm_driver.specs.Checks.{IsCheckReply}
+use Rattle.gm_driver.specs.Runs.{IsRunReply}
+use Rattle.gm_driver.specs.Demos.{IsDemoAnswer}
 
--- these are the bytes that a source has left, where it tells them; where it does not they may be any
-abbrev pub Tells : Option (List ℕ) → List ℕ → Type 0
-Tells None bytes = Unit {0}
-Tells (Some left) bytes = bytes ≡ left
+-- nothing is done of a job: there is none, or it is one that is not built yet, to compile, or to show the image that is
+-- run
+abbrev pub IsUsage : Option Job → Type 0
+IsUsage None = Unit {0}
+IsUsage (Some (job.Compile prog)) = Unit {0}
+IsUsage (Some (job.Exec image graph args options)) = ⊥
+IsUsage (Some (job.Run prog graph args options true)) = Unit {0}
+IsUsage (Some (job.Run prog graph args options false)) = ⊥
+IsUsage (Some (job.Check prog)) = ⊥
+IsUsage (Some (job.Demo n options)) = ⊥
 
--- these are the bytes of the file of this name, where the files are told; where they are not they may be any
-abbrev pub TellsFile : Option (List (List ℕ × List ℕ)) → List ℕ → List ℕ → Type 0
-TellsFile None name bytes = Unit {0}
-TellsFile (Some files) name bytes = file_of files name ≡ Some bytes
+-- what is to be written for a job, and the status: the usage line, or the reply of a check, a run, the run of an image or
+-- a demonstration. There are observers, each with a way to report and the notes that it holds: where the run of an image
+-- is to be observed, they are told of it, and what they report of all that they then hold is written behind its listing.
+-- Of the other options of a run its bound on turns alone changes what is written. Nothing is read for the usage line and
+-- for a demonstration
+pub data IsJobReply (asked : Option Job) (ways : List (List Note → List ℕ)) (held : List (List Note)) (told : Option (List (List ℕ × List ℕ))) (before after : Outside) (text : List ℕ) (status : Status) : Type 0 where
+  usage : IsUsage asked → KeepsInput before after → KeepsFiles before after → Says text status usage_text Usage → IsJobReply asked ways held told before after text status
+  checked : (prog : List ℕ) → asked ≡ Some (job.Check prog) → IsCheckReply prog told before after text status → IsJobReply asked ways held told before after text status
+  ran : (prog graph : List ℕ) (args : List (List ℕ)) (options : Options) → asked ≡ Some (job.Run prog graph args options false)
+      → IsRunReply prog graph args options.turns told before after text status → IsJobReply asked ways held told before after text status
+  executed : (image graph : List ℕ) (args : List (List ℕ)) (options : Options) (held_then : List (List Note)) → asked ≡ Some (job.Exec image graph args options)
+      → IsExecReply image graph args options.turns options.observe (audience ways held held_then) told before after text status → IsJobReply asked ways held told before after text status
+  shown : (n : ℕ) (options : Options) → asked ≡ Some (job.Demo n options) → KeepsInput before after → KeepsFiles before after
+      → IsDemoAnswer n text status → IsJobReply asked ways held told before after text status
 
--- how many reads of the source and of files failed, and how many reads of files named none
-pub record Misses : Type 0 where
-  pub reads : ℕ
-  pub files : ℕ
-  pub absences : ℕ
-
-abbrev pub misses : ℕ → ℕ → ℕ → Misses
-misses reads files absences = record { reads = reads; files = files; absences = absences }
-
--- no file was missed
-pub record KeepsFiles (before after : Misses) : Type 0 where
-  pub files : after.files ≡ before.files
-  pub absences : after.absences ≡ before.absences
-
--- what is to be written for a run, or for words that give no job, where the source has these bytes left, and the
--- status: the answer for the bytes, no read having failed, or the line of a read that failed
-pub data IsRunReply (words : List (List ℕ)) (left : Option (List ℕ)) (reads_before reads_after : ℕ) (text : List ℕ) (status : Status) : Type 0 where
-  answered : (bytes : List ℕ) → Tells left bytes → reads_after ≡ reads_before → IsAnswer words bytes text status → IsRunReply words left reads_before reads_after text status
-  read_fault : IsRun words → Rises reads_before reads_after → Says text status read_fault_text ReadFault → IsRunReply words left reads_before reads_after text status
-
--- what is to be written for the check of the program that a source has left: the verdict on it, or the line of a read
--- that failed
-pub data IsInputCheck (left : Option (List ℕ)) (reads_before reads_after : ℕ) (text : List ℕ) (status : Status) : Type 0 where
-  input_judged : (program : List ℕ) → Tells left program → reads_after ≡ reads_before → IsVerdict program text status → IsInputCheck left reads_before reads_after text status
-  input_fault : Rises reads_before reads_after → Says text status read_fault_text ReadFault → IsInputCheck left reads_before reads_after text status
-
--- what is to be written for the check of the program in the file of this name: the verdict on it, or the line of a
--- read that failed, or that there is no such file
-pub data IsFileCheck (told : Option (List (List ℕ × List ℕ))) (name : List ℕ) (before after : Misses) (text : List ℕ) (status : Status) : Type 0 where
-  file_judged : (program : List ℕ) → TellsFile told name program → KeepsFiles before after → IsVerdict program text status → IsFileCheck told name before after text status
-  file_fault : Rises before.files after.files → Says text status (file_fault_text name) ReadFault → IsFileCheck told name before after text status
-  file_absent : Lacks told name → Rises before.absences after.absences → Says text status (absent_text name) ReadFault → IsFileCheck told name before after text status
-
--- what is to be written for the check of the program with this name: that of standard input, whose check reads no file,
--- or that of a file, whose check does not read the source
-pub data IsCheckReply (name : List ℕ) (left : Option (List ℕ)) (told : Option (List (List ℕ × List ℕ))) (before after : Misses) (text : List ℕ) (status : Status) : Type 0 where
-  from_input : name ≡ standard_input → KeepsFiles before after → IsInputCheck left before.reads after.reads text status → IsCheckReply name left told before after text status
-  from_file : name ≢ standard_input → after.reads ≡ before.reads → IsFileCheck told name before after text status → IsCheckReply name left told before after text status
-
--- what is to be written for some words, where the source has these bytes left and these files are there, and the
+-- what is to be written for the words of a command line, with these observers and where these files are there, and the
 -- status
-pub data IsReply (words : List (List ℕ)) (left : Option (List ℕ)) (told : Option (List (List ℕ × List ℕ))) (before after : Misses) (text : List ℕ) (status : Status) : Type 0 where
-  run_reply : KeepsFiles before after → IsRunReply words left before.reads after.reads text status → IsReply words left told before after text status
-  check_reply : (name : List ℕ) → Checks words name → IsCheckReply name left told before after text status → IsReply words left told before after text status
+abbrev pub IsReply : List (List ℕ) → List (List Note → List ℕ) → List (List Note) → Option (List (List ℕ × List ℕ)) → Outside → Outside → List ℕ → Status → Type 0
+IsReply words ways held told before after text status = IsJobReply (job_of words) ways held told before after text status
 
 -- a status with which a reply ends that was written
 abbrev pub IsWrittenStatus : Status → Type 0
@@ -77,5 +62,5 @@ IsAnswerStatus NoMemory = ⊥
 IsAnswerStatus _ = Unit {0}
 
 -- a read failed, or a file was absent: a count of these rose
-abbrev pub SomeMiss : Misses → Misses → Type 0
+abbrev pub SomeMiss : Outside → Outside → Type 0
 SomeMiss before after = Rises before.reads after.reads ⊎ (Rises before.files after.files ⊎ Rises before.absences after.absences)

@@ -3,13 +3,10 @@
 #![tactic(auto)]
 
 mod answers;
-mod checks;
-mod edges;
-mod forms;
-mod fronts;
-mod listings;
-mod parts;
+mod demos;
+mod halts;
 mod program;
+mod programs;
 mod runs;
 
 pub use program::gm;

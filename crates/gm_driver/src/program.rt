@@ -1,171 +1,182 @@
 //! The one call that does all that the program does.
 
-ghost use Rattle.std.specs.Prelude.{◌≡◌, ◌≢◌, ◌↔◌, ◌∷◌, [], ℕ, List, IsTrue, IfOk, map, string_bytes};
-ghost use Rattle.gm_base.specs.declared.statuses.Status.TheVariants.{ReadFault, WriteFault, Usage, NoMemory as MemoryOut};
+ghost use Rattle.std.specs.Prelude.{◌≡◌, ◌≢◌, ◌≤◌, ℕ, List, [], Option, Some, IfOk, map, string_bytes};
+ghost use Rattle.gm_base.specs.declared.statuses.Status.TheVariants.{ReadFault, WriteFault, NoMemory as MemoryOut};
 ghost use Rattle.gm_base.specs.declared.statuses.Status.{Status};
 ghost use Rattle.gm_base.specs.Streams.{Rises, with_more, GrowsByPrefix};
-ghost use Rattle.gm_driver.specs.Words.{IsRun};
-ghost use Rattle.gm_driver.specs.Answer.{Says, read_fault_text, usage_text};
-ghost use Rattle.gm_driver.specs.Tasks.{IsTaskOf};
-ghost use Rattle.gm_driver.specs.Whole.{IsAnswerStatus, IsCheckReply, IsFileCheck, IsInputCheck, IsReply, IsRunReply, IsWrittenStatus, SomeMiss, misses};
+ghost use Rattle.gm_words.specs.Jobs.{AllAssign, IsRight};
+ghost use Rattle.gm_words.specs.declared.jobs.Job.TheVariants as job;
+ghost use Rattle.gm_observe.specs.declared.notes.Note.{Note};
+ghost use Rattle.gm_input.specs.Outside.{Outside, outside};
+ghost use Rattle.gm_driver.specs.Whole.{IsAnswerStatus, IsJobReply, IsReply, IsUsage, IsWrittenStatus, SomeMiss};
 
-use crate::answers::{Answer, fixed_answer, run_texts};
-use crate::checks::{absent, check_text, file_fault};
-use crate::fronts::{FrontStop, MOST_PROGRAM, read_file_front, read_front};
-use crate::parts::split_texts;
-use gm_base::{Failed, Files, NoMemory, ReadStop, Sink, Source, Status, Text, read_all, write_all};
-use gm_words::{Job, WordsStop, read_words};
+use crate::answers::usage;
+use crate::demos::demo;
+use crate::programs::check;
+use crate::runs::run;
+use gm_base::{Failed, Files, Items, NoMemory, Sink, Source, Status, Text, write_all};
+use gm_exec::exec;
+use gm_input::Answer;
+use gm_observe::Observer;
+use gm_words::{Job, Options, WordsStop, read_words};
 use std::alloc::Global;
 
-// The greatest number of bytes that are read.
-const MOST_BYTES: u64 = 1_048_576;
-
-// The answer where a read of standard input failed.
-fn read_fault(alloc: Global) -> Result<Answer, NoMemory>
-    ensures { IfOk result (λ a. Says a.text.items a.status read_fault_text ReadFault) }
+// The reply for a job of which nothing is done.
+fn unbuilt(alloc: Global, job: &Job) -> Result<Answer, NoMemory>
+    requires { IsUsage (Some job.now) }
+    ensures { IfOk result (λ a. (ways : List (List Note → List ℕ)) → (held : List (List Note)) → (told : Option (List (List ℕ × List ℕ))) → (o : Outside) → IsJobReply (Some job.now) ways held told o o a.text.items a.status) }
 {
-    fixed_answer(alloc, b"read fault -\n", Status::ReadFault)
+    usage(alloc)
 }
 
-// Whether a word is this text.
-fn is_word(word: &str, text: &str) -> bool
-    ensures { IsTrue result ↔ (word.now ≡ text.now) }
-{
-    word == text
-}
-
-// Whether three words are `run - -`.
-fn are_run(command: &str, program: &str, graph: &str) -> bool
-    ensures { IsTrue result ↔ IsRun (command.now ∷ program.now ∷ graph.now ∷ []) }
-{
-    is_word(command, "run") && is_word(program, "-") && is_word(graph, "-")
-}
-
-// Whether the words are `run - -`.
-fn is_run(words: &[String]) -> bool
-    ensures { IsTrue result ↔ IsRun (map string_bytes words.now) }
-{
-    match words {
-        [command, program, graph] => are_run(command.as_str(), program.as_str(), graph.as_str()),
-        _ => false,
-    }
-}
-
-// The answer where the words give no job.
-fn usage(alloc: Global) -> Result<Answer, NoMemory>
-    ensures { IfOk result (λ a. Says a.text.items a.status usage_text Usage) }
-{
-    fixed_answer(
-        alloc,
-        b"usage: gm run PROG GRAPH | check PROG | compile PROG | exec IMAGE GRAPH | demo N\n",
-        Status::Usage,
-    )
-}
-
-// The reply for `run - -`.
-fn run_input<S: Source>(alloc: Global, input: &mut S) -> Result<Answer, NoMemory>
-    ensures { IfOk result (λ a. (words : List (List ℕ)) → IsRun words → IsRunReply words (S.left input.old) (S.read_faults input.old) (S.read_faults input.new) a.text.items a.status) }
-{
-    match read_all(alloc, input, MOST_BYTES) {
-        Ok(bytes) => {
-            let texts = split_texts(&bytes);
-            run_texts(alloc, texts.program, texts.graph)
-        }
-        Err(ReadStop::Failed) => read_fault(alloc),
-        Err(ReadStop::TooLong) => fixed_answer(alloc, b"graph TooLong\n", Status::BadInput),
-        Err(ReadStop::NoMemory) => Err(NoMemory),
-    }
-}
-
-// The reply for the check of what standard input holds.
-fn check_input<S: Source>(alloc: Global, input: &mut S) -> Result<Answer, NoMemory>
-    ensures { IfOk result (λ a. IsInputCheck (S.left input.old) (S.read_faults input.old) (S.read_faults input.new) a.text.items a.status) }
-{
-    match read_front(alloc, input, MOST_PROGRAM) {
-        Ok(text) => check_text(alloc, &text),
-        Err(FrontStop::Failed | FrontStop::Absent) => read_fault(alloc),
-        Err(FrontStop::NoMemory) => Err(NoMemory),
-    }
-}
-
-// The reply for the check of a file.
-fn check_file<F: Files>(alloc: Global, files: &mut F, name: &str) -> Result<Answer, NoMemory>
-    ensures { IfOk result (λ a. (reads reads_after : ℕ) → IsFileCheck (F.told files.old) name.now (misses reads (F.file_faults files.old) (F.absences files.old)) (misses reads_after (F.file_faults files.new) (F.absences files.new)) a.text.items a.status) }
-{
-    match read_file_front(alloc, files, name, MOST_PROGRAM) {
-        Ok(text) => check_text(alloc, &text),
-        Err(FrontStop::Failed) => file_fault(alloc, name),
-        Err(FrontStop::Absent) => absent(alloc, name),
-        Err(FrontStop::NoMemory) => Err(NoMemory),
-    }
-}
-
-// The reply for the check of the program with this name.
-fn check<S: Source, F: Files>(
+// The reply for the check of a program.
+fn check_job<S: Source, F: Files>(
     alloc: Global,
-    name: &str,
+    prog: &Text,
     input: &mut S,
     files: &mut F,
 ) -> Result<Answer, NoMemory>
-    ensures { IfOk result (λ a. IsCheckReply name.now (S.left input.old) (F.told files.old)
-        (misses (S.read_faults input.old) (F.file_faults files.old) (F.absences files.old))
-        (misses (S.read_faults input.new) (F.file_faults files.new) (F.absences files.new)) a.text.items a.status) }
+    ensures { IfOk result (λ a. (ways : List (List Note → List ℕ)) → (held : List (List Note)) → IsJobReply (Some (job.Check prog.now)) ways held (F.told files.old)
+        (outside (S.left input.old) (S.read_faults input.old) (F.file_faults files.old) (F.absences files.old))
+        (outside (S.left input.new) (S.read_faults input.new) (F.file_faults files.new) (F.absences files.new)) a.text.items a.status) }
 {
-    if is_word(name, "-") {
-        check_input(alloc, input)
+    check(alloc, prog.as_str(), input, files)
+}
+
+// The reply for the run of a program, which shows its image or does not.
+fn run_job<S: Source, F: Files>(
+    alloc: Global,
+    prog: &Text,
+    graph: &Text,
+    args: &Items<Text>,
+    options: Options,
+    image: bool,
+    input: &mut S,
+    files: &mut F,
+) -> Result<Answer, NoMemory>
+    requires { AllAssign args.now }
+    ensures { IfOk result (λ a. (ways : List (List Note → List ℕ)) → (held : List (List Note)) → IsJobReply (Some (job.Run prog.now graph.now args.now options image)) ways held (F.told files.old)
+        (outside (S.left input.old) (S.read_faults input.old) (F.file_faults files.old) (F.absences files.old))
+        (outside (S.left input.new) (S.read_faults input.new) (F.file_faults files.new) (F.absences files.new)) a.text.items a.status) }
+{
+    let program = prog.as_str();
+    let over = graph.as_str();
+    let words = args.as_slice();
+    if image {
+        usage(alloc)
     } else {
-        check_file(alloc, files, name)
+        run(alloc, program, over, words, options.turns, input, files)
     }
 }
 
-// What the words ask for that is done so far.
-#[derive(Debug, Drop)]
-pub enum Task {
-    Run,
-    Check(Text),
-    Usage,
-}
-
-// What the words ask for.
-fn task_of(alloc: Global, words: &[String]) -> Result<Task, NoMemory>
-    ensures { IfOk result (IsTaskOf (map string_bytes words.now)) }
+// The reply for the run of an image, which the observers are told of or not.
+fn exec_job<S: Source, F: Files>(
+    alloc: Global,
+    image: &Text,
+    graph: &Text,
+    args: &Items<Text>,
+    options: Options,
+    input: &mut S,
+    files: &mut F,
+    observers: &mut [Box<dyn Observer>],
+) -> Result<Answer, NoMemory>
+    requires { AllAssign args.now }
+    ensures { IfOk result (λ a. IsJobReply (Some (job.Exec image.now graph.now args.now options)) (map (λ o. says_of o) observers.old) (map (λ o. seen o) observers.old) (F.told files.old)
+        (outside (S.left input.old) (S.read_faults input.old) (F.file_faults files.old) (F.absences files.old))
+        (outside (S.left input.new) (S.read_faults input.new) (F.file_faults files.new) (F.absences files.new)) a.text.items a.status) }
 {
-    if is_run(words) {
-        return Ok(Task::Run);
-    }
-    match read_words(alloc, words) {
-        Ok(Job::Check { prog }) => Ok(Task::Check(prog)),
-        Ok(_) | Err(WordsStop::Usage) => Ok(Task::Usage),
-        Err(WordsStop::NoMemory) => Err(NoMemory),
+    let text = image.as_str();
+    let over = graph.as_str();
+    let words = args.as_slice();
+    exec(
+        alloc,
+        text,
+        over,
+        words,
+        options.turns,
+        options.observe,
+        input,
+        files,
+        observers,
+    )
+}
+
+// The reply for a demonstration.
+fn demo_job(alloc: Global, nodes: u32, options: Options) -> Result<Answer, NoMemory>
+    requires some { 1 ≤ nodes }
+    requires few { nodes ≤ 1000000 }
+    ensures { IfOk result (λ a. (ways : List (List Note → List ℕ)) → (held : List (List Note)) → (told : Option (List (List ℕ × List ℕ))) → (o : Outside) → IsJobReply (Some (job.Demo nodes options)) ways held told o o a.text.items a.status) }
+{
+    demo(alloc, nodes)
+}
+
+// The reply for a job.
+fn reply_for<S: Source, F: Files>(
+    alloc: Global,
+    job: &Job,
+    input: &mut S,
+    files: &mut F,
+    observers: &mut [Box<dyn Observer>],
+) -> Result<Answer, NoMemory>
+    requires { IsRight job.now }
+    ensures { IfOk result (λ a. IsJobReply (Some job.now) (map (λ o. says_of o) observers.old) (map (λ o. seen o) observers.old) (F.told files.old)
+        (outside (S.left input.old) (S.read_faults input.old) (F.file_faults files.old) (F.absences files.old))
+        (outside (S.left input.new) (S.read_faults input.new) (F.file_faults files.new) (F.absences files.new)) a.text.items a.status) }
+{
+    match job {
+        Job::Run {
+            prog,
+            graph,
+            args,
+            options,
+            image,
+        } => run_job(alloc, prog, graph, args, *options, *image, input, files),
+        Job::Check { prog } => check_job(alloc, prog, input, files),
+        Job::Demo { n, options } => demo_job(alloc, *n, *options),
+        Job::Exec {
+            image,
+            graph,
+            args,
+            options,
+        } => exec_job(alloc, image, graph, args, *options, input, files, observers),
+        Job::Compile { .. } => unbuilt(alloc, job),
     }
 }
 
-// What is to be written, and the status.
+// What is to be written for some words, and the status.
 fn reply<S: Source, F: Files>(
     alloc: Global,
     words: &[String],
     input: &mut S,
     files: &mut F,
+    observers: &mut [Box<dyn Observer>],
 ) -> Result<Answer, NoMemory>
-    ensures { IfOk result (λ a. IsReply (map string_bytes words.now) (S.left input.old) (F.told files.old)
-        (misses (S.read_faults input.old) (F.file_faults files.old) (F.absences files.old))
-        (misses (S.read_faults input.new) (F.file_faults files.new) (F.absences files.new)) a.text.items a.status) }
+    ensures { IfOk result (λ a. IsReply (map string_bytes words.now) (map (λ o. says_of o) observers.old) (map (λ o. seen o) observers.old) (F.told files.old)
+        (outside (S.left input.old) (S.read_faults input.old) (F.file_faults files.old) (F.absences files.old))
+        (outside (S.left input.new) (S.read_faults input.new) (F.file_faults files.new) (F.absences files.new)) a.text.items a.status) }
 {
-    match task_of(alloc, words)? {
-        Task::Run => run_input(alloc, input),
-        Task::Check(name) => check(alloc, name.as_str(), input, files),
-        Task::Usage => usage(alloc),
+    match read_words(alloc, words) {
+        Ok(job) => reply_for(alloc, &job, input, files, observers),
+        Err(WordsStop::Usage) => usage(alloc),
+        Err(WordsStop::NoMemory) => Err(NoMemory),
     }
 }
 
 /// Does what the words of the command line ask for, the name of the program not among them, with `input` as standard
-/// input and `files` as the files that the words name, and writes the answer to `out` in one piece.
+/// input and `files` as the files that the words name, and writes the answer to `out` in one piece. A file name `-`
+/// stands for standard input.
 ///
-/// `check PROG` answers `accepted`, or the rule that the program breaks with its place; a program named `-` is all
-/// that standard input has. `run - -` runs a program text over a graph text, with a line that is exactly `%%` between;
-/// of programs those of the first form alone run so far. Any other words are answered by the usage line.
+/// `check PROG` answers `accepted`, or the rule that the program breaks with its place. `run PROG GRAPH NAME=VALUE ..`
+/// checks the program in the same way, and runs it over the graph; where both are `-`, the graph stands behind the
+/// first line that is exactly `%%`. `exec IMAGE GRAPH NAME=VALUE ..` reads and judges an image in the same way, and runs
+/// it over the graph; with `--observe` each of the observers is told one note for each superstep, and their reports
+/// follow the listing, in their order. `demo N` runs the shortest paths over a graph of N nodes that it makes itself.
+/// The command `compile`, and `run` with `--image`, are answered by the usage line so far, as are words that ask for no
+/// job.
 ///
-/// Where neither a read, a write nor memory failed, the sink grew by exactly the listing for these words and these
+/// Afterwards there are no observers: each of them is let go, whether an answer was written or not.
+///
+/// Where neither a read, a write nor memory failed, the sink grew by exactly the reply for these words and these
 /// bytes, and the answer is its status.
 pub fn gm<S: Source, F: Files, K: Sink>(
     alloc: Global,
@@ -173,30 +184,37 @@ pub fn gm<S: Source, F: Files, K: Sink>(
     input: &mut S,
     files: &mut F,
     out: &mut K,
+    observers: &mut Vec<Box<dyn Observer>>,
 ) -> Status
     // What was written is the reply for these words, for the bytes that the source had left and for the files, whole.
-    ensures written { IsWrittenStatus result → (text : List ℕ) × IsReply (map string_bytes words.now) (S.left input.old) (F.told files.old)
-        (misses (S.read_faults input.old) (F.file_faults files.old) (F.absences files.old))
-        (misses (S.read_faults input.new) (F.file_faults files.new) (F.absences files.new)) text result
+    ensures written { IsWrittenStatus result → (text : List ℕ) × IsReply (map string_bytes words.now) (map (λ o. says_of o) observers.old.items) (map (λ o. seen o) observers.old.items) (F.told files.old)
+        (outside (S.left input.old) (S.read_faults input.old) (F.file_faults files.old) (F.absences files.old))
+        (outside (S.left input.new) (S.read_faults input.new) (F.file_faults files.new) (F.absences files.new)) text result
         × (K.taken out.new ≡ with_more (K.taken out.old) text) }
 
     // No read failed and no file was absent, or the status is that of a read, a write or memory that failed.
     ensures source_quiet { IsAnswerStatus result → S.read_faults input.new ≡ S.read_faults input.old }
     ensures files_quiet { IsAnswerStatus result → F.file_faults files.new ≡ F.file_faults files.old }
     ensures none_absent { IsAnswerStatus result → F.absences files.new ≡ F.absences files.old }
-    ensures read_fault { result ≡ ReadFault → SomeMiss (misses (S.read_faults input.old) (F.file_faults files.old) (F.absences files.old))
-        (misses (S.read_faults input.new) (F.file_faults files.new) (F.absences files.new)) }
+    ensures read_fault { result ≡ ReadFault → SomeMiss
+        (outside (S.left input.old) (S.read_faults input.old) (F.file_faults files.old) (F.absences files.old))
+        (outside (S.left input.new) (S.read_faults input.new) (F.file_faults files.new) (F.absences files.new)) }
     ensures sink_quiet { result ≢ WriteFault → K.write_faults out.new ≡ K.write_faults out.old }
     ensures write_fault { result ≡ WriteFault → Rises (K.write_faults out.old) (K.write_faults out.new) }
 
     // After a failed write a part of the reply was written, from its front; without memory nothing.
-    ensures prefix { result ≡ WriteFault → (text : List ℕ) × ((status : Status) × IsReply (map string_bytes words.now) (S.left input.old) (F.told files.old)
-        (misses (S.read_faults input.old) (F.file_faults files.old) (F.absences files.old))
-        (misses (S.read_faults input.new) (F.file_faults files.new) (F.absences files.new)) text status
+    ensures prefix { result ≡ WriteFault → (text : List ℕ) × ((status : Status) × IsReply (map string_bytes words.now) (map (λ o. says_of o) observers.old.items) (map (λ o. seen o) observers.old.items) (F.told files.old)
+        (outside (S.left input.old) (S.read_faults input.old) (F.file_faults files.old) (F.absences files.old))
+        (outside (S.left input.new) (S.read_faults input.new) (F.file_faults files.new) (F.absences files.new)) text status
         × GrowsByPrefix (K.taken out.old) (K.taken out.new) text) }
     ensures nothing { result ≡ MemoryOut → K.taken out.new ≡ K.taken out.old }
+
+    // The observers were let go, whatever came of it.
+    ensures emptied { observers.new.items ≡ [] }
 {
-    let Ok(answer) = reply(alloc, words, input, files) else {
+    let replied = reply(alloc, words, input, files, observers);
+    observers.clear();
+    let Ok(answer) = replied else {
         return Status::NoMemory;
     };
     match write_all(out, &answer.text) {

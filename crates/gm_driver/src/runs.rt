@@ -1,69 +1,228 @@
-//! The run of a procedure of the first form over a graph.
+//! The run of a program over a graph, wherever the two stand.
 
-ghost use Rattle.std.specs.Prelude.{◌≡◌, ◌∷◌, [], None, IfOk};
-ghost use Rattle.gm_graph.specs.declared.outcomes.Outcome.TheVariants.{Done};
-ghost use Rattle.gm_driver.specs.Forms.{form_seen};
-ghost use Rattle.gm_driver.specs.Meaning.{side_value as side_value_lem, iteration as iteration_lem, outcome_of};
+ghost use Rattle.std.specs.Prelude.{◌≡◌, ◌≢◌, ℕ, List, Option, IfOk, IfErr};
+ghost use Rattle.gm_words.specs.Jobs.{AllAssign};
+ghost use Rattle.gm_input.specs.Fronts.{ahead_of};
+ghost use Rattle.gm_input.specs.Outside.{outside};
+ghost use Rattle.gm_driver.specs.Readings.{IsFileHalt, IsFrontReply, IsInputHalt, IsProgramReply, RanBehind, RanFile, RanOver};
+ghost use Rattle.gm_driver.specs.Runs.{AreApart, IsRunReply};
+ghost use Rattle.gm_input.specs.Texts.{standard_input};
 
-use crate::forms::{FirstForm, Side};
-use gm_base::{Items, NoMemory};
-use gm_graph::{Column, Graph, Outcome, Values};
-use gm_value::{FaultKind, Op2, VType, Value, apply2};
+use crate::answers::{refused, work_in};
+use crate::halts::Halt;
+use crate::programs::{MOST_PROGRAM, read_program};
+use gm_base::{Files, NoMemory, Source, Text};
+use gm_input::{
+    Answer, Front, FrontStop, NameStop, absent, are_input, is_input, read_fault, read_front,
+};
+use gm_run::{run_file, run_over, run_rest};
 use std::alloc::Global;
 
-// What a property holds at every node as the loop begins.
-const FIRST: Value = Value::I32(0);
-
-// A side at a node whose property holds a value.
-fn side_value(side: Side, held: Value) -> Value
-    ensures { result ≡ side_value_lem side held }
+// The answer of the program of an input over the graph behind it.
+fn run_behind<S: Source>(
+    alloc: Global,
+    front: Front,
+    words: &[Text],
+    turns: u64,
+    input: &mut S,
+) -> Result<Answer, Halt>
+    requires { AllAssign words.now }
+    ensures ran { IfOk result (λ a. RanBehind front.program.items words.now turns (ahead_of front.ahead.items front.ended (S.left input.old)) a.text.items a.status) }
+    ensures quiet { IfOk result (λ _. S.read_faults input.new ≡ S.read_faults input.old) }
+    ensures halt { IfErr result (IsInputHalt front.program.items (S.left input.old) (S.left input.new) (S.read_faults input.old) (S.read_faults input.new)) }
 {
-    match side {
-        Side::Constant(number) => Value::I32(number),
-        Side::Property => held,
+    let work = work_in(alloc, &front.program)?;
+    let answer = run_rest(alloc, &work, words, turns, front.ahead, front.ended, input)?;
+    Ok(answer)
+}
+
+// The answer of a program text over the graph that standard input has left.
+fn run_source<S: Source>(
+    alloc: Global,
+    program: &[u8],
+    words: &[Text],
+    turns: u64,
+    input: &mut S,
+) -> Result<Answer, Halt>
+    requires { AllAssign words.now }
+    ensures ran { IfOk result (λ a. RanOver program.now words.now turns (S.left input.old) (S.left input.new) a.text.items a.status) }
+    ensures quiet { IfOk result (λ _. S.read_faults input.new ≡ S.read_faults input.old) }
+    ensures halt { IfErr result (IsInputHalt program.now (S.left input.old) (S.left input.new) (S.read_faults input.old) (S.read_faults input.new)) }
+{
+    let work = work_in(alloc, program)?;
+    let answer = run_over(alloc, &work, words, turns, input)?;
+    Ok(answer)
+}
+
+// The answer of a program text over the graph in the file of this name.
+fn run_named<F: Files>(
+    alloc: Global,
+    program: &[u8],
+    words: &[Text],
+    turns: u64,
+    files: &mut F,
+    graph: &str,
+) -> Result<Answer, Halt>
+    requires { AllAssign words.now }
+    ensures ran { IfOk result (λ a. RanFile program.now words.now turns (F.told files.old) graph.now a.text.items a.status) }
+    ensures no_fault { IfOk result (λ _. F.file_faults files.new ≡ F.file_faults files.old) }
+    ensures no_absence { IfOk result (λ _. F.absences files.new ≡ F.absences files.old) }
+    ensures halt { IfErr result (IsFileHalt program.now (F.told files.old) graph.now (F.file_faults files.old) (F.file_faults files.new) (F.absences files.old) (F.absences files.new)) }
+{
+    let work = work_in(alloc, program)?;
+    let answer = run_file(alloc, &work, words, turns, files, graph)?;
+    Ok(answer)
+}
+
+// The reply of a program text over the graph that standard input has left.
+fn reply_over<S: Source>(
+    alloc: Global,
+    program: &[u8],
+    words: &[Text],
+    turns: u64,
+    input: &mut S,
+) -> Result<Answer, NoMemory>
+    requires { AllAssign words.now }
+    ensures { IfOk result (λ a. (told : Option (List (List ℕ × List ℕ))) → (faults absences : ℕ) → IsProgramReply program.now standard_input words.now turns told
+        (outside (S.left input.old) (S.read_faults input.old) faults absences)
+        (outside (S.left input.new) (S.read_faults input.new) faults absences) a.text.items a.status) }
+{
+    match run_source(alloc, program, words, turns, input) {
+        Ok(answer) => Ok(answer),
+        Err(Halt::Refused(refusal)) => refused(alloc, refusal),
+        Err(Halt::Failed) => read_fault(alloc, "-"),
+        Err(Halt::Absent | Halt::NoMemory) => Err(NoMemory),
     }
 }
 
-// What the property of a node that holds a value holds after its iteration, or the fault of the sum.
-fn iteration(form: &FirstForm<'_>, held: Value) -> Result<Value, FaultKind>
-    ensures { result ≡ iteration_lem (form_seen form.now) held }
+// The reply of a program text over the graph in the file of this name.
+fn reply_named<F: Files>(
+    alloc: Global,
+    program: &[u8],
+    words: &[Text],
+    turns: u64,
+    files: &mut F,
+    graph: &str,
+) -> Result<Answer, NoMemory>
+    requires assign { AllAssign words.now }
+    requires named { graph.now ≢ standard_input }
+    ensures { IfOk result (λ a. (left : Option (List ℕ)) → (reads : ℕ) → IsProgramReply program.now graph.now words.now turns (F.told files.old)
+        (outside left reads (F.file_faults files.old) (F.absences files.old))
+        (outside left reads (F.file_faults files.new) (F.absences files.new)) a.text.items a.status) }
 {
-    apply2(
-        Op2::Add,
-        side_value(form.left, held),
-        side_value(form.right, held),
-    )
-}
-
-// The outcome with these values of the property, by node.
-fn finished(alloc: Global, values: Column) -> Result<Outcome, NoMemory>
-    ensures { IfOk result (λ o. o ≡ Done [] None (values.values ∷ []) 0) }
-{
-    let mut nodes = Vec::new(alloc);
-    nodes.push(Values::new(values))?;
-    Ok(Outcome::Done {
-        scalars: Items::new(Vec::new(alloc)),
-        result: None,
-        nodes: Items::new(nodes),
-        turns: 0,
-    })
-}
-
-/// The outcome of a procedure of the first form on a graph.
-pub fn run_form(alloc: Global, form: &FirstForm<'_>, graph: &Graph) -> Result<Outcome, NoMemory>
-    ensures { IfOk result (λ o. o ≡ outcome_of (form_seen form.now) graph.now) }
-{
-    let mut values = Column::new(alloc, VType::I32);
-    for _node in 0..graph.node_count() {
-        match iteration(form, FIRST) {
-            Ok(value) => values.push(value)?,
-            Err(kind) => {
-                return Ok(Outcome::Fault {
-                    kind,
-                    place: form.plus,
-                });
-            }
-        }
+    match run_named(alloc, program, words, turns, files, graph) {
+        Ok(answer) => Ok(answer),
+        Err(Halt::Refused(refusal)) => refused(alloc, refusal),
+        Err(Halt::Absent) => absent(alloc, graph),
+        Err(Halt::Failed) => read_fault(alloc, graph),
+        Err(Halt::NoMemory) => Err(NoMemory),
     }
-    finished(alloc, values)
+}
+
+// The reply of a program text over the graph of this name.
+fn reply_text<S: Source, F: Files>(
+    alloc: Global,
+    program: &[u8],
+    graph: &str,
+    words: &[Text],
+    turns: u64,
+    input: &mut S,
+    files: &mut F,
+) -> Result<Answer, NoMemory>
+    requires { AllAssign words.now }
+    ensures { IfOk result (λ a. IsProgramReply program.now graph.now words.now turns (F.told files.old)
+        (outside (S.left input.old) (S.read_faults input.old) (F.file_faults files.old) (F.absences files.old))
+        (outside (S.left input.new) (S.read_faults input.new) (F.file_faults files.new) (F.absences files.new)) a.text.items a.status) }
+{
+    if is_input(graph) {
+        reply_over(alloc, program, words, turns, input)
+    } else {
+        reply_named(alloc, program, words, turns, files, graph)
+    }
+}
+
+// The reply where the program is the whole text of its name.
+fn run_whole<S: Source, F: Files>(
+    alloc: Global,
+    prog: &str,
+    graph: &str,
+    words: &[Text],
+    turns: u64,
+    input: &mut S,
+    files: &mut F,
+) -> Result<Answer, NoMemory>
+    requires assign { AllAssign words.now }
+    requires apart { AreApart prog.now graph.now }
+    ensures { IfOk result (λ a. IsRunReply prog.now graph.now words.now turns (F.told files.old)
+        (outside (S.left input.old) (S.read_faults input.old) (F.file_faults files.old) (F.absences files.old))
+        (outside (S.left input.new) (S.read_faults input.new) (F.file_faults files.new) (F.absences files.new)) a.text.items a.status) }
+{
+    match read_program(alloc, prog, input, files) {
+        Ok(program) => reply_text(alloc, &program, graph, words, turns, input, files),
+        Err(NameStop::Absent) => absent(alloc, prog),
+        Err(NameStop::Failed) => read_fault(alloc, prog),
+        Err(NameStop::NoMemory) => Err(NoMemory),
+    }
+}
+
+// The reply for a program that was read of an input, over the graph behind it.
+fn reply_behind<S: Source>(
+    alloc: Global,
+    front: Front,
+    words: &[Text],
+    turns: u64,
+    input: &mut S,
+) -> Result<Answer, NoMemory>
+    requires { AllAssign words.now }
+    ensures { IfOk result (λ a. IsFrontReply front.program.items words.now turns (ahead_of front.ahead.items front.ended (S.left input.old))
+        (S.left input.old) (S.left input.new) (S.read_faults input.old) (S.read_faults input.new) a.text.items a.status) }
+{
+    match run_behind(alloc, front, words, turns, input) {
+        Ok(answer) => Ok(answer),
+        Err(Halt::Refused(refusal)) => refused(alloc, refusal),
+        Err(Halt::Failed) => read_fault(alloc, "-"),
+        Err(Halt::Absent | Halt::NoMemory) => Err(NoMemory),
+    }
+}
+
+// The reply where the program and behind it the graph are on standard input.
+fn run_input<S: Source>(
+    alloc: Global,
+    words: &[Text],
+    turns: u64,
+    input: &mut S,
+) -> Result<Answer, NoMemory>
+    requires { AllAssign words.now }
+    ensures { IfOk result (λ a. (told : Option (List (List ℕ × List ℕ))) → (faults absences : ℕ) → IsRunReply standard_input standard_input words.now turns told
+        (outside (S.left input.old) (S.read_faults input.old) faults absences)
+        (outside (S.left input.new) (S.read_faults input.new) faults absences) a.text.items a.status) }
+{
+    match read_front(alloc, input, MOST_PROGRAM) {
+        Ok(front) => reply_behind(alloc, front, words, turns, input),
+        Err(FrontStop::Failed) => read_fault(alloc, "-"),
+        Err(FrontStop::NoMemory) => Err(NoMemory),
+    }
+}
+
+/// The reply for the run of a program over a graph, by their names. `words` are the words NAME=VALUE for the program's
+/// scalar inputs, and `turns` is how many turns may begin.
+pub fn run<S: Source, F: Files>(
+    alloc: Global,
+    prog: &str,
+    graph: &str,
+    words: &[Text],
+    turns: u64,
+    input: &mut S,
+    files: &mut F,
+) -> Result<Answer, NoMemory>
+    requires { AllAssign words.now }
+    ensures { IfOk result (λ a. IsRunReply prog.now graph.now words.now turns (F.told files.old)
+        (outside (S.left input.old) (S.read_faults input.old) (F.file_faults files.old) (F.absences files.old))
+        (outside (S.left input.new) (S.read_faults input.new) (F.file_faults files.new) (F.absences files.new)) a.text.items a.status) }
+{
+    if are_input(prog, graph) {
+        run_input(alloc, words, turns, input)
+    } else {
+        run_whole(alloc, prog, graph, words, turns, input, files)
+    }
 }

@@ -1,5 +1,5 @@
 -- The master list's run goes leg by leg, and from superstep to superstep.
-use Rattle.std.proofs.Common.{◌≡◌, ℕ, zero, suc, ◌+◌, List, [], ◌∷◌, drop, refl, ap, ◌∙◌, sym, arith, zero-add}
+use Rattle.std.proofs.Common.{◌≡◌, ◌<◌, ◌≤◌, ℕ, zero, suc, ◌+◌, ◌-◌, ◌*◌, List, [], ◌∷◌, length, drop, refl, ap, ◌∙◌, sym, arith, zero-add}
 use mathlib.Core.Path.{fun_ext}
 use Rattle.gm_image.specs.Program.{Program, Command}
 use Rattle.gm_graph.specs.Graphs.{NumberedGraph}
@@ -104,3 +104,49 @@ module _ {R : Type 0} (p : Program) (g : NumberedGraph) (stop : Stop → R) (ste
       leg_first p g stop (step n) (λ j' c'. turn_at p g stop step n j' c') j c
       ∙ leg_resumes n (leg p g j c)
       ∙ ap resume (sym (pause_first p g n j c (leg p g j c) refl))
+
+-- a turn leaves no more of a run than there was before it
+pub left-turn : (lines bound turns line below left : ℕ) → turns < bound → (bound - turns) * (lines + 1) + (lines - line) ≤ left →
+    (bound - (turns + 1)) * (lines + 1) + (lines - below) ≤ left
+left-turn lines bound turns line below left more held =
+    let k : ℕ = bound - (turns + 1) in
+    let one : bound - turns ≡ k + 1 = omega arith in
+    let e : (bound - turns) * (lines + 1) ≡ (k + 1) * (lines + 1) = ap (λ n. n * (lines + 1)) one in
+    let at_most : lines - below ≤ lines = omega arith in
+    omega (arith, e, at_most, held)
+
+-- nor does a superstep leave as much, which goes on below its line
+pub nearer-step : (turns lines line below left : ℕ) → line < below → below ≤ lines → turns * (lines + 1) + (lines - line) ≤ left →
+    turns * (lines + 1) + (lines - below) < left
+nearer-step turns lines line below left ahead within held = omega (arith, ahead, within, held)
+
+-- a leg that ends at a superstep goes on below the line that it began with, and no farther than behind the list
+module _ (p : Program) (g : NumberedGraph) (q below : ℕ) (c' : Control) where
+  abbrev leg_from : ℕ → List Command → ℕ → Control → Leg
+  leg_from i ms k c = forward p g AtEnd (λ q line c go. AtStep q line c) AtTurn i ms k c
+
+  -- what follows a line's lead
+  lead-ahead : (i lines : ℕ) (ms : List Command) → i + length ms ≡ lines →
+      ((k : ℕ) (c : Control) → leg_from i ms k c ≡ AtStep q below c' → (i + k < below) × (below ≤ lines)) →
+      (l : Lead) → lead_answer p g AtEnd (λ q line c go. AtStep q line c) AtTurn i (λ k c. leg_from i ms k c) l ≡ AtStep q below c' → (i ≤ below) × (below ≤ lines)
+  lead-ahead i lines ms long rest (On k c) e = let at = rest k c e in (omega (arith, at.0), at.1)
+  lead-ahead i lines ms long rest (ToStep r c) e = let at : i ≡ below = cc in (omega arith, omega arith)
+  lead-ahead i lines ms long rest (ToTurn j c) e = cc
+  lead-ahead i lines ms long rest (ToStop s) e = cc
+
+  forward-ahead : (i lines : ℕ) (ms : List Command) → i + length ms ≡ lines → (k : ℕ) (c : Control) → leg_from i ms k c ≡ AtStep q below c' → (i + k < below) × (below ≤ lines)
+  forward-ahead i lines [] long k c e = cc
+  forward-ahead i lines (m ∷ ms) long (suc k) c e =
+      let next : (i + 1) + length ms ≡ lines = omega arith in
+      let at = forward-ahead (i + 1) lines ms next k c e in
+      (omega (arith, at.0), at.1)
+  forward-ahead i lines (m ∷ ms) long zero c e =
+      let next : (i + 1) + length ms ≡ lines = omega arith in
+      let at = lead-ahead (i + 1) lines ms next (λ k d h. forward-ahead (i + 1) lines ms next k d h) (command_after p.master g (i + 1) m c) e in
+      (omega (arith, at.0), at.1)
+
+pub leg-ahead : (p : Program) (g : NumberedGraph) (line q below : ℕ) (c c' : Control) → leg p g line c ≡ AtStep q below c' → (line < below) × (below ≤ length p.master)
+leg-ahead p g line q below c c' e =
+    let all : 0 + length p.master ≡ length p.master = omega arith in
+    let at = forward-ahead p g q below c' 0 (length p.master) p.master all line c e in
+    (omega (arith, at.0), at.1)

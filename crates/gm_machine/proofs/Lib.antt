@@ -16,3 +16,9 @@ pub mod VertexSteps
 pub mod OneStep
 pub mod InboxSteps
 pub mod Legs
+pub mod Copies
+pub mod FieldRows
+pub mod Widths
+pub mod NodeSteps
+pub mod Starting
+pub mod RunSteps

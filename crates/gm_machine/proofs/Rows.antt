@@ -8,6 +8,8 @@ use Rattle.gm_graph.specs.declared.outcomes.Outcome.{Outcome}
 use Rattle.gm_graph.specs.declared.outcomes.Outcome.TheVariants.{Done, Fault, Cut}
 use Rattle.gm_graph.specs.declared.outcomes.RunEnd.{RunEnd}
 use Rattle.gm_graph.specs.Graphs.{NumberedGraph}
+use Rattle.gm_machine.specs.declared.notes.StepNote.{StepNote}
+use Rattle.gm_machine.specs.Notes.{noted}
 use Rattle.gm_machine.specs.Vertex.{Message}
 use Rattle.gm_machine.specs.Machine.{machine, after, Ready}
 use Rattle.gm_machine.proofs.Samples.{spin_to, total, pair, pair_merged, total_of, push, weigh, ints, edge, graph_of, weighed}
@@ -47,6 +49,19 @@ total_waits : after total two_nodes [] 1000000 1 ≡ Ready 1 2 (record { globals
   messages = 3;
 })
 total_waits = refl
+
+-- both steps are noted, and so is one that faults
+abbrev note : ℕ → ℕ → ℕ → ℕ → StepNote
+note step block vertices messages = record { step = step; block = block; vertices = vertices; messages = messages }
+
+total_is_noted : noted total two_nodes [] 1000000 ≡ note 1 0 2 3 ∷ note 2 1 2 0 ∷ []
+total_is_noted = refl
+
+spin_has_no_step : noted (spin_to 6) empty [] 5 ≡ []
+spin_has_no_step = refl
+
+fault_is_noted : noted (total_of Sum) (graph_of (0 ∷ 1 ∷ []) (pos 2147483647 ∷ pos 1 ∷ []) []) [] 9 ≡ note 1 0 2 0 ∷ []
+fault_is_noted = refl
 
 -- two steps, and the same with one
 abbrev one_edge : NumberedGraph

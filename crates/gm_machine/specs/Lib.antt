@@ -4,9 +4,15 @@ pub mod Taking
 pub mod Vertex
 pub mod Batches
 pub mod Inboxes
+pub mod Cells
 pub mod Sights
 pub mod Settling
 pub mod Machine
+pub mod Fields
 pub mod Steps
 pub mod Laws
 pub mod Masters
+pub mod Supersteps
+pub mod Ends
+pub mod Starts
+pub mod Notes

@@ -1,5 +1,5 @@
 -- The master list's run, as the code holds it.
-use Rattle.std.specs.Prelude.{ℕ, List, length}
+use Rattle.std.specs.Prelude.{ℕ, ◌+◌, ◌-◌, ◌*◌, ◌<◌, ⊤, List, length}
 use Rattle.gm_value.specs.declared.values.Value.{Value}
 use Rattle.gm_graph.specs.Graphs.{NumberedGraph}
 use Rattle.gm_image.specs.declared.images.Image.{Image}
@@ -44,3 +44,14 @@ pause_of (stops.Step q) left line c = Steps left q line c
 pause_of stops.Ended left line c = Stops (Ended c)
 pause_of (stops.Faulted f) left line c = Stops (Faulted f c)
 pause_of stops.Cut left line c = Stops (Cut c)
+
+-- how far a run may still go: the lines of the turns that are left, and those below the next line
+abbrev pub left_of : ℕ → Master → ℕ
+left_of lines m = (m.bound - m.turns) * (lines + 1) + (lines - m.line)
+
+-- from superstep to superstep a run comes nearer to its end
+abbrev pub IsNearer : ℕ → MasterStop → Master → Master → Type 0
+IsNearer lines (stops.Step q) old new = left_of lines new < left_of lines old
+IsNearer lines stops.Ended old new = ⊤
+IsNearer lines (stops.Faulted f) old new = ⊤
+IsNearer lines stops.Cut old new = ⊤

@@ -1,7 +1,9 @@
 -- What a vertex sees and what it changes, as the code holds them.
-use Rattle.std.specs.Prelude.{ℕ, Bool, true, false, Option, Some, None, Result, Ok, Err, ◌≡◌, List, ◌++◌, length}
+use Rattle.std.specs.Prelude.{ℕ, Bool, true, false, Option, Some, None, Result, Ok, Err, ◌≡◌, List, ◌++◌, length, map}
 use Rattle.gm_graph.specs.Graphs.{NumberedGraph}
-use Rattle.gm_image.specs.Program.{Direction, Out, In}
+use Rattle.gm_image.specs.Program.{Block, Direction, Out, In}
+use Rattle.gm_image.specs.Views.{handler, line}
+use Rattle.gm_machine.specs.declared.bodies.Todo as T
 use Rattle.gm_machine.specs.declared.faults.Fault.{Fault}
 use Rattle.gm_machine.specs.declared.contributions.Contribution.{Contribution}
 use Rattle.gm_machine.specs.declared.expressions.Scene as S
@@ -32,6 +34,10 @@ work_of w = record {
   puts = w.puts.items;
   folds = w.folds.items;
 }
+
+-- the block that a vertex does
+abbrev pub todo_of : T.Todo → Block
+todo_of t = record { handlers = map handler t.handlers.now; body = map line t.body.now }
 
 -- the work after a line, and after lines
 abbrev pub after_line : Work → LineEnd → After

@@ -3,9 +3,10 @@
 ghost use Rattle.std.specs.Prelude.{◌≡◌, ℕ, true, IfOk, All, map, []};
 ghost use Rattle.gm_value.specs.Numbers.{zero_of};
 ghost use Rattle.gm_graph.specs.Graphs.{HasNode};
-ghost use Rattle.gm_image.specs.Views.{program, block, handler, line};
+ghost use Rattle.gm_image.specs.Views.{program, handler, line};
 ghost use Rattle.gm_machine.specs.Batches.{IsWithin, message_of};
-ghost use Rattle.gm_machine.specs.Sights.{HasColumns, scene_of, work_of, after_line, after_lines, after_behind, direction};
+ghost use Rattle.gm_machine.specs.Sights.{HasColumns, scene_of, todo_of, work_of, after_line, after_lines, after_behind, direction};
+ghost use Rattle.gm_machine.specs.Machine.{block_at};
 ghost use Rattle.gm_machine.specs.Vertex.{Work as AntWork, never_sets, ended, folded, each_after, line_after, lines_after, body_line_after, body_after, begun, handler_lines, handler_run, gathered, vertex_after};
 
 use crate::batches::Head;
@@ -14,8 +15,32 @@ use crate::faults::{Fault, lesser};
 use crate::lines::{LineEnd, Work, reset, run_line, run_lines, run_turns};
 use crate::settling::settle;
 use gm_base::NoMemory;
-use gm_image::{Block, Handler, Image, VertexLine};
+use gm_image::{Handler, Image, VertexLine};
 use gm_value::{VType, Value};
+
+/// What a vertex does in a superstep: the handlers of its messages, and then the body.
+#[derive(Clone, Copy)]
+pub(crate) struct Todo<'a> {
+    pub(crate) handlers: &'a [Handler],
+    pub(crate) body: &'a [VertexLine],
+}
+
+/// What a block of an image says. One that the image does not have says nothing.
+pub(crate) fn block_at(image: &Image, block: u32) -> Todo<'_>
+    ensures { todo_of result ≡ block_at (program image.now) block }
+{
+    let blocks = image.blocks.as_slice();
+    match blocks.get(block as usize) {
+        Some(todo) => Todo {
+            handlers: todo.handlers.as_slice(),
+            body: todo.body.as_slice(),
+        },
+        None => Todo {
+            handlers: &[],
+            body: &[],
+        },
+    }
+}
 
 // The end of lines that left a fault or so many lines to skip.
 fn ended(fault: Option<Fault>, skip: u32) -> LineEnd
@@ -197,7 +222,7 @@ fn run_handlers(
 /// puts comes behind what was sent and put before.
 pub(crate) fn run_vertex(
     image: &Image,
-    todo: &Block,
+    todo: Todo,
     heads: &[Head],
     values: &[Value],
     scene: &Scene,
@@ -205,23 +230,21 @@ pub(crate) fn run_vertex(
 ) -> Result<Option<Fault>, NoMemory>
     requires columns { HasColumns scene.now.graph.now scene.now.columns }
     requires node { HasNode scene.now.graph.now scene.now.node }
-    requires keeps { (kind : ℕ) → never_sets (handler_lines (block todo.now).handlers kind) ≡ true }
+    requires keeps { (kind : ℕ) → never_sets (handler_lines (todo_of todo).handlers kind) ≡ true }
     requires within { All (IsWithin values.now) heads.now }
     ensures { IfOk result (λ f. after_lines (work_of work.new) f
         ≡ after_behind work.old.messages work.old.puts.items []
-        (vertex_after (program image.now) (block todo.now) (scene_of scene.now) (map (message_of values.now) heads.now) work.old.fields.items)) }
+        (vertex_after (program image.now) (todo_of todo.entry) (scene_of scene.now) (map (message_of values.now) heads.now) work.old.fields.items)) }
 {
     let places = image.places.len();
-    let handlers = todo.handlers.as_slice();
     let registers = image.registers.as_slice();
-    let body = todo.body.as_slice();
     work.folds.clear();
-    let handled = run_handlers(handlers, registers, heads, values, scene, work)?;
+    let handled = run_handlers(todo.handlers, registers, heads, values, scene, work)?;
     let end = take_folds(places, handled, 0, work)?;
     match end {
         LineEnd::Faulted(f) => Ok(Some(f)),
         LineEnd::Next(_) => {
-            let fault = run_body(places, body, scene, work)?;
+            let fault = run_body(places, todo.body, scene, work)?;
             Ok(fault)
         }
     }

@@ -3,15 +3,22 @@
 
 mod batches;
 mod bodies;
+mod cells;
 mod contributions;
+mod ends;
 mod expressions;
 mod faults;
+mod fields;
 mod inboxes;
 mod laws;
 mod lines;
 mod masters;
+mod notes;
+mod runs;
 mod settling;
+mod starts;
 mod steps;
+mod supersteps;
 #[cfg(test)]
 mod tests;
 
@@ -20,4 +27,6 @@ pub use contributions::Contribution;
 pub use faults::Fault;
 pub use laws::inboxes_have_no_order;
 pub use masters::{Master, MasterStop, master_run};
+pub use notes::StepNote;
+pub use runs::{run_noted, run_one};
 pub use steps::{Sent, vertex_step};

@@ -1,13 +1,13 @@
 //! The master list.
 
-ghost use Rattle.std.specs.Prelude.{◌≡◌, ◌-◌, ◌≤◌, ℕ, [], IfOk, map};
+ghost use Rattle.std.specs.Prelude.{◌≡◌, ◌-◌, ◌≤◌, ℕ, [], IfOk, map, length};
 ghost use Rattle.gm_image.specs.Program.{Test, Back};
 ghost use Rattle.gm_image.specs.Views.{program, command, input, term};
 ghost use Rattle.gm_machine.specs.Expressions.{value};
 ghost use Rattle.gm_machine.specs.Vertex.{view_with};
 ghost use Rattle.gm_machine.specs.Sights.{HasColumns, scene_of};
 ghost use Rattle.gm_machine.specs.Machine.{leg, pause, master_view, set_after, at_head, command_after, scalars, with_inputs, start_control};
-ghost use Rattle.gm_machine.specs.Masters.{leg_of, lead_of, pause_of, control, control_of, FitsGraph};
+ghost use Rattle.gm_machine.specs.Masters.{leg_of, lead_of, pause_of, control, control_of, FitsGraph, IsNearer};
 
 use crate::expressions::{Scene, evaluate, holds};
 use crate::faults::Fault;
@@ -261,6 +261,7 @@ pub fn master_run(image: &Image, graph: &Graph, master: &mut Master) -> MasterSt
         ≡ pause (program image.now) graph.now (master.old.bound - master.old.turns) master.old.line (control_of master.old) }
     ensures bounded { master.new.turns ≤ master.new.bound }
     ensures bound { master.new.bound ≡ master.old.bound }
+    ensures nearer { IsNearer (length image.now.master) result master.old master.new }
 {
     'turns: loop {
         match run_leg(image, graph, &mut master.globals, master.line) {

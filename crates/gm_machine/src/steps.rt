@@ -8,7 +8,7 @@ ghost use Rattle.gm_machine.specs.Faults.{lesser};
 ghost use Rattle.gm_machine.specs.Steps.{KeepsFields, step_after};
 
 use crate::batches::Batch;
-use crate::bodies::run_vertex;
+use crate::bodies::{block_at, run_vertex};
 use crate::contributions::Contribution;
 use crate::expressions::Scene;
 use crate::faults::{Fault, lesser};
@@ -55,7 +55,6 @@ pub(crate) fn step(
     inbox: &Batch,
     sent: &mut Sent,
 ) -> Result<(), NoMemory>
-    requires block { block < length image.now.blocks }
     requires node { HasNode graph.now node }
     requires columns { FitsGraph image.now graph.now }
     requires keeps { KeepsFields (program image.now) block }
@@ -68,8 +67,7 @@ pub(crate) fn step(
     ensures fault { OnOk result (sent.new.fault
         ≡ lesser sent.old.fault (step_after (program image.now) block globals.now graph.now node inbox.now fields.old.items).fault) }
 {
-    let blocks = image.blocks.as_slice();
-    let todo = &blocks[block as usize];
+    let todo = block_at(image, block);
     let scene = Scene {
         graph,
         columns: image.columns.len(),
@@ -110,7 +108,6 @@ pub fn vertex_step(
     inbox: &Batch,
     sent: &mut Sent,
 ) -> Result<(), NoMemory>
-    requires block { block < length image.now.blocks }
     requires node { HasNode graph.now node }
     requires columns { FitsGraph image.now graph.now }
     ensures fields { OnOk result (fields.new.items

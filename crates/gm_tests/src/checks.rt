@@ -1,6 +1,6 @@
 //! The command `check`, over a source, files and a sink in memory.
 
-use crate::tests::{PLAIN, Streams, run_with};
+use crate::calls::{PLAIN, Streams, run_with};
 use gm_base::{MemFiles, Status};
 use std::alloc::Global;
 use std::process::Abort;

@@ -3,16 +3,50 @@
 #![tactic(auto)]
 
 #[cfg(test)]
+mod calls;
+#[cfg(test)]
 mod canonical;
 #[cfg(test)]
 mod checks;
 #[cfg(test)]
+mod cuts;
+#[cfg(test)]
+mod example_programs;
+#[cfg(test)]
+mod example_texts;
+#[cfg(test)]
 mod examples;
+#[cfg(test)]
+mod faults;
+#[cfg(test)]
+mod first;
+#[cfg(test)]
+mod hostile;
+#[cfg(test)]
+mod image_rows;
+#[cfg(test)]
+mod inputs;
+#[cfg(test)]
+mod language;
+#[cfg(test)]
+mod loops;
+#[cfg(test)]
+mod phases;
+#[cfg(test)]
+mod procedures;
 #[cfg(test)]
 mod races;
 #[cfg(test)]
-mod tests;
+mod reductions;
+#[cfg(test)]
+mod searches;
+#[cfg(test)]
+mod totals;
 #[cfg(test)]
 mod types;
 #[cfg(test)]
+mod values;
+#[cfg(test)]
 mod verdicts;
+#[cfg(test)]
+mod words;

@@ -1,0 +1,5 @@
+pub mod Draws
+pub mod Edges
+pub mod Texts
+pub mod Programs
+pub mod Lines

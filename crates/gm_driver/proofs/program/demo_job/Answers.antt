@@ -1,0 +1,8 @@
+use Rattle.std.proofs.Common.{refl}
+use Rattle.std.proofs.lemmas.Result.{IfOk-weaker}
+use Rattle.gm_driver.specs.Whole.{shown}
+use Rattle.gm_driver.proofs.program.demo_job.Goals as goal
+
+pub returns : goal.returns
+returns c = IfOk-weaker c.demo.result _ _
+    (λ a d. λ ways held told o. shown c.args.nodes c.args.options refl (record { left = refl; reads = refl }) (record { files = refl; absences = refl }) d) c.demo.ensures

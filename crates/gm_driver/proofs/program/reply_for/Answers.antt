@@ -1,0 +1,37 @@
+use Rattle.std.proofs.lemmas.Result.{IfOk-weaker}
+use Rattle.gm_input.specs.Outside.{outside}
+use Rattle.gm_driver.proofs.program.reply_for.Goals as goal
+
+pub run_job-requires : goal.run_job-requires
+run_job-requires g c = let right = rw c.in-Run.is at c.requires in right.0
+
+pub demo_job-requires-clause-some : goal.demo_job-requires-clause-some
+demo_job-requires-clause-some g c = let right = rw c.in-Demo.is at c.requires in right.0
+
+pub demo_job-requires-clause-few : goal.demo_job-requires-clause-few
+demo_job-requires-clause-few g c = let right = rw c.in-Demo.is at c.requires in right.1
+
+pub unbuilt-requires : goal.unbuilt-requires
+unbuilt-requires g c = rw c.in-Compile.is tt
+
+pub exec_job-requires : goal.exec_job-requires
+exec_job-requires g c = let right = rw c.in-Exec.is at c.requires in right.0
+
+pub returns-in-Run : goal.returns-in-Run
+returns-in-Run g c = rw c.in-Run.is (IfOk-weaker c.run_job.result _ _ (λ a h. h _ _) c.run_job.ensures)
+
+pub returns-in-Check : goal.returns-in-Check
+returns-in-Check g c = rw c.in-Check.is (IfOk-weaker c.check_job.result _ _ (λ a h. h _ _) c.check_job.ensures)
+
+pub returns-in-Demo : goal.returns-in-Demo
+returns-in-Demo g c = rw c.in-Demo.is (IfOk-weaker c.demo_job.result _ _
+    (λ a h. h _ _ (g.F.Files.told c.args.files.now) (outside (g.S.Source.left c.args.input.now) (g.S.Source.read_faults c.args.input.now) (g.F.Files.file_faults c.args.files.now) (g.F.Files.absences c.args.files.now)))
+    c.demo_job.ensures)
+
+pub returns-in-Compile : goal.returns-in-Compile
+returns-in-Compile g c = IfOk-weaker c.unbuilt.result _ _
+    (λ a h. h _ _ (g.F.Files.told c.args.files.now) (outside (g.S.Source.left c.args.input.now) (g.S.Source.read_faults c.args.input.now) (g.F.Files.file_faults c.args.files.now) (g.F.Files.absences c.args.files.now)))
+    c.unbuilt.ensures
+
+pub returns-in-Exec : goal.returns-in-Exec
+returns-in-Exec g c = rw c.in-Exec.is c.exec_job.ensures

@@ -1,0 +1,8 @@
+use Rattle.std.proofs.Common.{refl}
+use Rattle.std.proofs.lemmas.Result.{IfOk-weaker}
+use Rattle.gm_driver.specs.Whole.{usage}
+use Rattle.gm_driver.proofs.program.unbuilt.Goals as goal
+
+pub returns : goal.returns
+returns c = IfOk-weaker c.usage.result _ _
+    (λ a says. λ ways held told o. usage c.requires (record { left = refl; reads = refl }) (record { files = refl; absences = refl }) says) c.usage.ensures

@@ -1,0 +1,59 @@
+-- What the run of an image says, and what those who observe it are told.
+use Rattle.std.specs.Prelude.{◌≡◌, ◌⊎◌, ℕ, Bool, true, false, List, [], ◌++◌, map}
+use Rattle.gm_base.specs.declared.statuses.Status.{Status}
+use Rattle.gm_base.specs.declared.statuses.Status.TheVariants.{BadInput, ReadFault}
+use Rattle.gm_value.specs.declared.values.Value.{Value}
+use Rattle.gm_graph.specs.declared.outcomes.RunEnd.{RunEnd}
+use Rattle.gm_graph.specs.Graphs.{NumberedGraph}
+use Rattle.gm_image.specs.Program.{Program}
+use Rattle.gm_machine.specs.declared.notes.StepNote.{StepNote}
+use Rattle.gm_machine.specs.Machine.{machine}
+use Rattle.gm_machine.specs.Notes.{noted}
+use Rattle.gm_observe.specs.declared.notes.Note.{Note}
+use Rattle.gm_observe.specs.Audience.{told_to_all, reports}
+use Rattle.gm_listing.specs.declared.outputs.Ending.TheVariants.{Counts}
+use Rattle.gm_listing.specs.Listing.{listing, status_of}
+use Rattle.gm_input.specs.Texts.{Says}
+use Rattle.gm_exec.specs.Programs.{scalar_outputs, property_outputs}
+
+-- those who may observe a run, in their order: what each reports of any notes, and the notes that each holds before and
+-- afterwards
+pub record Audience : Type 0 where
+  pub ways : List (List Note → List ℕ)
+  pub before : List (List Note)
+  pub after : List (List Note)
+
+abbrev pub audience : List (List Note → List ℕ) → List (List Note) → List (List Note) → Audience
+audience ways before after = record { ways = ways; before = before; after = after }
+
+-- what observers are told of a superstep
+abbrev pub note_told : StepNote → Note
+note_told n = record { step = n.step; block = n.block; vertices = n.vertices; messages = n.messages }
+
+-- what is told of the supersteps of a whole run, in their order
+abbrev pub told_of : Program → NumberedGraph → List Value → ℕ → List Note
+told_of p g args turns = map note_told (noted p g args turns)
+
+-- what observers hold after a run: behind what they held all that is told of it, where it is watched
+abbrev pub held_after : Bool → List Note → List (List Note) → List (List Note)
+held_after true notes held = told_to_all notes held
+held_after false notes held = held
+
+-- what they report where the run is watched: all that they hold, each in its way
+abbrev pub reports_after : Bool → List (List Note → List ℕ) → List (List Note) → List ℕ
+reports_after true ways held = reports ways held
+reports_after false ways held = []
+
+-- the listing of how a run of an image over a graph ended
+abbrev pub end_text : Program → NumberedGraph → RunEnd → List ℕ
+end_text p g end = listing (scalar_outputs p) (property_outputs p) g.numbers (Counts end.supersteps end.messages) end.outcome
+
+-- the run of an image with a bound on turns over a graph, with these arguments: it says the listing of what the machine
+-- does, with its status; where it is watched, the observers are told of each superstep, and their reports follow
+pub record Ran (p : Program) (turns : ℕ) (watched : Bool) (a : Audience) (g : NumberedGraph) (args : List Value) (text : List ℕ) (status : Status) : Type 0 where
+  pub told : a.after ≡ held_after watched (told_of p g args turns) a.before
+  pub says : Says text status (end_text p g (machine p g args turns) ++ reports_after watched a.ways a.after) (status_of (machine p g args turns).outcome)
+
+-- where nothing ran, since an input was bad or could not be read, observers hold what they held
+abbrev pub IsUntold : Status → List (List Note) → List (List Note) → Type 0
+IsUntold status before after = (status ≡ BadInput) ⊎ (status ≡ ReadFault) → after ≡ before

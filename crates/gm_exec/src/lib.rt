@@ -1,0 +1,20 @@
+//! The run of an image over a graph: all that comes between the words of a command line and the text of its answer.
+#![tactic(auto)]
+
+mod answers;
+mod flaws;
+mod graphs;
+mod halts;
+mod images;
+mod laws;
+mod programs;
+mod readings;
+mod replies;
+mod runs;
+#[cfg(test)]
+mod tests;
+mod watches;
+
+pub use flaws::Flaw;
+pub use laws::rows_are_worked;
+pub use replies::exec;

@@ -1,0 +1,172 @@
+//! The run of an image over a graph, watched or not, and its listing with the reports of those who watched.
+
+ghost use Rattle.std.specs.Prelude.{◌≡◌, ◌++◌, true, false, IfOk, map};
+ghost use Rattle.gm_image.specs.Views.{program};
+ghost use Rattle.gm_input.specs.Texts.{Says};
+ghost use Rattle.gm_listing.specs.Listing.{status_of as status_of_lem};
+ghost use Rattle.gm_machine.specs.Machine.{machine};
+ghost use Rattle.gm_machine.specs.Masters.{FitsGraph};
+ghost use Rattle.gm_machine.specs.Notes.{noted};
+ghost use Rattle.gm_observe.specs.Audience.{reports, told_to_all};
+ghost use Rattle.gm_exec.specs.Runs.{Ran, audience, end_text, note_told as note_told_lem, told_of};
+
+use crate::programs::{property_names, scalar_names};
+use gm_base::NoMemory;
+use gm_graph::{Graph, RunEnd};
+use gm_image::{Image, Sound};
+use gm_input::Answer;
+use gm_listing::{Ending, Outputs, listing, status_of};
+use gm_machine::{StepNote, run_noted, run_one};
+use gm_observe::{Note, Observer, report_all, tell_all};
+use gm_value::Value;
+use std::alloc::Global;
+
+// The answer for how a run of an image over a graph ended.
+fn listed(alloc: Global, image: &Image, graph: &Graph, end: &RunEnd) -> Result<Answer, NoMemory>
+    ensures { IfOk result (λ a. Says a.text.items a.status (end_text (program image.now) graph.now end.now) (status_of_lem end.now.outcome)) }
+{
+    let outputs = image.outputs.as_slice();
+    let scalars = scalar_names(alloc, outputs)?;
+    let properties = property_names(alloc, outputs)?;
+    let names = Outputs {
+        scalars: &scalars,
+        properties: &properties,
+    };
+    let ending = Ending::Counts {
+        supersteps: end.supersteps,
+        messages: end.messages,
+    };
+    Ok(Answer {
+        text: listing(alloc, &names, graph, &end.outcome, ending)?,
+        status: status_of(&end.outcome),
+    })
+}
+
+// What observers are told of a superstep.
+fn note_told(note: &StepNote) -> Note
+    ensures { result ≡ note_told_lem note.now }
+{
+    Note {
+        step: note.step,
+        block: note.block,
+        vertices: note.vertices,
+        messages: note.messages,
+    }
+}
+
+// The answer with the reports of all observers behind it.
+fn with_reports(answer: Answer, observers: &[Box<dyn Observer>]) -> Result<Answer, NoMemory>
+    ensures text { IfOk result (λ a. a.text.items ≡ answer.text.items ++ reports (map (λ o. says_of o) observers.now) (map (λ o. seen o) observers.now)) }
+    ensures status { IfOk result (λ a. a.status ≡ answer.status) }
+{
+    let mut answer = answer;
+    report_all(observers, &mut answer.text)?;
+    Ok(answer)
+}
+
+// The answer of an image over a graph, of which nobody is told.
+fn run_alone(
+    alloc: Global,
+    image: &Sound,
+    graph: &Graph,
+    args: &[Value],
+    turns: u64,
+) -> Result<Answer, NoMemory>
+    requires { FitsGraph image.now graph.now }
+    ensures { IfOk result (λ a. Says a.text.items a.status (end_text (program image.now) graph.now (machine (program image.now) graph.now args.now turns))
+        (status_of_lem (machine (program image.now) graph.now args.now turns).outcome)) }
+{
+    let end = run_one(alloc, image, graph, args, turns)?;
+    listed(alloc, image.image(), graph, &end)
+}
+
+// The answer of an image over a graph, and what is to be told of its supersteps.
+#[derive(Drop)]
+struct Noted {
+    answer: Answer,
+    notes: Vec<StepNote>,
+}
+
+// The answer of an image over a graph, with the notes of its supersteps.
+fn run_noting(
+    alloc: Global,
+    image: &Sound,
+    graph: &Graph,
+    args: &[Value],
+    turns: u64,
+) -> Result<Noted, NoMemory>
+    requires { FitsGraph image.now graph.now }
+    ensures says { IfOk result (λ n. Says n.answer.text.items n.answer.status (end_text (program image.now) graph.now (machine (program image.now) graph.now args.now turns))
+        (status_of_lem (machine (program image.now) graph.now args.now turns).outcome)) }
+    ensures notes { IfOk result (λ n. n.notes.items ≡ noted (program image.now) graph.now args.now turns) }
+{
+    let mut notes = Vec::new(alloc);
+    let end = run_noted(alloc, image, graph, args, turns, &mut notes)?;
+    let answer = listed(alloc, image.image(), graph, &end)?;
+    Ok(Noted { answer, notes })
+}
+
+// The answer of an image over a graph, of whose supersteps all observers are told, in their order.
+fn run_told(
+    alloc: Global,
+    image: &Sound,
+    graph: &Graph,
+    args: &[Value],
+    turns: u64,
+    observers: &mut [Box<dyn Observer>],
+) -> Result<Answer, NoMemory>
+    requires { FitsGraph image.now graph.now }
+    ensures says { IfOk result (λ a. Says a.text.items a.status (end_text (program image.now) graph.now (machine (program image.now) graph.now args.now turns))
+        (status_of_lem (machine (program image.now) graph.now args.now turns).outcome)) }
+    ensures told { IfOk result (λ _. map (λ o. seen o) observers.new ≡ told_to_all (told_of (program image.now) graph.now args.now turns) (map (λ o. seen o) observers.old)) }
+    ensures same_ways { map (λ o. says_of o) observers.new ≡ map (λ o. says_of o) observers.old }
+{
+    let noted = run_noting(alloc, image, graph, args, turns)?;
+    for note in &noted.notes {
+        tell_all(observers, note_told(note))?;
+    }
+    Ok(noted.answer)
+}
+
+// The answer of an image over a graph, of whose supersteps all observers are told, with their reports behind it.
+fn run_watched(
+    alloc: Global,
+    image: &Sound,
+    graph: &Graph,
+    args: &[Value],
+    turns: u64,
+    observers: &mut [Box<dyn Observer>],
+) -> Result<Answer, NoMemory>
+    requires { FitsGraph image.now graph.now }
+    ensures ran { IfOk result (λ a. Ran (program image.now) turns true
+        (audience (map (λ o. says_of o) observers.old) (map (λ o. seen o) observers.old) (map (λ o. seen o) observers.new)) graph.now args.now a.text.items a.status) }
+    ensures same_ways { map (λ o. says_of o) observers.new ≡ map (λ o. says_of o) observers.old }
+{
+    let answer = run_told(alloc, image, graph, args, turns, observers)?;
+    with_reports(answer, observers)
+}
+
+/// The answer of an image over a graph, with these arguments: the listing of what the image does. Where it is watched,
+/// all observers are told of its supersteps, and their reports stand behind the listing; where it is not, they are told
+/// nothing. Where there is not enough memory some of them may have been told of some supersteps.
+pub fn run_with(
+    alloc: Global,
+    image: &Sound,
+    graph: &Graph,
+    args: &[Value],
+    turns: u64,
+    watched: bool,
+    observers: &mut [Box<dyn Observer>],
+) -> Result<Answer, NoMemory>
+    requires { FitsGraph image.now graph.now }
+    ensures ran { IfOk result (λ a. Ran (program image.now) turns watched
+        (audience (map (λ o. says_of o) observers.old) (map (λ o. seen o) observers.old) (map (λ o. seen o) observers.new)) graph.now args.now a.text.items a.status) }
+    ensures unwatched { watched ≡ false → map (λ o. seen o) observers.new ≡ map (λ o. seen o) observers.old }
+    ensures same_ways { map (λ o. says_of o) observers.new ≡ map (λ o. says_of o) observers.old }
+{
+    if watched {
+        run_watched(alloc, image, graph, args, turns, observers)
+    } else {
+        run_alone(alloc, image, graph, args, turns)
+    }
+}

@@ -1,0 +1,26 @@
+pub mod Cutting
+pub mod LineBinds
+pub mod Binds
+pub mod Parts
+pub mod Times
+pub mod Spelled
+pub mod LineLaw
+pub mod Fields
+pub mod Numerals
+pub mod TableLaws
+pub mod Constants
+pub mod Terms
+pub mod RowLaws
+pub mod ImageLaw
+pub mod Whole
+pub mod Judging
+pub mod Filling
+pub mod Shorter
+pub mod LookUps
+pub mod Ends
+pub mod Trees
+pub mod Writing
+pub mod SoundTerms
+pub mod SoundLines
+pub mod SoundFits
+mod Worked

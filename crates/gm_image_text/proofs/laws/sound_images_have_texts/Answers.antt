@@ -1,0 +1,6 @@
+use Rattle.std.proofs.Common.{refl}
+use Rattle.gm_image_text.proofs.SoundFits.{sound_fits}
+use Rattle.gm_image_text.proofs.laws.sound_images_have_texts.Goals as goal
+
+pub returns : goal.returns
+returns c = λ p r s o. record { fits = sound_fits p r s o; spelled = refl }

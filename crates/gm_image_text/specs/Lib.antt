@@ -1,0 +1,11 @@
+pub mod Lines
+pub mod Spelling
+pub mod Fits
+pub mod ImageText
+pub mod Ranges
+pub mod Giving
+pub mod Tables
+pub mod Numbers
+pub mod Reading
+pub mod Sections
+pub mod Seen

@@ -1,0 +1,26 @@
+//! The text of images: a sound image becomes its text, and a text the image that it spells, or the number of the
+//! first line with which it stops being the beginning of an image's text.
+#![tactic(auto)]
+
+mod expressions;
+mod faults;
+mod heads;
+mod laws;
+mod numbers;
+mod put_expressions;
+mod put_rows;
+mod put_words;
+mod reads;
+mod rows;
+mod sections;
+mod tables;
+mod words;
+mod writes;
+
+pub use faults::ImageFault;
+pub use laws::{each_text_is_of_one_image, sound_images_have_texts};
+pub use reads::read_image;
+pub use writes::write_image;
+
+#[cfg(test)]
+mod tests;

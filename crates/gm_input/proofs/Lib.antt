@@ -1,0 +1,5 @@
+pub mod Searching
+pub mod Reading
+pub mod Parting
+pub mod NameReading
+pub mod Naming

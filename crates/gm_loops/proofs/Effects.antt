@@ -1,0 +1,148 @@
+-- What the effects of statements do to a loop's iterations.
+use Rattle.std.proofs.Common.{zero, suc, nat_eq, Bool, false, Ok, Err, if◌then◌else◌, ◌≤◌, arith, rules, true, ◌≡◌, ◌∙◌, ℕ, List, [], ◌∷◌, ◌++◌, Some, refl, ap, sym, subst}
+use Rattle.std.specs.Prelude.{All, option_map}
+use Rattle.std.proofs.lemmas.List.{append-nil, append_assoc}
+use Rattle.gm_source.specs.declared.contributions.Contribution.{Contribution}
+use Rattle.gm_source.specs.declared.faults.Fault.{Fault}
+use Rattle.gm_source.specs.declared.slots.Write.{Write}
+use Rattle.gm_source.specs.Stores.{Store, write}
+use Rattle.gm_graph.specs.Graphs.{node_count}
+use Rattle.gm_ast.specs.declared.tree.Key.{Key}
+use Rattle.gm_source.specs.declared.slots.Slot.{Slot}
+use Rattle.gm_source.specs.declared.slots.Slot.TheVariants.{Scalar, Node}
+use Rattle.gm_ast.specs.declared.tree.Target.{Target}
+use Rattle.gm_ast.specs.declared.tree.Target.TheVariants as T
+use Rattle.gm_source.specs.Faults.{then_with}
+use Rattle.gm_source.specs.Expressions.{View, Answer}
+use Rattle.gm_source.specs.Iterations.{Loop, WithInner, WithOutermost, scalar_ends, own_ends, ends_of, with_ok, edge_of, view_in, Iteration, Mode, Outermost, AtEdge, failed, wrote, gave_inner, gave_outermost}
+use Rattle.gm_store.specs.Held.{Held, Shape, HasSlot, Reversible, shape_of, store_of}
+use Rattle.gm_store.specs.Laws.{IsLogged}
+use Rattle.gm_totals.specs.declared.totals.Totals.{Totals}
+use Rattle.gm_totals.specs.Standing.{StandsFor, Within}
+use Rattle.gm_loops.specs.declared.goings.Going.{Going}
+use Rattle.gm_loops.specs.declared.sights.Setting.{Setting}
+use Rattle.gm_loops.specs.declared.around.Around.{Around}
+use Rattle.gm_loops.specs.declared.scopes.Scope.{the_lemmas as scope_lemmas}
+use Rattle.gm_loops.specs.Around.{loop_of}
+use Rattle.gm_loops.specs.Scopes.{inside, no_scope}
+use Rattle.gm_loops.specs.Sights.{Fits, edges_in, level_in, view_of}
+use Rattle.gm_loops.specs.Targets.{room}
+use Rattle.gm_loops.specs.Goings.{Does, Stands}
+
+pub reversible-none : (h : Held) → Reversible h h
+reversible-none h = record { shape = refl; more = []; logged = sym (append-nil h.undo); back = λ edge. refl }
+
+pub fits-same : (f : Setting) (old new : Held) → shape_of new ≡ shape_of old → Fits f old → Fits f new
+fits-same f old new e h = record {
+  columns = h.columns;
+  scalars = ap (λ (s : Shape). s.scalars) e ∙ h.scalars;
+  rows = ap (λ (s : Shape). s.rows) e ∙ h.rows;
+  nodes = ap (λ (s : Shape). s.nodes) e ∙ h.nodes;
+}
+
+pub does-fail : (f : Setting) (m : Mode) (old : Going) (fault : Fault) → Does f m old (record old { fault = Some fault }) (λ it. failed it fault)
+does-fail f m old fault = record {
+  ready = λ r. record { fits = r.fits; inner = r.inner; outermost = r.outermost; deferred = r.deferred };
+  back = reversible-none old.store;
+  stands = λ b it h. record { store = h.store; inner = h.inner; outermost = h.outermost; deferred = h.deferred; fault = refl };
+}
+
+pub does-write : (f : Setting) (m : Mode) (old : Going) (new : Held) (w : Write) → IsLogged old.store new w.slot w.value → Reversible old.store new
+    → Does f m old (record old { store = new }) (λ it. wrote it (w.slot, w.value))
+does-write f m old new w logged back = record {
+  ready = λ r. record {
+    fits = fits-same f old.store new logged.shape r.fits;
+    inner = subst (λ (s : Shape). Within s old.inner) (sym logged.shape) r.inner;
+    outermost = subst (λ (s : Shape). Within s old.outermost) (sym logged.shape) r.outermost;
+    deferred = subst (λ (s : Shape). All (λ (u : Write). HasSlot s u.slot) old.deferred.items) (sym logged.shape) r.deferred;
+  };
+  back = back;
+  stands = λ b it h. record {
+    store = logged.store (edges_in f) ∙ ap (λ (s : Store). write s w.slot w.value) h.store;
+    inner = h.inner;
+    outermost = h.outermost;
+    deferred = h.deferred;
+    fault = h.fault;
+  };
+}
+
+pub does-give_inner : (f : Setting) (edge : ℕ) (old : Going) (new : Totals) (c : Contribution) → HasSlot (shape_of old.store) c.slot
+    → ((cs : List Contribution) → StandsFor old.inner cs → StandsFor new (cs ++ c ∷ []))
+    → ((shape : Shape) → HasSlot shape c.slot → Within shape old.inner → Within shape new)
+    → Does f (AtEdge edge) old (record old { inner = new }) (λ it. gave_inner it c)
+does-give_inner f edge old new c slot stands within = record {
+  ready = λ r. record { fits = r.fits; inner = within (shape_of old.store) slot r.inner; outermost = r.outermost; deferred = r.deferred };
+  back = reversible-none old.store;
+  stands = λ b it h. record {
+    store = h.store;
+    inner = subst (λ (cs : List Contribution). StandsFor new cs) (append_assoc b.with_inner it.with_inner (c ∷ [])) (stands (b.with_inner ++ it.with_inner) h.inner);
+    outermost = h.outermost;
+    deferred = h.deferred;
+    fault = h.fault;
+  };
+}
+
+pub does-give_outermost : (f : Setting) (m : Mode) (old : Going) (new : Totals) (c : Contribution) → HasSlot (shape_of old.store) c.slot
+    → ((cs : List Contribution) → StandsFor old.outermost cs → StandsFor new (cs ++ c ∷ []))
+    → ((shape : Shape) → HasSlot shape c.slot → Within shape old.outermost → Within shape new)
+    → Does f m old (record old { outermost = new }) (λ it. gave_outermost it c)
+does-give_outermost f m old new c slot stands within = record {
+  ready = λ r. record { fits = r.fits; inner = r.inner; outermost = within (shape_of old.store) slot r.outermost; deferred = r.deferred };
+  back = reversible-none old.store;
+  stands = λ b it h. record {
+    store = h.store;
+    inner = h.inner;
+    outermost = subst (λ (cs : List Contribution). StandsFor new cs) (append_assoc b.with_outermost it.with_outermost (c ∷ [])) (stands (b.with_outermost ++ it.with_outermost) h.outermost);
+    deferred = h.deferred;
+    fault = h.fault;
+  };
+}
+
+-- outside reductions the store is as it is
+pub inside-none : (s : Store) → inside no_scope s ≡ s
+inside-none s = search (rules, scope_lemmas)
+
+-- what a statement of a body sees is what the code's sight shows
+pub view-same : (a : Around) (m : Mode) (key : Key) (h : Held) (it : Iteration) → store_of (edges_in a.setting.now) h ≡ it.store
+    → view_of (record { setting = a.setting; levels = a.levels; parallel = true; edge = edge_of m; key = key }) no_scope h ≡ view_in (loop_of a) m it key
+view-same a m key h it e =
+    ap (λ (s : Store). let v : View = record {
+      graph = a.setting.now.graph.now;
+      levels = level_in (option_map (λ l. l.now) a.levels);
+      parallel = true;
+      store = s;
+      edge = edge_of m;
+      key = key;
+    } in v) (inside-none (store_of (edges_in a.setting.now) h) ∙ e)
+
+-- the same, by another name
+pub does-as : (f : Setting) (m : Mode) (old new : Going) (next other : Iteration → Iteration) → Does f m old new next
+    → ((it : Iteration) → store_of (edges_in f) old.store ≡ it.store → next it ≡ other it) → Does f m old new other
+does-as f m old new next other h same = record {
+  ready = h.ready;
+  back = h.back;
+  stands = λ b it s. subst (λ (x : Iteration). Stands (edges_in f) m b new x) (same it s.store) (h.stands b it s);
+}
+
+-- a slot within a bound is one of a store with at least that room
+pub slot-fits : (f : Setting) (h : Held) (bound : ℕ) (slot : Slot) → Fits f h → bound ≤ f.variables → HasSlot (room (node_count f.graph.now) bound) slot → HasSlot (shape_of h) slot
+slot-fits f h bound (Scalar x) fits le lt = omega (arith, fits.scalars)
+slot-fits f h bound (Node p n) fits le lt = (omega (arith, fits.rows, lt.0), omega (arith, fits.nodes, lt.1))
+
+-- a value for a scalar
+pub scalar-ok : (it : Iteration) (x : ℕ) (a : Answer) → with_ok it (then_with a (λ v. Ok (Scalar x, v))) (wrote it) ≡ with_ok it a (λ v. wrote it (Scalar x, v))
+scalar-ok it x (Ok v) = refl
+scalar-ok it x (Err f) = refl
+
+-- in an outer body nothing ends with an inner loop
+never-scalar : (k : ℕ) → scalar_ends Outermost k ≡ WithInner → ⊥
+never-scalar zero e = cc
+never-scalar (suc k) e = cc
+
+never-either : (b pushed : Bool) → (if b then own_ends Outermost pushed else WithOutermost) ≡ WithInner → ⊥
+never-either true pushed e = cc
+never-either false pushed e = cc
+
+pub never-inner : (loop : Loop) (t : Target) → ends_of Outermost loop t ≡ WithInner → ⊥
+never-inner loop (T.Scalar x at) e = never-scalar (loop.depth x) e
+never-inner loop (T.Property x p at) e = never-either (nat_eq x loop.outer) (loop.pushed p) e

@@ -1,0 +1,10 @@
+pub mod Steps
+pub mod Elements
+pub mod Trees
+pub mod Effects
+pub mod Parting
+pub mod Turning
+pub mod Closing
+pub mod Statements
+pub mod Keeping
+pub mod Looping

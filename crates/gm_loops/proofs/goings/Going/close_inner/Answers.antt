@@ -1,0 +1,14 @@
+use Rattle.std.proofs.Common.{List, refl, subst}
+use Rattle.gm_source.specs.declared.slots.Write.{Write}
+use Rattle.gm_loops.specs.Turns.{Overlays}
+use Rattle.gm_loops.proofs.Closing.{closes}
+use Rattle.gm_loops.proofs.goings.Going.close_inner.Goals as goal
+
+pub write_all-requires : goal.write_all-requires
+write_all-requires c = rw c.as_slice.ensures.value c.in_ok-closed.ensures.within
+
+pub returns : goal.returns
+returns c = λ f.
+    closes f c.args.self.now _ c.args.least c.in_ok-closed.closed c.in_ok-closed.ensures.settles
+    (subst (λ (ws : List Write). Overlays c.args.self.now.store c.write_all.new.store ws) c.as_slice.ensures.value c.in_ok-write_all.ensures)
+    c.clear.ensures.stands c.clear.ensures.within refl refl c.sooner-self.ensures

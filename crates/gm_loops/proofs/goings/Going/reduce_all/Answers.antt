@@ -1,0 +1,47 @@
+use Rattle.std.proofs.Common.{◌∙◌, ◌∷◌, [], List, get_or, map, arith, ap, sym, subst}
+use Rattle.std.proofs.lemmas.List.{length-map}
+use Rattle.gm_ast.specs.declared.tree.Expr as E
+use Rattle.gm_ast.specs.declared.tree.Target.{Target}
+use Rattle.gm_ast.specs.declared.tree.Target.TheVariants as T
+use Rattle.gm_ast.specs.Program as P
+use Rattle.gm_ast.specs.Tree.{expr_of}
+use Rattle.gm_source.specs.Iterations as I
+use Rattle.gm_source.specs.Iterations.{does}
+use Rattle.gm_loops.specs.Around.{loop_of, mode_of}
+use Rattle.gm_loops.specs.Goings.{Does}
+use Rattle.gm_loops.proofs.Effects.{does-as}
+use Rattle.gm_loops.proofs.Statements.{combine-other, one-target-bound, only-one}
+use Rattle.gm_loops.proofs.Turning.{does-none}
+use Rattle.gm_loops.proofs.goings.Going.reduce_all.Goals as goal
+use Rattle.gm_loops.proofs.goings.Going.reduce_all.Goals.{else-targets-eq1-via-then-targets-eq1+else-values-eq1, else-targets-eq1-via-else-targets-eq1}
+
+-- what stands where there is no target
+abbrev none : Target
+none = T.Scalar 0 (record { line = 0; col = 0 })
+
+pub reduce-requires-clause-bound : goal.reduce-requires-clause-bound
+reduce-requires-clause-bound c = omega (arith, one-target-bound c.args.targets.now none c.if-targets-eq1.true, c.requires.bound)
+
+pub returns-in_ok-reduce : goal.returns-in_ok-reduce
+returns-in_ok-reduce c =
+    let a = c.args.around.now in
+    let m : I.Mode = mode_of c.args.mode in
+    let values : List P.Expr = map expr_of c.args.values.now in
+    subst (λ (ts : List Target). Does a.setting.now m c.args.self.now c.reduce.new.self (does (P.Combine c.args.key c.args.total c.args.reduce ts values) m (loop_of a)))
+    (sym (only-one c.args.targets.now none c.if-targets-eq1.true))
+    (subst (λ (es : List P.Expr). Does a.setting.now m c.args.self.now c.reduce.new.self (does (P.Combine c.args.key c.args.total c.args.reduce (get_or c.args.targets.now 0 none ∷ []) es) m (loop_of a)))
+    (sym (ap (map expr_of) (only-one c.args.values.now c.index-values-0.result c.if-values-eq1.true) ∙ ap (λ (e : E.Expr). expr_of e ∷ []) (sym c.index-values-0.is)))
+    c.in_ok-reduce.ensures)
+
+pub returns-else-targets-eq1 : goal.returns-else-targets-eq1
+returns-else-targets-eq1 c =
+    let a = c.args.around.now in
+    let m : I.Mode = mode_of c.args.mode in
+    does-as a.setting.now m c.args.self.now c.args.self.now (λ it. it)
+    (λ it. does (P.Combine c.args.key c.args.total c.args.reduce c.args.targets.now (map expr_of c.args.values.now)) m (loop_of a) it)
+    (does-none a.setting.now m c.args.self.now)
+    (λ it h. combine-other c.args.key c.args.total c.args.reduce c.args.targets.now (map expr_of c.args.values.now) m (loop_of a) it
+    (elim c.else-targets-eq1.branch [
+      | else-targets-eq1-via-then-targets-eq1+else-values-eq1 w ↦ (λ p q. omega (arith, w.if-values-eq1.false, length-map c.args.values.now expr_of))
+      | else-targets-eq1-via-else-targets-eq1 w ↦ (λ p q. omega (arith, w.if-targets-eq1.false))
+    ]))

@@ -1,0 +1,12 @@
+pub mod Scopes
+pub mod Sights
+pub mod Parts
+pub mod Ranges
+pub mod Runnings
+pub mod Bounds
+pub mod Targets
+pub mod Around
+pub mod Goings
+pub mod LoopEnds
+pub mod Turns
+pub mod Own

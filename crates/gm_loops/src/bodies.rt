@@ -1,0 +1,188 @@
+//! What the bodies of parallel loops do.
+
+ghost use Rattle.std.specs.Prelude.{◌≡◌, ◌≤◌, ◌<◌, ◌∷◌, [], IfOk, OnOk, map};
+ghost use Rattle.gm_base.specs.declared.places.Place.{Place};
+ghost use Rattle.gm_ast.specs.declared.tree.Key.{Key};
+ghost use Rattle.gm_ast.specs.Program as program;
+ghost use Rattle.gm_ast.specs.Tree.{expr_of, stmt_of};
+ghost use Rattle.gm_source.specs.Expressions.{steps_in};
+ghost use Rattle.gm_source.specs.Iterations as iterations;
+ghost use Rattle.gm_source.specs.Iterations.{does, view_in, begun};
+ghost use Rattle.gm_loops.specs.Around.{loop_of, mode_of};
+ghost use Rattle.gm_loops.specs.Bounds.{bound_of};
+ghost use Rattle.gm_loops.specs.Goings.{Does, IsReady};
+ghost use Rattle.gm_loops.specs.Ranges.{step_of};
+ghost use Rattle.gm_loops.specs.Turns.{inner_turn, DoesTurns};
+
+use crate::around::{Around, Mode};
+use crate::goings::Going;
+use crate::parts::is_true;
+use crate::ranges::Hop;
+use crate::scopes::Scope;
+use crate::turns::sooner;
+use gm_ast::tree::{Expr, Head, Key, Stmt};
+use gm_base::NoMemory;
+use gm_source::faults::Fault;
+
+impl Going {
+    // What the statements of a block do, until one faults.
+    #[cycle(doing)]
+    #[tactic(auto, using(crate::proofs::Statements::item_bound))]
+    fn does_all(&mut self, stmts: &Vec<Stmt>, mode: Mode, around: &Around) -> Result<(), NoMemory>
+        requires ready { IsReady around.now.setting.now self.old }
+        requires bound { bound_of (program.sequence (map stmt_of stmts.now.items)) ≤ around.now.setting.now.variables }
+        ensures { OnOk result (Does around.now.setting.now (mode_of mode) self.old self.new (does (program.sequence (map stmt_of stmts.now.items)) (mode_of mode) (loop_of around.now))) }
+    {
+        for stmt in stmts {
+            self.does(stmt, mode, around)?;
+            if self.fault.is_some() {
+                return Ok(());
+            }
+        }
+        Ok(())
+    }
+
+    // What a statement of a body does.
+    #[cycle(doing)]
+    #[tactic(auto, using(crate::proofs::Statements::block_bound, crate::proofs::Statements::first_bound, crate::proofs::Statements::other_bound, crate::proofs::Statements::body_bound, crate::proofs::Statements::iterator_bound))]
+    pub(crate) fn does(&mut self, s: &Stmt, mode: Mode, around: &Around) -> Result<(), NoMemory>
+        requires ready { IsReady around.now.setting.now self.old }
+        requires bound { bound_of (stmt_of s.now) ≤ around.now.setting.now.variables }
+        ensures { OnOk result (Does around.now.setting.now (mode_of mode) self.old self.new (does (stmt_of s.now) (mode_of mode) (loop_of around.now))) }
+    {
+        match s {
+            Stmt::Block(stmts) => self.does_all(stmts, mode, around)?,
+            Stmt::Declare {
+                key,
+                variable,
+                value,
+            } => self.declare(*key, *variable, value, mode, around)?,
+            Stmt::Assign { key, target, value } => {
+                self.assign(*key, target, value, mode, around)?;
+            }
+            Stmt::Defer { key, target, value } => {
+                if let Mode::Outermost = mode {
+                    self.assign_deferred(*key, target, value, around)?;
+                }
+            }
+            Stmt::Reduce {
+                key,
+                total,
+                reduce,
+                targets,
+                values,
+            } => {
+                self.reduce_all(
+                    *key,
+                    *total,
+                    *reduce,
+                    targets.as_slice(),
+                    values.as_slice(),
+                    mode,
+                    around,
+                )?;
+            }
+            Stmt::If { key, test, yes, no } => {
+                match around.sight(mode, *key).value(test, &self.store) {
+                    Ok(holds) => {
+                        if is_true(holds) {
+                            self.does(yes, mode, around)?;
+                        } else {
+                            self.does(no, mode, around)?;
+                        }
+                    }
+                    Err(fault) => self.fail(fault),
+                }
+            }
+            Stmt::Foreach {
+                key,
+                head,
+                filter,
+                body,
+                ..
+            } => {
+                if let Mode::Outermost = mode {
+                    self.inner_loop(*key, head, body, filter, around)?;
+                }
+            }
+            _ => {}
+        }
+        Ok(())
+    }
+
+    // An inner loop: its iterations, and then what ends with it.
+    #[cycle(doing)]
+    fn inner_loop(
+        &mut self,
+        key: Key,
+        head: &Head,
+        body: &Stmt,
+        filter: &Expr,
+        around: &Around,
+    ) -> Result<(), NoMemory>
+        requires ready { IsReady around.now.setting.now self.old }
+        requires iterator { head.now.iterator < around.now.setting.now.variables }
+        requires bound { bound_of (stmt_of body.now) ≤ around.now.setting.now.variables }
+        ensures { OnOk result ((at : Place) → Does around.now.setting.now iterations.Outermost self.old self.new
+            (does (program.Foreach key at head.now (expr_of filter.now) (stmt_of body.now)) iterations.Outermost (loop_of around.now))) }
+    {
+        let least = self.inner_turns(key, head, body, filter, around)?;
+        self.close_inner(least)?;
+        Ok(())
+    }
+
+    // The iterations of an inner loop, and their least fault. The store is as it was.
+    #[cycle(doing)]
+    fn inner_turns(
+        &mut self,
+        key: Key,
+        head: &Head,
+        body: &Stmt,
+        filter: &Expr,
+        around: &Around,
+    ) -> Result<Option<Fault>, NoMemory>
+        requires ready { IsReady around.now.setting.now self.old }
+        requires iterator { head.now.iterator < around.now.setting.now.variables }
+        requires bound { bound_of (stmt_of body.now) ≤ around.now.setting.now.variables }
+        ensures { IfOk result (λ fault. DoesTurns around.now.setting.now (iterations.AtEdge 0) self.old self.new fault
+            (λ s. map (λ step. inner_turn (loop_of around.now) key (expr_of filter.now) (stmt_of body.now) head.now.iterator step s)
+            (steps_in (view_in (loop_of around.now) iterations.Outermost (begun s) key) head.now))) }
+    {
+        let sight = around.sight(Mode::Outermost, key);
+        let range = sight.range(&Scope::Nothing, &self.store, head);
+        let mut least = None;
+        for k in 0..range.count() {
+            if let Some(hop) = range.at(k) {
+                self.inner_turn(key, head.iterator, body, filter, hop, around)?;
+                least = sooner(least, self.fault);
+            }
+        }
+        Ok(least)
+    }
+
+    // One iteration of an inner loop, after which the store is as it was.
+    #[cycle(doing)]
+    fn inner_turn(
+        &mut self,
+        key: Key,
+        iterator: u32,
+        body: &Stmt,
+        filter: &Expr,
+        hop: Hop,
+        around: &Around,
+    ) -> Result<(), NoMemory>
+        requires ready { IsReady around.now.setting.now self.old }
+        requires iterator { iterator < around.now.setting.now.variables }
+        requires bound { bound_of (stmt_of body.now) ≤ around.now.setting.now.variables }
+        ensures { OnOk result (DoesTurns around.now.setting.now (iterations.AtEdge 0) self.old self.new self.new.fault
+            (λ s. inner_turn (loop_of around.now) key (expr_of filter.now) (stmt_of body.now) iterator (step_of hop) s ∷ [])) }
+    {
+        let mark = self.store.mark();
+        let mode = Mode::AtEdge(hop.edge);
+        if self.begins(key, iterator, filter, hop.node, mode, around)? {
+            self.does(body, mode, around)?;
+        }
+        self.store.roll_back(mark)?;
+        Ok(())
+    }
+}

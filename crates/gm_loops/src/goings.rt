@@ -1,0 +1,152 @@
+//! A loop's iterations so far, and the effects of statements on them.
+
+ghost use Rattle.std.specs.Prelude.{◌≡◌, IfOk, OnOk, ℕ};
+ghost use Rattle.gm_source.specs.Iterations as iterations;
+ghost use Rattle.gm_source.specs.Iterations.{failed, wrote, with_ok, gave_inner, gave_outermost, deferred_to, contribution};
+ghost use Rattle.gm_store.specs.Held.{HasSlot, shape_of};
+ghost use Rattle.gm_loops.specs.declared.sights.Setting.{Setting};
+ghost use Rattle.gm_loops.specs.Targets.{pair_of};
+ghost use Rattle.gm_loops.specs.Goings.{Does};
+
+use gm_ast::tree::TotalKey;
+use gm_base::NoMemory;
+use gm_source::contributions::Contribution;
+use gm_source::faults::Fault;
+use gm_source::slots::Write;
+use gm_store::{Store, logged_writes_are_reversible};
+use gm_totals::Totals;
+use gm_value::Reduce;
+use std::alloc::Global;
+
+/// The iterations of a loop so far: the store that the present one sees, the totals that end with the inner and with
+/// the outermost loop, the deferred writes, and the fault of the present one.
+#[derive(Drop)]
+pub struct Going {
+    pub alloc: Global,
+    pub store: Store,
+    pub inner: Totals,
+    pub outermost: Totals,
+    pub deferred: Vec<Write>,
+    pub fault: Option<Fault>,
+}
+
+// What a reduction assignment gives.
+fn contribution(total: TotalKey, reduce: Reduce, write: Write) -> Contribution
+    ensures { result ≡ contribution total reduce (write.slot, write.value) }
+{
+    Contribution {
+        total,
+        reduce,
+        slot: write.slot,
+        value: write.value,
+    }
+}
+
+impl Going {
+    // The iteration ends with a fault.
+    pub fn fail(&mut self, fault: Fault)
+        ensures { (f : Setting) (m : iterations.Mode) → Does f m self.old self.new (λ it. failed it fault) }
+    {
+        self.fault = Some(fault);
+    }
+
+    // A write that the iteration sees from then on.
+    pub fn write(&mut self, write: Write) -> Result<(), NoMemory>
+        requires { HasSlot (shape_of self.old.store) write.slot }
+        ensures { OnOk result ((f : Setting) (m : iterations.Mode) → Does f m self.old self.new (λ it. wrote it (write.slot, write.value))) }
+    {
+        logged_writes_are_reversible();
+        self.store.write(write.slot, write.value)?;
+        Ok(())
+    }
+
+    // A write, or a fault.
+    pub fn put(&mut self, answer: Result<Write, Fault>) -> Result<(), NoMemory>
+        requires { IfOk answer (λ w. HasSlot (shape_of self.old.store) w.slot) }
+        ensures { OnOk result ((f : Setting) (m : iterations.Mode) → Does f m self.old self.new (λ it. with_ok it (pair_of answer) (wrote it))) }
+    {
+        match answer {
+            Ok(write) => self.write(write)?,
+            Err(fault) => self.fail(fault),
+        }
+        Ok(())
+    }
+
+    // A contribution that ends with the inner loop.
+    fn give_inner(&mut self, total: TotalKey, reduce: Reduce, write: Write) -> Result<(), NoMemory>
+        requires { HasSlot (shape_of self.old.store) write.slot }
+        ensures { OnOk result ((f : Setting) (edge : ℕ) → Does f (iterations.AtEdge edge) self.old self.new (λ it. gave_inner it (contribution total reduce (write.slot, write.value)))) }
+    {
+        self.inner.give(contribution(total, reduce, write))?;
+        Ok(())
+    }
+
+    // A contribution that ends with the inner loop, or a fault.
+    pub fn add_inner(
+        &mut self,
+        total: TotalKey,
+        reduce: Reduce,
+        answer: Result<Write, Fault>,
+    ) -> Result<(), NoMemory>
+        requires { IfOk answer (λ w. HasSlot (shape_of self.old.store) w.slot) }
+        ensures { OnOk result ((f : Setting) (edge : ℕ) → Does f (iterations.AtEdge edge) self.old self.new (λ it. with_ok it (pair_of answer) (λ p. gave_inner it (contribution total reduce p)))) }
+    {
+        match answer {
+            Ok(write) => self.give_inner(total, reduce, write)?,
+            Err(fault) => self.fail(fault),
+        }
+        Ok(())
+    }
+
+    // A contribution that ends with the outermost loop.
+    fn give_outermost(
+        &mut self,
+        total: TotalKey,
+        reduce: Reduce,
+        write: Write,
+    ) -> Result<(), NoMemory>
+        requires { HasSlot (shape_of self.old.store) write.slot }
+        ensures { OnOk result ((f : Setting) (m : iterations.Mode) → Does f m self.old self.new (λ it. gave_outermost it (contribution total reduce (write.slot, write.value)))) }
+    {
+        self.outermost.give(contribution(total, reduce, write))?;
+        Ok(())
+    }
+
+    // A contribution that ends with the outermost loop, or a fault.
+    pub fn add_outermost(
+        &mut self,
+        total: TotalKey,
+        reduce: Reduce,
+        answer: Result<Write, Fault>,
+    ) -> Result<(), NoMemory>
+        requires { IfOk answer (λ w. HasSlot (shape_of self.old.store) w.slot) }
+        ensures { OnOk result ((f : Setting) (m : iterations.Mode) → Does f m self.old self.new (λ it. with_ok it (pair_of answer) (λ p. gave_outermost it (contribution total reduce p)))) }
+    {
+        match answer {
+            Ok(write) => self.give_outermost(total, reduce, write)?,
+            Err(fault) => self.fail(fault),
+        }
+        Ok(())
+    }
+
+    // A deferred write.
+    fn push_deferred(&mut self, write: Write) -> Result<(), NoMemory>
+        requires { HasSlot (shape_of self.old.store) write.slot }
+        ensures { OnOk result ((f : Setting) → Does f iterations.Outermost self.old self.new (λ it. deferred_to it (write.slot, write.value))) }
+    {
+        self.deferred.push(write)?;
+        Ok(())
+    }
+
+    // A deferred write, or a fault.
+    pub fn defer(&mut self, answer: Result<Write, Fault>) -> Result<(), NoMemory>
+        requires { IfOk answer (λ w. HasSlot (shape_of self.old.store) w.slot) }
+        ensures { OnOk result ((f : Setting) → Does f iterations.Outermost self.old self.new (λ it. with_ok it (pair_of answer) (deferred_to it))) }
+    {
+        match answer {
+            Ok(write) => self.push_deferred(write)?,
+            Err(fault) => self.fail(fault),
+        }
+        Ok(())
+    }
+}

@@ -1,0 +1,181 @@
+//! The steps of loops and reductions.
+
+ghost use Rattle.std.specs.Prelude.{◌≡◌, ◌<◌, ◌≤◌, ◌+◌, Some, IfSome, length, slice_get};
+ghost use Rattle.gm_graph.specs.Graphs.{node_count};
+ghost use Rattle.gm_source.specs.Levels.{is_next};
+ghost use Rattle.gm_source.specs.Expressions.{View, steps_of, steps_in};
+ghost use Rattle.gm_loops.specs.Sights.{levels_of, view_of, Fits};
+ghost use Rattle.gm_loops.specs.Ranges.{all_steps, levels_by, step_of, steps_at, takes, with_hop, HasStart};
+
+use crate::scopes::Scope;
+use crate::sights::Sight;
+use gm_ast::tree::{Domain, Head};
+use gm_graph::Graph;
+use gm_levels::Levels;
+use gm_store::Store;
+
+// The edges of a range: none, one to each node, those from a node, or those to a node.
+#[derive(Clone, Copy)]
+pub(crate) enum Edges {
+    NoStep,
+    AllNodes,
+    From(u32),
+    To(u32),
+}
+
+// Which of the edges are steps: all, those from a level to the next that is this one, or those from this level to the
+// next.
+#[derive(Clone, Copy)]
+pub(crate) enum Course {
+    Any,
+    Above(Option<u32>),
+    Below(Option<u32>),
+}
+
+// A node, and the edge that leads to it.
+#[derive(Clone, Copy)]
+pub(crate) struct Hop {
+    pub node: u32,
+    pub edge: u32,
+}
+
+// The steps of a loop or a reduction.
+#[derive(Clone, Copy)]
+pub(crate) struct Range<'a> {
+    pub graph: &'a Graph,
+    pub levels: Option<&'a Levels>,
+    pub edges: Edges,
+    pub course: Course,
+}
+
+impl Range<'_> {
+    // How many edges there are.
+    pub fn count(&self) -> u32
+        requires { HasStart (node_count self.now.graph.now) self.now.edges }
+        ensures count { result ≡ length (all_steps self.now) }
+        ensures few { result ≤ 2147483647 }
+    {
+        match self.edges {
+            Edges::NoStep => 0,
+            Edges::AllNodes => self.graph.node_count(),
+            Edges::From(node) => self.graph.out_degree(node),
+            Edges::To(node) => self.graph.in_degree(node),
+        }
+    }
+
+    // The k-th edge, with the node to which it leads.
+    fn hop(&self, k: u32) -> Hop
+        requires start { HasStart (node_count self.now.graph.now) self.now.edges }
+        requires within { k < length (all_steps self.now) }
+        ensures step { slice_get (all_steps self.now) k ≡ Some (step_of result) }
+        ensures known { result.node < node_count self.now.graph.now }
+    {
+        match self.edges {
+            Edges::NoStep => unreachable!(),
+            Edges::AllNodes => Hop { node: k, edge: 0 },
+            Edges::From(node) => Hop {
+                node: self.graph.out_target(node, k),
+                edge: self.graph.out_edge(node, k),
+            },
+            Edges::To(node) => Hop {
+                node: self.graph.in_source(node, k),
+                edge: self.graph.in_edge(node, k),
+            },
+        }
+    }
+
+    // The level of a node.
+    fn level(&self, node: u32) -> Option<u32>
+        ensures { result ≡ levels_by self.now node }
+    {
+        match self.levels {
+            Some(found) => found.level(node),
+            None => None,
+        }
+    }
+
+    // Whether the course takes a step to a node.
+    fn takes(&self, node: u32) -> bool
+        ensures { result ≡ takes (levels_by self.now) self.now.course node }
+    {
+        match self.course {
+            Course::Any => true,
+            Course::Above(level) => is_next(self.level(node), level),
+            Course::Below(level) => is_next(level, self.level(node)),
+        }
+    }
+
+    // The k-th edge, if the course takes it.
+    pub fn at(&self, k: u32) -> Option<Hop>
+        requires start { HasStart (node_count self.now.graph.now) self.now.edges }
+        requires within { k < length (all_steps self.now) }
+        ensures step { steps_at self.now k ≡ with_hop result (steps_at self.now (k + 1)) }
+        ensures known { IfSome result (λ hop. hop.node < node_count self.now.graph.now) }
+    {
+        let hop = self.hop(k);
+        if self.takes(hop.node) {
+            Some(hop)
+        } else {
+            None
+        }
+    }
+}
+
+// Whether the second level is one farther than the first.
+fn is_next(a: Option<u32>, b: Option<u32>) -> bool
+    ensures { result ≡ is_next a b }
+{
+    match (a, b) {
+        (Some(j), Some(k)) => j < u32::MAX && j + 1 == k,
+        _ => false,
+    }
+}
+
+impl Sight<'_> {
+    // The steps of a loop or a reduction.
+    pub(crate) fn range(&self, scope: &Scope, store: &Store, head: &Head) -> Range<'_>
+        requires { Fits self.now.setting.now store.now }
+        ensures steps { steps_at result 0 ≡ steps_in (view_of self.now scope.now store.now) head.now }
+        ensures start { HasStart (node_count self.now.setting.now.graph.now) result.edges }
+        ensures graph { result.graph.now ≡ self.now.setting.now.graph.now }
+    {
+        let owner = self
+            .setting
+            .node_in(self.setting.scalar(scope, store, head.owner));
+        self.range_from(head.domain, owner)
+    }
+
+    // The steps from a node.
+    fn range_from(&self, domain: Domain, owner: Option<u32>) -> Range<'_>
+        requires { IfSome owner (λ n. n < node_count self.now.setting.now.graph.now) }
+        ensures steps { (w : View) → w.graph ≡ self.now.setting.now.graph.now → w.levels ≡ levels_of self.now
+            → steps_at result 0 ≡ steps_of w domain owner }
+        ensures start { HasStart (node_count self.now.setting.now.graph.now) result.edges }
+        ensures graph { result.graph.now ≡ self.now.setting.now.graph.now }
+    {
+        let (edges, course) = match (domain, owner) {
+            (Domain::Nodes, _) => (Edges::AllNodes, Course::Any),
+            (_, None) => (Edges::NoStep, Course::Any),
+            (Domain::OutNbrs, Some(node)) => (Edges::From(node), Course::Any),
+            (Domain::InNbrs, Some(node)) => (Edges::To(node), Course::Any),
+            (Domain::UpNbrs, Some(node)) => (Edges::To(node), Course::Above(self.level(node))),
+            (Domain::DownNbrs, Some(node)) => (Edges::From(node), Course::Below(self.level(node))),
+        };
+        Range {
+            graph: self.setting.graph,
+            levels: self.levels,
+            edges,
+            course,
+        }
+    }
+
+    // The level of a node.
+    fn level(&self, node: u32) -> Option<u32>
+        ensures { result ≡ levels_of self.now node }
+    {
+        match self.levels {
+            Some(found) => found.level(node),
+            None => None,
+        }
+    }
+}

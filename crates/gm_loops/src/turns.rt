@@ -1,0 +1,87 @@
+//! How an iteration of a loop begins, and how an inner loop ends.
+
+ghost use Rattle.std.specs.Prelude.{◌≡◌, ◌<◌, All, IfOk, OnOk};
+ghost use Rattle.gm_ast.specs.Tree.{expr_of};
+ghost use Rattle.gm_source.specs.Iterations.{turn_at};
+ghost use Rattle.gm_store.specs.Held.{HasSlot, shape_of};
+ghost use Rattle.gm_totals.specs.Standing.{Within};
+ghost use Rattle.gm_loops.specs.declared.sights.Setting.{Setting};
+ghost use Rattle.gm_loops.specs.Around.{loop_of, mode_of};
+ghost use Rattle.gm_loops.specs.Goings.{IsReady};
+ghost use Rattle.gm_loops.specs.Parts.{sooner};
+ghost use Rattle.gm_loops.specs.Turns.{Begins, Closes, Overlays};
+
+use crate::around::{Around, Mode};
+use crate::goings::Going;
+use crate::parts::is_true;
+use gm_ast::tree::{Expr, Key};
+use gm_base::NoMemory;
+use gm_source::faults::Fault;
+use gm_source::slots::{Slot, Write};
+use gm_store::Store;
+use gm_totals::lesser;
+use gm_value::Value;
+
+// The lesser of what may be two faults.
+pub(crate) fn sooner(a: Option<Fault>, b: Option<Fault>) -> Option<Fault>
+    ensures { result ≡ sooner a b }
+{
+    match a {
+        None => b,
+        Some(fault) => lesser(fault, b),
+    }
+}
+
+// Writes in order, of which the last to a slot counts. They are logged.
+fn write_all(store: &mut Store, writes: &[Write]) -> Result<(), NoMemory>
+    requires { All (λ w. HasSlot (shape_of store.old) w.slot) writes.now }
+    ensures { OnOk result (Overlays store.old store.new writes.now) }
+{
+    for write in writes {
+        store.write(write.slot, write.value)?;
+    }
+    Ok(())
+}
+
+impl Going {
+    // Begins an iteration with a node in its iterator, and answers whether its filter passes it.
+    pub(crate) fn begins(
+        &mut self,
+        key: Key,
+        iterator: u32,
+        filter: &Expr,
+        node: u32,
+        mode: Mode,
+        around: &Around,
+    ) -> Result<bool, NoMemory>
+        requires ready { IsReady around.now.setting.now self.old }
+        requires bound { iterator < around.now.setting.now.variables }
+        ensures { IfOk result (λ passed. Begins around.now.setting.now (mode_of mode) self.old self.new passed
+            (λ body s. turn_at (loop_of around.now) (mode_of mode) key (expr_of filter.now) body iterator node s)) }
+    {
+        self.fault = None;
+        self.write(Write {
+            slot: Slot::Scalar(iterator),
+            value: Value::At(Some(node)),
+        })?;
+        match around.sight(mode, key).value(filter, &self.store) {
+            Ok(passed) => Ok(is_true(passed)),
+            Err(fault) => {
+                self.fail(fault);
+                Ok(false)
+            }
+        }
+    }
+
+    // The end of an inner loop: its totals are closed, and its fault is the least of its iterations and totals.
+    pub(crate) fn close_inner(&mut self, least: Option<Fault>) -> Result<(), NoMemory>
+        requires { Within (shape_of self.old.store) self.old.inner }
+        ensures { OnOk result ((f : Setting) → Closes f self.old self.new least) }
+    {
+        let closed = self.inner.closed(self.alloc, &self.store)?;
+        self.inner.clear();
+        self.fault = sooner(least, closed.fault);
+        write_all(&mut self.store, closed.writes.as_slice())?;
+        Ok(())
+    }
+}

@@ -1,0 +1,11 @@
+-- The values of the outputs so far.
+use Rattle.std.proofs.Common.{◌≡◌, ◌++◌, drop, map}
+use Rattle.gm_image.specs.Views.{output}
+use Rattle.gm_machine.specs.Fields.{fields_of}
+use Rattle.gm_machine.specs.Machine.{properties, column_of}
+use Rattle.gm_machine.proofs.ends.properties.Given as goal
+
+abbrev pub invariant-loop-item : goal.invariant-loop-item
+invariant-loop-item l =
+    l.columns.items ++ map (λ i. column_of (fields_of l.fields) i.slot) (properties (map output (drop l.item-index l.outputs)))
+    ≡ map (λ i. column_of (fields_of l.fields) i.slot) (properties (map output l.outputs))

@@ -1,0 +1,131 @@
+//! The fields of all nodes, in a typed row for each field.
+
+ghost use Rattle.std.specs.Prelude.{◌≡◌, ◌<◌, ◌≤◌, ℕ, OnOk, IfOk, All, None, [], map, length, replicate, slice_index_or, slice_set};
+ghost use Rattle.gm_value.specs.declared.values.Value.TheVariants.{At};
+ghost use Rattle.gm_machine.specs.Cells.{values_of};
+ghost use Rattle.gm_machine.specs.Fields.{with_row, fields_of, columns_of, IsFull};
+ghost use Rattle.gm_machine.specs.Machine.{row_at, column_of};
+
+use crate::cells::Cells;
+use gm_base::NoMemory;
+use gm_graph::Values;
+use gm_value::{VType, Value};
+use std::alloc::Global;
+
+// The fields of so many nodes: a row of cells for each field.
+#[derive(Drop)]
+pub(crate) struct Fields {
+    nodes: usize,
+    rows: Vec<Cells>,
+}
+
+// Puts the values of a node, one of each row, into a list.
+fn load(rows: &[Cells], node: usize, into: &mut Vec<Value>) -> Result<(), NoMemory>
+    requires { All (λ values. node < length values) (map values_of rows.now) }
+    ensures { OnOk result (into.new.items ≡ row_at (map values_of rows.now) node) }
+{
+    into.clear();
+    for row in rows {
+        into.push(row.get(node))?;
+    }
+    Ok(())
+}
+
+// Writes a value of a node into a row.
+fn write(
+    alloc: Global,
+    rows: &mut Vec<Cells>,
+    slot: usize,
+    node: usize,
+    value: Value,
+) -> Result<(), NoMemory>
+    requires slot { slot < length rows.old.items }
+    requires node { node < length (slice_index_or (map values_of rows.old.items) slot []) }
+    ensures { OnOk result (map values_of rows.new.items
+        ≡ slice_set (map values_of rows.old.items) slot (slice_set (slice_index_or (map values_of rows.old.items) slot []) node value)) }
+{
+    let row = &mut rows[slot];
+    row.set(alloc, node, value)?;
+    Ok(())
+}
+
+// Writes the values of a node, one into each row.
+fn store(alloc: Global, rows: &mut Vec<Cells>, node: usize, from: &[Value]) -> Result<(), NoMemory>
+    requires node { All (λ values. node < length values) (map values_of rows.old.items) }
+    requires wide { length from.now ≡ length rows.old.items }
+    ensures { OnOk result (map values_of rows.new.items ≡ with_row (map values_of rows.old.items) node from.now) }
+{
+    for slot in 0..rows.len() {
+        write(alloc, rows, slot, node, from[slot])?;
+    }
+    Ok(())
+}
+
+// NIL at each node.
+fn nothing(alloc: Global, nodes: usize) -> Result<Values, NoMemory>
+    ensures { IfOk result (λ values. values ≡ replicate nodes (At None)) }
+{
+    let values = vec![in alloc; Value::At(None); nodes]?;
+    Ok(Values::of_any_type(values))
+}
+
+impl Fields {
+    // A row for each of some types, with the type's zero at each node.
+    pub(crate) fn new(alloc: Global, types: &[VType], nodes: usize) -> Result<Fields, NoMemory>
+        ensures nodes { IfOk result (λ f. f.nodes ≡ nodes) }
+        ensures full { IfOk result (λ f. IsFull (length types.now) f) }
+    {
+        let mut rows = Vec::new(alloc);
+        for t in types {
+            rows.push(Cells::Uniform {
+                value: t.zero(),
+                nodes,
+            })?;
+        }
+        Ok(Fields { nodes, rows })
+    }
+
+    // Puts the fields of a node into a list.
+    pub(crate) fn load(&self, node: usize, into: &mut Vec<Value>) -> Result<(), NoMemory>
+        requires node { node < self.now.nodes }
+        requires full { IsFull (length self.now.rows.items) self.now }
+        ensures { OnOk result (into.new.items ≡ slice_index_or (fields_of self.now) node []) }
+    {
+        load(&self.rows, node, into)?;
+        Ok(())
+    }
+
+    // Writes the fields of a node.
+    pub(crate) fn store(
+        &mut self,
+        alloc: Global,
+        node: usize,
+        from: &[Value],
+    ) -> Result<(), NoMemory>
+        requires node { node < self.old.nodes }
+        requires full { IsFull (length from.now) self.old }
+        ensures nodes { OnOk result (self.new.nodes ≡ self.old.nodes) }
+        ensures full { OnOk result (IsFull (length from.now) self.new) }
+        ensures fields { OnOk result (fields_of self.new ≡ slice_set (fields_of self.old) node from.now) }
+    {
+        store(alloc, &mut self.rows, node, from)?;
+        Ok(())
+    }
+
+    // The values of a field by node, NIL where there is no such field.
+    pub(crate) fn column(&self, alloc: Global, slot: usize) -> Result<Values, NoMemory>
+        requires { IsFull (length self.now.rows.items) self.now }
+        ensures { IfOk result (λ values. values ≡ column_of (fields_of self.now) slot) }
+    {
+        match self.rows.get(slot) {
+            Some(row) => {
+                let values = row.finished(alloc)?;
+                Ok(values)
+            }
+            None => {
+                let values = nothing(alloc, self.nodes)?;
+                Ok(values)
+            }
+        }
+    }
+}

@@ -1,0 +1,10 @@
+pub mod Numbers
+pub mod Rows
+pub mod Going
+pub mod Turns
+pub mod Trees
+pub mod Levels
+pub mod Blocks
+pub mod Ways
+pub mod Wholes
+pub mod Inputs

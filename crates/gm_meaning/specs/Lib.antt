@@ -1,0 +1,4 @@
+pub mod Phases
+pub mod Searches
+pub mod Inputs
+pub mod Ends

@@ -1,0 +1,11 @@
+//! What comes between a checked program and its listing: its graph, its arguments and its run.
+#![tactic(auto)]
+
+mod answers;
+mod laws;
+mod programs;
+mod runs;
+
+pub use answers::run_text;
+pub use laws::rows_are_worked;
+pub use runs::{RunStop, run_file, run_over, run_rest};

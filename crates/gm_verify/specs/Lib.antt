@@ -1,0 +1,7 @@
+pub mod Checks
+pub mod Tests
+pub mod Items
+pub mod Firsts
+pub mod Scopes
+pub mod Sites
+pub mod Tails
