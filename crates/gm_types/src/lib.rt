@@ -1,6 +1,7 @@
 //! Types: each name's declaration, each part's type, and the least rule that is broken.
 #![tactic(auto)]
 
+mod assembled;
 mod assignments;
 mod declarations;
 mod expressions;

@@ -5,16 +5,20 @@ ghost use Rattle.gm_ast.specs.Judged.{both_of, part_by, broken_by};
 ghost use Rattle.gm_ast.specs.Names.{operators_of, known_as, numbered};
 ghost use Rattle.gm_ast.specs.Surface.{sequence};
 ghost use Rattle.gm_ast.specs.Program as Program;
-ghost use Rattle.gm_ast.specs.Typing.{typed, head_with};
-ghost use Rattle.gm_ast.specs.Statements.{assignment, assigned, grouped, group_target, in_group, deferred, names_graph, test, checked, rooted, graph_searched, search_of, loops_of, loop_of};
+ghost use Rattle.gm_ast.specs.Typing.{typed};
+ghost use Rattle.gm_ast.specs.Statements.{assignment, assigned, grouped, group_target, in_group, deferred, names_graph, test, checked, rooted, graph_searched};
 ghost use Rattle.gm_ast.specs.SurfaceTree as SurfaceTree;
 ghost use Rattle.gm_ast.specs.SurfaceTree.{name_of, target_of};
 ghost use Rattle.gm_ast.specs.Tree.{expr_of, stmt_of};
 ghost use Rattle.gm_types.specs.Parts.{part_of};
 ghost use Rattle.gm_types.specs.Groups.{group_of};
 ghost use Rattle.gm_types.specs.Views.{env_of, Judges, Follows};
-ghost use Rattle.gm_types.specs.Shapes.{branch_in, under_key, deferred_at, reduced_at, increment_at, return_at};
+ghost use Rattle.gm_types.specs.Shapes.{branch_in, deferred_at, reduced_at, increment_at, return_at};
 
+use crate::assembled::{
+    Half, bfs_both_with, bfs_with, block_of, do_with, enclosed, if_with, loop_with, loops_of,
+    while_with,
+};
 use crate::assignments::{GroupGoal, assign, defer, give_back, group, group_goal, increment};
 use crate::expressions::start_of;
 use crate::leaves::is_node;
@@ -22,10 +26,9 @@ use crate::lists::pushed;
 use crate::names::Checker;
 use crate::notes::note;
 use crate::parts::{Part, condition};
-use crate::reductions::head_with;
 use gm_ast::kinds::Binding;
-use gm_ast::surface::{LoopWord, Name, SpelledExpr, SpelledHead, SpelledStmt, SpelledTarget};
-use gm_ast::tree::{Expr, Key, Search, Sort, Stage, Stmt};
+use gm_ast::surface::{Name, SpelledExpr, SpelledStmt, SpelledTarget};
+use gm_ast::tree::{Expr, Key, Sort, Stage, Stmt};
 use gm_base::{Place, Rule};
 use gm_value::{Reduce, Value};
 use std::alloc::{AllocError, Global};
@@ -35,320 +38,6 @@ use std::alloc::{AllocError, Global};
 pub struct Around {
     pub key: Key,
     pub known: usize,
-}
-
-// A part of a search: its filter and its body, where they have types.
-#[derive(Drop)]
-struct Half {
-    filter: Option<Expr>,
-    body: Option<Stmt>,
-}
-
-fn loops_of(word: LoopWord) -> u32
-    ensures { result ≡ loops_of word }
-{
-    match word {
-        LoopWord::Foreach => 1,
-        LoopWord::For => 0,
-    }
-}
-
-// A statement whose name after `@` breaks no rule.
-fn enclosed(stmt: Option<Stmt>, iterator: Option<u32>) -> Option<Stmt>
-    ensures { option_map stmt_of result ≡ part_by (both_of (option_map stmt_of stmt) iterator) (λ p. Ok p.0) }
-{
-    match stmt {
-        None => None,
-        Some(stmt) => match iterator {
-            None => None,
-            Some(_) => Some(stmt),
-        },
-    }
-}
-
-// The block of some statements.
-fn block_of(stmts: Option<Vec<Stmt>>) -> Option<Stmt>
-    ensures { option_map stmt_of result ≡ option_map (λ v. Program.sequence (map stmt_of v.items)) stmts }
-{
-    match stmts {
-        None => None,
-        Some(stmts) => Some(Stmt::Block(stmts)),
-    }
-}
-
-// The loop of a word, whose parts may have no types.
-fn loop_with(
-    alloc: Global,
-    word: LoopWord,
-    key: Key,
-    place: Place,
-    head: &SpelledHead,
-    owner: Option<Binding>,
-    iterator: u32,
-    filter: Option<Expr>,
-    body: Option<Stmt>,
-) -> Result<Option<Stmt>, AllocError>
-    ensures { IfOk result (λ r. option_map stmt_of r ≡ part_by (both_of owner (both_of (Some iterator) (both_of (option_map expr_of filter) (option_map stmt_of body)))) (λ p. Ok (loop_of word key place (head_with (SurfaceTree.head_of head.now) p.0 p.1.0) p.1.1.0 p.1.1.1))) }
-{
-    match owner {
-        None => Ok(None),
-        Some(owner) => match filter {
-            None => Ok(None),
-            Some(filter) => match body {
-                None => Ok(None),
-                Some(body) => {
-                    let head = head_with(head, owner, iterator);
-                    let body = Box::new(alloc, body)?;
-                    Ok(Some(match word {
-                        LoopWord::Foreach => Stmt::Foreach {
-                            key,
-                            place,
-                            head,
-                            filter,
-                            body,
-                        },
-                        LoopWord::For => Stmt::For {
-                            key,
-                            place,
-                            head,
-                            filter,
-                            body,
-                        },
-                    }))
-                }
-            },
-        },
-    }
-}
-
-// A choice between statements, whose parts may have no types.
-fn if_with(
-    alloc: Global,
-    key: Key,
-    test: Option<Expr>,
-    yes: Option<Stmt>,
-    no: Option<Stmt>,
-) -> Result<Option<Stmt>, AllocError>
-    ensures { IfOk result (λ r. option_map stmt_of r ≡ part_by (both_of (option_map expr_of test) (both_of (option_map stmt_of yes) (option_map stmt_of no))) (λ p. Ok (Program.If key p.0 p.1.0 p.1.1))) }
-{
-    match test {
-        None => Ok(None),
-        Some(test) => match yes {
-            None => Ok(None),
-            Some(yes) => match no {
-                None => Ok(None),
-                Some(no) => {
-                    let yes = Box::new(alloc, yes)?;
-                    let no = Box::new(alloc, no)?;
-                    Ok(Some(Stmt::If { key, test, yes, no }))
-                }
-            },
-        },
-    }
-}
-
-// A loop with its condition first, whose parts may have no types.
-fn while_with(
-    alloc: Global,
-    key: Key,
-    place: Place,
-    test: Option<Expr>,
-    body: Option<Stmt>,
-) -> Result<Option<Stmt>, AllocError>
-    ensures { IfOk result (λ r. option_map stmt_of r ≡ part_by (both_of (option_map expr_of test) (option_map stmt_of body)) (λ p. Ok (Program.While key place p.0 p.1))) }
-{
-    match test {
-        None => Ok(None),
-        Some(test) => match body {
-            None => Ok(None),
-            Some(body) => {
-                let body = Box::new(alloc, body)?;
-                Ok(Some(Stmt::While {
-                    key,
-                    place,
-                    test,
-                    body,
-                }))
-            }
-        },
-    }
-}
-
-// A loop with its condition last, whose parts may have no types.
-fn do_with(
-    alloc: Global,
-    key: Key,
-    place: Place,
-    body: Option<Stmt>,
-    test: Option<Expr>,
-) -> Result<Option<Stmt>, AllocError>
-    ensures { IfOk result (λ r. option_map stmt_of r ≡ part_by (both_of (option_map stmt_of body) (option_map expr_of test)) (λ p. Ok (Program.Do key place p.0 p.1))) }
-{
-    match body {
-        None => Ok(None),
-        Some(body) => match test {
-            None => Ok(None),
-            Some(test) => {
-                let body = Box::new(alloc, body)?;
-                Ok(Some(Stmt::Do {
-                    key,
-                    place,
-                    body,
-                    test,
-                }))
-            }
-        },
-    }
-}
-
-// A search with its names resolved.
-fn search_with(root: &Name, graph: Binding, start: Binding, iterator: u32) -> Search
-    ensures { result ≡ search_of (name_of root.now) (graph, start) iterator }
-{
-    Search {
-        iterator,
-        graph: graph.index,
-        root: start.index,
-        place: root.place,
-    }
-}
-
-// A search without a part after InReverse, whose parts may have no types.
-fn bfs_with(
-    alloc: Global,
-    key: Key,
-    place: Place,
-    root: &Name,
-    graph: Option<Binding>,
-    start: Option<Binding>,
-    iterator: u32,
-    filter: Option<Expr>,
-    body: Option<Stmt>,
-) -> Result<Option<Stmt>, AllocError>
-    ensures { IfOk result (λ r. option_map stmt_of r ≡ part_by (both_of (both_of graph start) (both_of (Some iterator) (both_of (option_map expr_of filter) (option_map stmt_of body)))) (λ p. Ok (Program.InBfs key place (search_of (name_of root.now) p.0 p.1.0) p.1.1.0 p.1.1.1))) }
-{
-    match graph {
-        None => Ok(None),
-        Some(graph) => match start {
-            None => Ok(None),
-            Some(start) => match filter {
-                None => Ok(None),
-                Some(filter) => match body {
-                    None => Ok(None),
-                    Some(body) => {
-                        let body = Box::new(alloc, body)?;
-                        Ok(Some(Stmt::InBfs {
-                            key,
-                            place,
-                            search: search_with(root, graph, start, iterator),
-                            filter,
-                            body,
-                        }))
-                    }
-                },
-            },
-        },
-    }
-}
-
-// A search with a part after InReverse, whose filters and bodies may have no types.
-fn halves_with(
-    alloc: Global,
-    key: Key,
-    place: Place,
-    search: Search,
-    front: Half,
-    back_key: Key,
-    back: Half,
-) -> Result<Option<Stmt>, AllocError>
-    ensures { IfOk result (λ r. option_map stmt_of r ≡ option_map (λ p. Program.InBfsBoth key place search p.0.0 p.0.1 back_key p.1.0 p.1.1) (both_of (both_of (option_map expr_of front.filter) (option_map stmt_of front.body)) (both_of (option_map expr_of back.filter) (option_map stmt_of back.body)))) }
-{
-    let Half { filter, body } = front;
-    let Half {
-        filter: back_filter,
-        body: back,
-    } = back;
-    match filter {
-        None => Ok(None),
-        Some(filter) => match body {
-            None => Ok(None),
-            Some(body) => match back_filter {
-                None => Ok(None),
-                Some(back_filter) => match back {
-                    None => Ok(None),
-                    Some(outer) => {
-                        let stmt = bfs_both(
-                            alloc,
-                            key,
-                            place,
-                            search,
-                            filter,
-                            body,
-                            back_key,
-                            back_filter,
-                            outer,
-                        )?;
-                        Ok(Some(stmt))
-                    }
-                },
-            },
-        },
-    }
-}
-
-// A search with a part after InReverse, whose parts have types.
-fn bfs_both(
-    alloc: Global,
-    key: Key,
-    place: Place,
-    search: Search,
-    filter: Expr,
-    body: Stmt,
-    back_key: Key,
-    back_filter: Expr,
-    back: Stmt,
-) -> Result<Stmt, AllocError>
-    ensures { IfOk result (λ r. stmt_of r ≡ Program.InBfsBoth key place search (expr_of filter) (stmt_of body) back_key (expr_of back_filter) (stmt_of back)) }
-{
-    let body = Box::new(alloc, body)?;
-    let back = Box::new(alloc, back)?;
-    Ok(Stmt::InBfsBoth {
-        key,
-        place,
-        search,
-        filter,
-        body,
-        back_key,
-        back_filter,
-        back,
-    })
-}
-
-// A search with a part after InReverse, whose parts may have no types.
-fn bfs_both_with(
-    alloc: Global,
-    key: Key,
-    place: Place,
-    root: &Name,
-    graph: Option<Binding>,
-    start: Option<Binding>,
-    iterator: u32,
-    front: Half,
-    back_key: Key,
-    back: Half,
-) -> Result<Option<Stmt>, AllocError>
-    ensures { IfOk result (λ r. option_map stmt_of r ≡ part_by (both_of (both_of graph start) (both_of (Some iterator) (both_of (both_of (option_map expr_of front.filter) (option_map stmt_of front.body)) (option_map (under_key back_key) (both_of (option_map expr_of back.filter) (option_map stmt_of back.body)))))) (λ p. Ok (Program.InBfsBoth key place (search_of (name_of root.now) p.0 p.1.0) p.1.1.0.0 p.1.1.0.1 p.1.1.1.0 p.1.1.1.1.0 p.1.1.1.1.1))) }
-{
-    match graph {
-        None => Ok(None),
-        Some(graph) => match start {
-            None => Ok(None),
-            Some(start) => {
-                let search = search_with(root, graph, start, iterator);
-                halves_with(alloc, key, place, search, front, back_key, back)
-            }
-        },
-    }
 }
 
 impl<'a> Checker<'a> {
