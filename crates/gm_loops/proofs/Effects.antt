@@ -1,5 +1,5 @@
 -- What the effects of statements do to a loop's iterations.
-use Rattle.std.proofs.Common.{zero, suc, nat_eq, Bool, false, Ok, Err, if◌then◌else◌, ◌≤◌, arith, rules, true, ◌≡◌, ◌∙◌, ℕ, List, [], ◌∷◌, ◌++◌, Some, refl, ap, sym, subst}
+use Rattle.std.proofs.Common.{zero, suc, nat_eq, Bor, Bool, false, Ok, Err, if◌then◌else◌, ◌≤◌, arith, rules, true, ◌≡◌, ◌∙◌, ℕ, List, [], ◌∷◌, ◌++◌, Some, refl, ap, sym, subst}
 use Rattle.std.specs.Prelude.{All, option_map}
 use Rattle.std.proofs.lemmas.List.{append-nil, append_assoc}
 use Rattle.gm_source.specs.declared.contributions.Contribution.{Contribution}
@@ -8,6 +8,8 @@ use Rattle.gm_source.specs.declared.slots.Write.{Write}
 use Rattle.gm_source.specs.Stores.{Store, write}
 use Rattle.gm_graph.specs.Graphs.{node_count}
 use Rattle.gm_ast.specs.declared.tree.Key.{Key}
+use Rattle.gm_value.specs.declared.values.Value.{Value}
+use Rattle.gm_value.specs.declared.values.Value.TheVariants.{At}
 use Rattle.gm_source.specs.declared.slots.Slot.{Slot}
 use Rattle.gm_source.specs.declared.slots.Slot.TheVariants.{Scalar, Node}
 use Rattle.gm_ast.specs.declared.tree.Target.{Target}
@@ -22,9 +24,10 @@ use Rattle.gm_totals.specs.Standing.{StandsFor, Within}
 use Rattle.gm_loops.specs.declared.goings.Going.{Going}
 use Rattle.gm_loops.specs.declared.sights.Setting.{Setting}
 use Rattle.gm_loops.specs.declared.around.Around.{Around}
+use Rattle.gm_loops.specs.declared.scopes.Scope as S
 use Rattle.gm_loops.specs.declared.scopes.Scope.{the_lemmas as scope_lemmas}
 use Rattle.gm_loops.specs.Around.{loop_of}
-use Rattle.gm_loops.specs.Scopes.{inside, no_scope}
+use Rattle.gm_loops.specs.Scopes.{inside, no_scope, scalar_in}
 use Rattle.gm_loops.specs.Sights.{Fits, edges_in, level_in, view_of}
 use Rattle.gm_loops.specs.Targets.{room}
 use Rattle.gm_loops.specs.Goings.{Does, Stands}
@@ -101,6 +104,10 @@ does-give_outermost f m old new c slot stands within = record {
 -- outside reductions the store is as it is
 pub inside-none : (s : Store) → inside no_scope s ≡ s
 inside-none s = search (rules, scope_lemmas)
+
+-- inside a reduction its iterator is a node
+pub scalar-bound : (i n : ℕ) (o : Bor S.Scope) (f : ℕ → Value) (y : ℕ) → scalar_in (S.Bound i n o) f y ≡ (if nat_eq i y then At (Some n) else scalar_in o.now f y)
+scalar-bound i n o f y = search (rules, scope_lemmas)
 
 -- what a statement of a body sees is what the code's sight shows
 pub view-same : (a : Around) (m : Mode) (key : Key) (h : Held) (it : Iteration) → store_of (edges_in a.setting.now) h ≡ it.store

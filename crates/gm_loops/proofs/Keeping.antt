@@ -113,11 +113,11 @@ own-written x h q n top [] t e = sym e ∙ top
 own-written x h q n top (w ∷ ws) t e = written-at h q n w (undone x ws) t ws (own-written x h q n top ws) w.slot refl e
 
 -- what nodes hold after one more iteration
-left-other : (turn : ℕ → Iteration) (s : Store) (n q m : ℕ) → nat_eq n m ≡ false → (ks : List ℕ) → left_at (ks ++ n ∷ []) (map turn (ks ++ n ∷ [])) s q m ≡ left_at ks (map turn ks) s q m
+pub left-other : (turn : ℕ → Iteration) (s : Store) (n q m : ℕ) → nat_eq n m ≡ false → (ks : List ℕ) → left_at (ks ++ n ∷ []) (map turn (ks ++ n ∷ [])) s q m ≡ left_at ks (map turn ks) s q m
 left-other turn s n q m other [] = ap (λ (b : Bool). if b then (turn n).store.node q m else s.node q m) other
 left-other turn s n q m other (k ∷ ks) = ap (λ (v : Value). if nat_eq k m then (turn k).store.node q m else v) (left-other turn s n q m other ks)
 
-left-own : (turn : ℕ → Iteration) (s : Store) (n q : ℕ) (ks : List ℕ) → left_at (ks ++ n ∷ []) (map turn (ks ++ n ∷ [])) s q n ≡ (turn n).store.node q n
+pub left-own : (turn : ℕ → Iteration) (s : Store) (n q : ℕ) (ks : List ℕ) → left_at (ks ++ n ∷ []) (map turn (ks ++ n ∷ [])) s q n ≡ (turn n).store.node q n
 left-own turn s n q [] = ap (λ (b : Bool). if b then (turn n).store.node q n else s.node q n) (nat_eq-same n)
 left-own turn s n q (k ∷ ks) = by (nat_eq k n) refl (left-own turn s n q ks) where
   by : (b : Bool) → nat_eq k n ≡ b → left_at (ks ++ n ∷ []) (map turn (ks ++ n ∷ [])) s q n ≡ (turn n).store.node q n → (if b then (turn k).store.node q n else left_at (ks ++ n ∷ []) (map turn (ks ++ n ∷ [])) s q n) ≡ (turn n).store.node q n
@@ -125,7 +125,7 @@ left-own turn s n q (k ∷ ks) = by (nat_eq k n) refl (left-own turn s n q ks) w
   by false e rest = rest
 
 -- before it the node held what its own iteration left, if there was one, and else what it had
-left-before : (turn : ℕ → Iteration) (s : Store) (n q : ℕ) (ks : List ℕ) → (left_at ks (map turn ks) s q n ≡ (turn n).store.node q n) ⊎ (left_at ks (map turn ks) s q n ≡ s.node q n)
+pub left-before : (turn : ℕ → Iteration) (s : Store) (n q : ℕ) (ks : List ℕ) → (left_at ks (map turn ks) s q n ≡ (turn n).store.node q n) ⊎ (left_at ks (map turn ks) s q n ≡ s.node q n)
 left-before turn s n q [] = inr refl
 left-before turn s n q (k ∷ ks) = by (nat_eq k n) refl (left-before turn s n q ks) where
   by : (b : Bool) → nat_eq k n ≡ b → (left_at ks (map turn ks) s q n ≡ (turn n).store.node q n) ⊎ (left_at ks (map turn ks) s q n ≡ s.node q n)
@@ -133,7 +133,7 @@ left-before turn s n q (k ∷ ks) = by (nat_eq k n) refl (left-before turn s n q
   by true e rest = inl (ap (λ (j : ℕ). (turn j).store.node q n) (eqb-true k n e))
   by false e rest = rest
 
-same-store : (a b : Store) → a.scalar ≡ b.scalar → a.node ≡ b.node → a.edge ≡ b.edge → a ≡ b
+pub same-store : (a b : Store) → a.scalar ≡ b.scalar → a.node ≡ b.node → a.edge ≡ b.edge → a ≡ b
 same-store a b p q r =
     ap (λ (f : ℕ → Value). let u : Store = record { scalar = f; node = a.node; edge = a.edge } in u) p
     ∙ ap (λ (f : ℕ → ℕ → Value). let u : Store = record { scalar = b.scalar; node = f; edge = a.edge } in u) q
@@ -187,7 +187,7 @@ pub kept-left : (n : ℕ) (h : Held) (w : Write) → is_at n w.slot ≡ false �
 kept-left n h w e = kept_by n h w [] false e
 
 -- no write is set, and one more is
-overlaid-last : (s : Store) (ws : List Write) (w : Write) → overlaid s (ws ++ w ∷ []) ≡ write (overlaid s ws) w.slot w.value
+pub overlaid-last : (s : Store) (ws : List Write) (w : Write) → overlaid s (ws ++ w ∷ []) ≡ write (overlaid s ws) w.slot w.value
 overlaid-last s ws w = overlaid-append s ws (w ∷ [])
 
 pub sets-none : (h : Held) → Sets h h []

@@ -8,3 +8,4 @@ pub mod Closing
 pub mod Statements
 pub mod Keeping
 pub mod Looping
+pub mod Deeds

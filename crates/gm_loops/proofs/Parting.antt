@@ -54,3 +54,8 @@ faults-append f xs ys =
 -- one part after others
 pub joined-one : {A : Type 0} (xs : List A) → joined (xs ∷ []) ≡ xs
 joined-one xs = append-nil xs
+
+-- where the second is none the first is the least
+pub sooner_none : (o : Option Fault) → sooner o None ≡ o
+sooner_none None = refl
+sooner_none (Some f) = refl

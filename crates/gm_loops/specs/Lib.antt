@@ -10,3 +10,4 @@ pub mod Goings
 pub mod LoopEnds
 pub mod Turns
 pub mod Own
+pub mod Shorts

@@ -69,6 +69,7 @@ impl Setting<'_> {
 
 impl Mode {
     // The edge that a body sees.
+    #[inline(always)]
     pub fn edge(self) -> u32
         ensures { result ≡ edge_of (mode_of self) }
     {
@@ -163,6 +164,7 @@ impl Body<'_> {
 
 impl<'a> Around<'a> {
     // What the operators of a statement see.
+    #[inline(always)]
     pub(crate) fn sight(&self, mode: Mode, key: Key) -> Sight<'a>
         ensures { result ≡ record { setting = self.now.setting; levels = self.now.levels; parallel = true; edge = edge_of (mode_of mode); key = key } }
     {

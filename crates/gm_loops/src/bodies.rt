@@ -14,12 +14,12 @@ ghost use Rattle.gm_loops.specs.Goings.{Does, IsReady};
 ghost use Rattle.gm_loops.specs.Ranges.{step_of};
 ghost use Rattle.gm_loops.specs.Turns.{inner_turn, DoesTurns};
 
-use crate::around::{Around, Mode};
+use crate::around::{Around, Body, Mode};
 use crate::goings::Going;
 use crate::parts::is_true;
 use crate::ranges::Hop;
 use crate::scopes::Scope;
-use crate::turns::sooner;
+use crate::turns::keep_least;
 use gm_ast::tree::{Expr, Head, Key, Stmt};
 use gm_base::NoMemory;
 use gm_source::faults::Fault;
@@ -154,7 +154,7 @@ impl Going {
         for k in 0..range.count() {
             if let Some(hop) = range.at(k) {
                 self.inner_turn(key, head.iterator, body, filter, hop, around)?;
-                least = sooner(least, self.fault);
+                keep_least(&mut least, &self.fault);
             }
         }
         Ok(least)
@@ -163,6 +163,38 @@ impl Going {
     // One iteration of an inner loop, after which the store is as it was.
     #[cycle(doing)]
     fn inner_turn(
+        &mut self,
+        key: Key,
+        iterator: u32,
+        body: &Stmt,
+        filter: &Expr,
+        hop: Hop,
+        around: &Around,
+    ) -> Result<(), NoMemory>
+        requires ready { IsReady around.now.setting.now self.old }
+        requires iterator { iterator < around.now.setting.now.variables }
+        requires bound { bound_of (stmt_of body.now) ≤ around.now.setting.now.variables }
+        ensures { OnOk result (DoesTurns around.now.setting.now (iterations.AtEdge 0) self.old self.new self.new.fault
+            (λ s. inner_turn (loop_of around.now) key (expr_of filter.now) (stmt_of body.now) iterator (step_of hop) s ∷ [])) }
+    {
+        match self.deed_at(
+            key,
+            iterator,
+            Body::Statement(body),
+            filter,
+            hop.node,
+            Mode::AtEdge(hop.edge),
+            around,
+        ) {
+            Some(deed) => self.take(deed)?,
+            None => self.long_inner_turn(key, iterator, body, filter, hop, around)?,
+        }
+        Ok(())
+    }
+
+    // One iteration of an inner loop, done in the store and taken back.
+    #[cycle(doing)]
+    fn long_inner_turn(
         &mut self,
         key: Key,
         iterator: u32,

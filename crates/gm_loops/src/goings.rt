@@ -31,7 +31,8 @@ pub struct Going {
 }
 
 // What a reduction assignment gives.
-fn contribution(total: TotalKey, reduce: Reduce, write: Write) -> Contribution
+#[inline(always)]
+pub(crate) fn contribution(total: TotalKey, reduce: Reduce, write: Write) -> Contribution
     ensures { result ≡ contribution total reduce (write.slot, write.value) }
 {
     Contribution {

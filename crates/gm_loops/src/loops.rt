@@ -19,7 +19,7 @@ ghost use Rattle.gm_loops.specs.Turns.{seen, DoesTurn, DoesTurns, Follows, Keeps
 use crate::around::{Around, Body, Mode};
 use crate::goings::Going;
 use crate::own::{keep_own, set_all};
-use crate::turns::sooner;
+use crate::turns::{keep_least, sooner};
 use gm_ast::tree::{Expr, Key};
 use gm_base::NoMemory;
 use gm_source::faults::Fault;
@@ -101,13 +101,53 @@ impl Going {
         let mut least = None;
         for k in 0..nodes.count() {
             self.outer_turn(around, key, filter, nodes.at(k), own)?;
-            least = sooner(least, self.fault);
+            keep_least(&mut least, &self.fault);
         }
         Ok(least)
     }
 
     // One iteration of an outermost loop, after which the store is as it was. What it wrote at its own node is kept.
+    #[inline(always)]
     fn outer_turn(
+        &mut self,
+        around: &Around,
+        key: Key,
+        filter: &Expr,
+        node: u32,
+        own: &mut Vec<Write>,
+    ) -> Result<(), NoMemory>
+        requires ready { IsReady around.now.setting.now self.old }
+        requires quiet { self.old.store.undo ≡ [] }
+        requires iterator { around.now.outer < around.now.setting.now.variables }
+        requires bound { bound_of (body_of around.now.body) ≤ around.now.setting.now.variables }
+        requires slots { All (λ w. HasSlot (shape_of self.old.store) w.slot) own.old.items }
+        ensures turn { OnOk result (DoesTurns around.now.setting.now iterations.Outermost self.old self.new self.new.fault
+            (λ s. iteration (loop_of around.now) key (expr_of filter.now) (body_of around.now.body) s node ∷ [])) }
+        ensures own { let s = seen around.now.setting.now self.old in
+            let turn = iteration (loop_of around.now) key (expr_of filter.now) (body_of around.now.body) s in
+            OnOk result ((b : Before) (ks : List ℕ) → Follows iterations.Outermost b self.old → KeepsOwn s own.old.items ks turn → KeepsOwn s own.new.items (ks ++ node ∷ []) turn) }
+        ensures slots { OnOk result (All (λ w. HasSlot (shape_of self.old.store) w.slot) own.new.items) }
+    {
+        match self.deed_at(
+            key,
+            around.outer,
+            around.body,
+            filter,
+            node,
+            Mode::Outermost,
+            around,
+        ) {
+            Some(deed) => {
+                self.take(deed)?;
+                deed.keep(own)?;
+            }
+            None => self.long_turn(around, key, filter, node, own)?,
+        }
+        Ok(())
+    }
+
+    // One iteration of an outermost loop, done in the store and taken back. What it wrote at its own node is kept.
+    fn long_turn(
         &mut self,
         around: &Around,
         key: Key,
@@ -195,6 +235,7 @@ impl LoopNodes<'_> {
     }
 
     // The k-th node.
+    #[inline(always)]
     fn at(&self, k: usize) -> u32
         requires { k < length (nodes_in self.now) }
         ensures { (d : ℕ) → result ≡ slice_index_or (nodes_in self.now) k d }

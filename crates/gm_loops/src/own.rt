@@ -9,7 +9,8 @@ use gm_source::slots::{Slot, Write};
 use gm_store::Store;
 
 // Whether a slot is at a node.
-fn is_at(node: u32, slot: Slot) -> bool
+#[inline(always)]
+pub(crate) fn is_at(node: u32, slot: Slot) -> bool
     ensures { result ≡ is_at node slot }
 {
     match slot {

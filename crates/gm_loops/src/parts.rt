@@ -26,10 +26,14 @@ pub(crate) struct Evaluated {
 }
 
 /// Whether a value is True: its number is above 0.
+#[inline(always)]
 pub fn is_true(value: Value) -> bool
     ensures { result ≡ is_true value }
 {
-    value.number() > 0
+    match value {
+        Value::Flag(holds) => holds,
+        _ => value.number() > 0,
+    }
 }
 
 // An operation's result, or its fault at its place.

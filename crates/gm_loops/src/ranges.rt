@@ -64,6 +64,7 @@ impl Range<'_> {
     }
 
     // The k-th edge, with the node to which it leads.
+    #[inline(always)]
     fn hop(&self, k: u32) -> Hop
         requires start { HasStart (node_count self.now.graph.now) self.now.edges }
         requires within { k < length (all_steps self.now) }
@@ -95,6 +96,7 @@ impl Range<'_> {
     }
 
     // Whether the course takes a step to a node.
+    #[inline(always)]
     fn takes(&self, node: u32) -> bool
         ensures { result ≡ takes (levels_by self.now) self.now.course node }
     {
@@ -106,6 +108,7 @@ impl Range<'_> {
     }
 
     // The k-th edge, if the course takes it.
+    #[inline(always)]
     pub fn at(&self, k: u32) -> Option<Hop>
         requires start { HasStart (node_count self.now.graph.now) self.now.edges }
         requires within { k < length (all_steps self.now) }

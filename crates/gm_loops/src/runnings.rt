@@ -1,12 +1,12 @@
 //! The elements of a reduction, taken one by one.
 
-ghost use Rattle.std.specs.Prelude.{◌≡◌, ◌∷◌, [], IfOk, List, Result, false};
+ghost use Rattle.std.specs.Prelude.{◌≡◌, ◌∷◌, ◌++◌, [], IfOk, List, Result, false};
 ghost use Rattle.gm_value.specs.declared.values.Value.{Value};
 ghost use Rattle.gm_value.specs.declared.values.VType.{VType};
-ghost use Rattle.gm_value.specs.Totals.{HasRoom};
+ghost use Rattle.gm_value.specs.Totals.{HasRoom, IsTotal};
 ghost use Rattle.gm_source.specs.declared.faults.Fault.{Fault};
 ghost use Rattle.gm_source.specs.Faults.{then_with};
-ghost use Rattle.gm_source.specs.Expressions.{Answer as SomeAnswer, reduce_of, members_of, element, reduction};
+ghost use Rattle.gm_source.specs.Expressions.{Answer as SomeAnswer, reduce_of, members_of, closed, element, reduction};
 ghost use Rattle.gm_loops.specs.Runnings.{listed, passes, Runs};
 
 use crate::parts::{Answer, is_true};
@@ -41,6 +41,7 @@ pub(crate) fn reduce_of(word: ReductionWord) -> Reduce
 }
 
 // What an element's value puts into the bag: for Count a 1 where it is True.
+#[inline(always)]
 fn member_of(word: ReductionWord, value: Value) -> Option<Value>
     ensures { listed (Ok result) ≡ Ok (members_of word value) }
 {
@@ -53,6 +54,18 @@ fn member_of(word: ReductionWord, value: Value) -> Option<Value>
             }
         }
         _ => Some(value),
+    }
+}
+
+// A total with the member that a value is, if it is one.
+#[inline(always)]
+pub(crate) fn added(word: ReductionWord, reduce: Reduce, total: Total, value: Value) -> Total
+    requires { HasRoom total }
+    ensures { (t : VType) (bag : List Value) → IsTotal reduce t total bag → IsTotal reduce t result (members_of word value ++ bag) }
+{
+    match member_of(word, value) {
+        Some(member) => total_add(reduce, total, member),
+        None => total,
     }
 }
 
@@ -121,13 +134,19 @@ impl Running {
     {
         match self.fault {
             Some(fault) => Err(fault),
-            None => {
-                let reduce = reduce_of(fold.word);
-                match total_close(reduce, unit(reduce, fold.vtype), self.total) {
-                    Ok(value) => Ok(value),
-                    Err(_) => Err(total_fault(fold.total)),
-                }
-            }
+            None => closed_total(fold, self.total),
         }
+    }
+}
+
+// The value of a reduction whose total is closed.
+pub(crate) fn closed_total(fold: &Fold, total: Total) -> Answer
+    requires { HasRoom total }
+    ensures { (bag : List Value) → IsTotal (reduce_of fold.now.word) fold.now.vtype total bag → result ≡ closed fold.now bag }
+{
+    let reduce = reduce_of(fold.word);
+    match total_close(reduce, unit(reduce, fold.vtype), total) {
+        Ok(value) => Ok(value),
+        Err(_) => Err(total_fault(fold.total)),
     }
 }

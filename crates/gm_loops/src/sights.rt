@@ -50,6 +50,7 @@ pub struct Sight<'a> {
 }
 
 // The value of an edge property at an edge.
+#[inline(always)]
 fn edge_value(graph: &Graph, column: &EdgeColumn, edge: u32) -> Value
     requires { HasColumn graph.now column.now.column }
     ensures { result ≡ slice_index_or (values_in graph.now column.now.column) edge column.now.first }
@@ -67,7 +68,8 @@ fn edge_value(graph: &Graph, column: &EdgeColumn, edge: u32) -> Value
 }
 
 // How many edges lead from a node, or to it.
-fn degree_of(graph: &Graph, direction: Direction, node: u32) -> Value
+#[inline(always)]
+pub(crate) fn degree_of(graph: &Graph, direction: Direction, node: u32) -> Value
     requires { node < node_count graph.now }
     ensures { (w : View) → w.graph ≡ graph.now → result ≡ degree_of w direction node }
 {
@@ -79,6 +81,7 @@ fn degree_of(graph: &Graph, direction: Direction, node: u32) -> Value
 
 impl Setting<'_> {
     // The value of a scalar.
+    #[inline(always)]
     fn held_scalar(&self, store: &Store, x: u32) -> Value
         requires { Fits self.now store.now }
         ensures { result ≡ scalar_of store.now x }
@@ -112,6 +115,7 @@ impl Setting<'_> {
     }
 
     // The value of a property at a node.
+    #[inline(always)]
     pub fn property(&self, store: &Store, property: u32, node: u32) -> Value
         requires fits { Fits self.now store.now }
         requires node { node < node_count self.now.graph.now }
@@ -125,6 +129,7 @@ impl Setting<'_> {
     }
 
     // The value of an edge property at an edge.
+    #[inline(always)]
     pub fn edge_property(&self, property: u32, edge: u32) -> Value
         requires { All (λ c. HasColumn self.now.graph.now c.column) self.now.edges.now }
         ensures { result ≡ edges_in self.now property edge }
@@ -136,6 +141,7 @@ impl Setting<'_> {
     }
 
     // The node of the graph that a value is, if it is one.
+    #[inline(always)]
     pub fn node_in(&self, value: Value) -> Option<u32>
         ensures { result ≡ node_in self.now.graph.now value }
     {
@@ -201,6 +207,7 @@ impl Sight<'_> {
     }
 
     // What the filter or the braces of a reduction see.
+    #[inline(always)]
     pub fn entered(&self, key: Key) -> Self
         ensures { result ≡ record self.now { parallel = true; key = key } }
     {

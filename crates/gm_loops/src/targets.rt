@@ -1,6 +1,6 @@
 //! Targets of assignments, with the values for them.
 
-ghost use Rattle.std.specs.Prelude.{◌≡◌, ◌∷◌, [], IfOk, Ok};
+ghost use Rattle.std.specs.Prelude.{◌≡◌, ◌∷◌, [], IfOk, IfSome, Ok};
 ghost use Rattle.gm_value.specs.Reductions.{close};
 ghost use Rattle.gm_graph.specs.Graphs.{node_count};
 ghost use Rattle.gm_ast.specs.Tree.{expr_of};
@@ -56,12 +56,23 @@ fn put_together(
 }
 
 impl Sight<'_> {
+    // The value of an expression in two parts. Most expressions fault nowhere: the parts are asked for where one may.
+    fn parts_of(&self, e: &Expr, store: &Store) -> Evaluated
+        requires { Fits self.now.setting.now store.now }
+        ensures { parts result ≡ evaluated (expr_of e.now) (view_of self.now no_scope store.now) }
+    {
+        match self.faultless(e, &Scope::Nothing, store) {
+            Some(value) => Evaluated::plain(Ok(value)),
+            None => self.evaluated(e, &Scope::Nothing, store),
+        }
+    }
+
     // The value of an expression, or its fault.
     pub fn value(&self, e: &Expr, store: &Store) -> Answer
         requires { Fits self.now.setting.now store.now }
         ensures { result ≡ value (expr_of e.now) (view_of self.now no_scope store.now) }
     {
-        self.evaluated(e, &Scope::Nothing, store).settled()
+        self.parts_of(e, store).settled()
     }
 
     // The slot of a target, or NilNode at its node variable.
@@ -89,8 +100,46 @@ impl Sight<'_> {
         ensures pair { let w = view_of self.now no_scope store.now in pair_of result ≡ assigned w target.now (evaluated (expr_of e.now) w) }
         ensures known { IfOk result (λ w. HasSlot (room (node_count self.now.setting.now.graph.now) (target_bound target.now)) w.slot) }
     {
-        let value = self.evaluated(e, &Scope::Nothing, store);
+        let value = self.parts_of(e, store);
         put_together(value.hoisted, self.slot_of(store, target), value.rest)
+    }
+
+    // The slot of a target, if its node variable holds a node.
+    #[inline(always)]
+    fn slot_held(&self, scope: &Scope, store: &Store, target: &Target) -> Option<Slot>
+        requires { Fits self.now.setting.now store.now }
+        ensures slot { IfSome result (λ slot. slot_of (view_of self.now scope.now store.now) target.now ≡ Ok slot) }
+        ensures known { IfSome result (HasSlot (room (node_count self.now.setting.now.graph.now) (target_bound target.now))) }
+    {
+        match *target {
+            Target::Scalar { variable, .. } => Some(Slot::Scalar(variable)),
+            Target::Property {
+                owner,
+                property,
+                ..
+            } => {
+                let node = self.node_held(scope, store, owner)?;
+                Some(Slot::Node { property, node })
+            }
+        }
+    }
+
+    // A target's slot, and the value of an expression for it, where nothing faults.
+    #[inline(always)]
+    pub(crate) fn faultless_write(
+        &self,
+        scope: &Scope,
+        store: &Store,
+        target: &Target,
+        e: &Expr,
+    ) -> Option<Write>
+        requires { Fits self.now.setting.now store.now }
+        ensures pair { let w = view_of self.now scope.now store.now in IfSome result (λ found. assigned w target.now (evaluated (expr_of e.now) w) ≡ Ok (found.slot, found.value)) }
+        ensures known { IfSome result (λ w. HasSlot (room (node_count self.now.setting.now.graph.now) (target_bound target.now)) w.slot) }
+    {
+        let value = self.faultless(e, scope, store)?;
+        let slot = self.slot_held(scope, store, target)?;
+        Some(Write { slot, value })
     }
 
     // What a target holds, as a value that is read.
@@ -127,7 +176,7 @@ impl Sight<'_> {
         ensures known { IfOk result (λ w. HasSlot (room (node_count self.now.setting.now.graph.now) (target_bound target.now)) w.slot) }
     {
         let held = self.target_value(store, target);
-        let other = self.evaluated(e, &Scope::Nothing, store);
+        let other = self.parts_of(e, store);
         let value = held.combined(reduce, self.key, place, other);
         put_together(value.hoisted, self.slot_of(store, target), value.rest)
     }

@@ -32,6 +32,17 @@ pub(crate) fn sooner(a: Option<Fault>, b: Option<Fault>) -> Option<Fault>
     }
 }
 
+// Keeps the lesser of what may be two faults.
+#[tactic(auto, using(crate::proofs::Parting::sooner_none))]
+#[inline(always)]
+pub(crate) fn keep_least(least: &mut Option<Fault>, fault: &Option<Fault>)
+    ensures { least.new ≡ sooner least.old fault.now }
+{
+    if let Some(_) = fault {
+        *least = sooner(*least, *fault);
+    }
+}
+
 // Writes in order, of which the last to a slot counts. They are logged.
 fn write_all(store: &mut Store, writes: &[Write]) -> Result<(), NoMemory>
     requires { All (λ w. HasSlot (shape_of store.old) w.slot) writes.now }

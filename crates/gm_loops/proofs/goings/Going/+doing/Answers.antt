@@ -26,7 +26,7 @@ use Rattle.gm_loops.proofs.Trees.{stmt_of-Foreach, stmt_of-If}
 use Rattle.gm_loops.proofs.Steps.{no-steps-left}
 use Rattle.gm_loops.proofs.Turning.{has-fault, no-fault, step-done, turns-at, turns-step, does-none, does-stop, does-then, turn-passed, turn-skipped, turns-anywhere, turns-none, turns-once}
 use Rattle.gm_loops.proofs.goings.Going.+doing.Goals as goal
-use Rattle.gm_loops.proofs.goings.Going.+doing.Goals.{inner_turn-then-branch+in_ok-does, inner_turn-else-branch, inner_turns-in-Some+in_ok-inner_turn, inner_turns-in_default}
+use Rattle.gm_loops.proofs.goings.Going.+doing.Goals.{long_inner_turn-then-branch+in_ok-does, long_inner_turn-else-branch, inner_turns-in-Some+in_ok-inner_turn, inner_turns-in_default}
 
 pub does-returns-in_ok-does-in-Ok : goal.does-returns-in_ok-does-in-Ok
 does-returns-in_ok-does-in-Ok t c =
@@ -148,8 +148,15 @@ inner_loop-returns t c = λ at.
     (steps_in (view_in (loop_of a) I.Outermost (begun s) c.args.key) c.args.head.now))
     c.in_ok-least.ensures (c.in_ok-close_inner.ensures a.setting.now)
 
-pub inner_turn-returns : goal.inner_turn-returns
-inner_turn-returns t c =
+pub inner_turn-returns-in_ok-take-in-Some : goal.inner_turn-returns-in_ok-take-in-Some
+inner_turn-returns-in_ok-take-in-Some t c =
+    let a = c.args.around.now in
+    c.in_ok-take-in-Some.ensures a.setting.now (I.AtEdge 0)
+    (λ s. inner_turn (loop_of a) c.args.key (expr_of c.args.filter.now) (stmt_of c.args.body.now) c.args.iterator (step_of c.args.hop) s)
+    _ c.in-Some.ensures.turn
+
+pub long_inner_turn-returns : goal.long_inner_turn-returns
+long_inner_turn-returns t c =
     let a = c.args.around.now in
     let f = a.setting.now in
     let m : I.Mode = I.AtEdge c.args.hop.edge in
@@ -159,10 +166,10 @@ inner_turn-returns t c =
     let begins : Begins f m c.args.self.now c.begins.new.self c.in_ok-begins.field-0 turn = c.in_ok-begins.ensures in
     let done : DoesTurn f m c.args.self.now c.if-branch.self (turn body) =
     elim c.if-branch.branch [
-      | inner_turn-then-branch+in_ok-does w ↦ (subst (λ (g : Going). DoesTurn f m c.args.self.now g (turn body)) (sym w.self-is)
+      | long_inner_turn-then-branch+in_ok-does w ↦ (subst (λ (g : Going). DoesTurn f m c.args.self.now g (turn body)) (sym w.self-is)
           (turn-passed f m c.args.self.now c.begins.new.self w.does.new.self turn body
           (subst (λ (p : Bool). Begins f m c.args.self.now c.begins.new.self p turn) w.if-branch.true begins) w.in_ok-does.ensures))
-      | inner_turn-else-branch w ↦ (subst (λ (g : Going). DoesTurn f m c.args.self.now g (turn body)) (sym w.self-is)
+      | long_inner_turn-else-branch w ↦ (subst (λ (g : Going). DoesTurn f m c.args.self.now g (turn body)) (sym w.self-is)
           (turn-skipped f m c.args.self.now c.begins.new.self turn body
           (subst (λ (p : Bool). Begins f m c.args.self.now c.begins.new.self p turn) w.if-branch.false begins)))
     ] in
@@ -192,7 +199,7 @@ inner_turns-loop-k-preserved t c =
               done ++ step ∷ [],
               step-done done step (steps_at r (c.loop-k.k + 1)) (steps_at r c.loop-k.k) (steps_at r 0) h.turns.1 w.in-Some.ensures.step,
               subst (λ (g : Going). DoesTurns f (I.AtEdge 0) c.args.self.now g c.match-at.least (λ s. map (λ y. turn y s) (done ++ step ∷ []))) (sym w.self-is)
-                  (subst (λ (o : Option Fault). DoesTurns f (I.AtEdge 0) c.args.self.now w.inner_turn.new.self o (λ s. map (λ y. turn y s) (done ++ step ∷ []))) (sym (w.least-is ∙ w.sooner-least.ensures))
+                  (subst (λ (o : Option Fault). DoesTurns f (I.AtEdge 0) c.args.self.now w.inner_turn.new.self o (λ s. map (λ y. turn y s) (done ++ step ∷ []))) (sym (w.least-is ∙ w.keep_least.ensures))
                   (turns-step f (I.AtEdge 0) c.args.self.now c.loop-k.self w.inner_turn.new.self c.loop-k.least w.inner_turn.new.self.fault turn done step h.turns.2 w.in_ok-inner_turn.ensures)),
             );
           })

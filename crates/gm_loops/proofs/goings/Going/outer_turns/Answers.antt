@@ -57,8 +57,8 @@ loop-k-preserved c =
     let new = c.outer_turn.new.self in
     let same : seen f now ≡ seen f old = h.turns.restored.store (edges_in f) in
     record {
-      turns = subst (λ (ns : List ℕ). DoesTurns f I.Outermost old new c.sooner-least.result (λ s. map (turn s) ns)) more
-          (subst (λ (o : Option Fault). DoesTurns f I.Outermost old new o (λ s. map (turn s) (take k nodes ++ n ∷ []))) (sym c.sooner-least.ensures)
+      turns = subst (λ (ns : List ℕ). DoesTurns f I.Outermost old new c.keep_least.new.least (λ s. map (turn s) ns)) more
+          (subst (λ (o : Option Fault). DoesTurns f I.Outermost old new o (λ s. map (turn s) (take k nodes ++ n ∷ []))) (sym c.keep_least.ensures)
           (turns-step f I.Outermost old now new c.loop-k.least new.fault (λ m s. turn s m) (take k nodes) n h.turns c.in_ok-outer_turn.ensures.turn));
       own = subst (λ (ns : List ℕ). KeepsOwn (seen f old) c.outer_turn.new.own.items ns (turn (seen f old))) more
           (subst (λ (s : Store). KeepsOwn s c.outer_turn.new.own.items (take k nodes ++ n ∷ []) (turn s)) same
