@@ -1,5 +1,5 @@
 -- Iterations that do one thing.
-use Rattle.std.proofs.Common.{◌≡◌, ◌∙◌, ℕ, Bool, true, false, nat_eq, ◌&&◌, if◌then◌else◌, ◌⊎◌, ⊎_elim, List, [], ◌∷◌, ◌++◌, map, Option, Some, None, Ok, refl, ap, sym, subst}
+use Rattle.std.proofs.Common.{◌≡◌, ◌∙◌, ℕ, Bool, true, false, nat_eq, ◌&&◌, if◌then◌else◌, ⊎_elim, List, [], ◌∷◌, ◌++◌, map, Option, Some, Ok, refl, ap, sym, subst}
 use Rattle.std.proofs.Math.Path.{fun_ext}
 use Rattle.std.proofs.lemmas.Bool.{eqb-true}
 use Rattle.std.proofs.lemmas.List.{append-nil}
@@ -10,34 +10,25 @@ use Rattle.gm_value.specs.declared.values.Value.TheVariants.{At}
 use Rattle.gm_value.specs.Operations.{is_true}
 use Rattle.gm_ast.specs.declared.tree.Key.{Key}
 use Rattle.gm_ast.specs.Program.{Expr, Stmt}
-use Rattle.gm_source.specs.declared.contributions.Contribution.{Contribution}
-use Rattle.gm_source.specs.declared.faults.Fault.{Fault}
 use Rattle.gm_source.specs.declared.slots.Slot.{Slot}
 use Rattle.gm_source.specs.declared.slots.Slot.TheVariants.{Scalar, Node}
 use Rattle.gm_source.specs.declared.slots.Write.{Write}
 use Rattle.gm_source.specs.Expressions.{evaluated, plain, settled, value}
-use Rattle.gm_source.specs.Iterations.{Iteration, Loop, Mode, Outermost, AtEdge, as_it_is, begun, does, edge_of, one_way, turn_at, view_in, with_ok}
+use Rattle.gm_source.specs.Iterations.{Iteration, Loop, Mode, as_it_is, begun, does, edge_of, one_way, turn_at, view_in, with_ok}
 use Rattle.gm_source.specs.Loops.{left_at, own_left}
 use Rattle.gm_source.specs.Stores.{Store, overlaid, write}
-use Rattle.gm_source.specs.Faults.{joined, least, somes}
 use Rattle.gm_store.specs.Held.{Held, Shape, HasSlot, scalar_of, store_of}
-use Rattle.gm_totals.specs.declared.totals.Totals.{Totals}
-use Rattle.gm_totals.specs.Standing.{StandsFor}
 use Rattle.gm_loops.specs.declared.around.Around.{Around}
-use Rattle.gm_loops.specs.declared.goings.Going.{Going}
 use Rattle.gm_loops.specs.declared.scopes.Scope.{Scope}
 use Rattle.gm_loops.specs.declared.sights.Sight.{Sight}
-use Rattle.gm_loops.specs.declared.sights.Setting.{Setting}
 use Rattle.gm_loops.specs.declared.shorts.Deed.{Deed}
 use Rattle.gm_loops.specs.declared.shorts.Deed.TheVariants.{Nothing, Writes, Gives}
 use Rattle.gm_loops.specs.Around.{loop_of}
-use Rattle.gm_loops.specs.Goings.{Before, InnerStands, IsReady, deferred_after}
 use Rattle.gm_loops.specs.Own.{is_at}
 use Rattle.gm_loops.specs.Scopes.{inside, no_scope, scalar_in}
 use Rattle.gm_loops.specs.Sights.{edges_in, view_of}
 use Rattle.gm_loops.specs.Shorts.{after_deed, own_of, IsOwn, IsWithin}
-use Rattle.gm_loops.specs.Turns.{seen, DoesTurns, Follows, KeepsOwn, behind, deferred_of, faults_of, inner_of}
-use Rattle.gm_loops.proofs.Parting.{joined-one}
+use Rattle.gm_loops.specs.Turns.{KeepsOwn}
 use Rattle.gm_loops.proofs.Effects.{inside-none}
 use Rattle.gm_loops.proofs.Keeping.{all-push, left-before, left-other, left-own, overlaid-last, same-store}
 

@@ -1,6 +1,5 @@
 -- Iterations that do one thing.
 use Rattle.std.specs.Prelude.{◌≡◌, ⊤, ℕ, true, List, [], ◌∷◌}
-use Rattle.gm_source.specs.declared.contributions.Contribution.{Contribution}
 use Rattle.gm_source.specs.declared.slots.Write.{Write}
 use Rattle.gm_source.specs.Iterations.{Iteration, gave_outermost, wrote}
 use Rattle.gm_store.specs.Held.{Shape, HasSlot}

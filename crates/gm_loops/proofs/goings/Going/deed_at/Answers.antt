@@ -1,7 +1,6 @@
-use Rattle.std.proofs.Common.{◌∙◌, sym, rules}
+use Rattle.std.proofs.Common.{◌∙◌, sym}
 use Rattle.std.proofs.Math.Path.{fun_ext}
 use Rattle.gm_ast.specs.Tree.{expr_of}
-use Rattle.gm_loops.specs.declared.scopes.Scope.{the_lemmas as scope_lemmas}
 use Rattle.gm_loops.specs.Around.{body_of, mode_of}
 use Rattle.gm_loops.proofs.Effects.{scalar-bound}
 use Rattle.gm_loops.proofs.Deeds.{deed-over, deed-passed}
