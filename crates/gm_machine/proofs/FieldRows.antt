@@ -1,5 +1,5 @@
 -- Columns by field hold the fields of each node.
-use Rattle.std.proofs.Common.{◌≡◌, ◌≢◌, ◌<◌, ◌≤◌, ◌+◌, ℕ, suc, List, [], ◌∷◌, ◌++◌, map, length, take, drop, set, get_or, replicate, refl, sym, ap, ◌∙◌, arith, ⊎_elim, append_assoc}
+use Rattle.std.proofs.Common.{◌≡◌, ◌≢◌, ◌<◌, ◌≤◌, ◌+◌, ℕ, suc, List, [], ◌∷◌, ◌++◌, map, length, take, drop, set, get_or, replicate, refl, sym, ap, ◌∙◌, arith, ⊎_elim, append_assoc, subst}
 use Rattle.std.specs.Prelude.{All, None}
 use Rattle.std.proofs.lemmas.Bool.{cases_eq}
 use Rattle.std.proofs.lemmas.List.{get_or-set_same, get_or-set_other, get_or-replicate, get_or_default, get_or_past, get_or-map, length-set, length-map, length-replicate, map-append, same_lists, take_more, take_more_set, drop_more, drop-set-lt, drop_all, take_all, append-nil}
@@ -171,3 +171,21 @@ stored-all i node vs old now end to =
     ∙ ap (λ cs. cs ++ []) (sym (take_all i now end))
     ∙ ap (λ cs. take i now ++ with_row cs node (drop i vs)) (sym (drop_all i now end))
     ∙ to.rows_are
+
+-- a value is written over that of a row in a list
+pub read-long : (i : ℕ) (v : Value) (into : List Value) → length (set into i v) ≡ length into
+read-long i v into = length-set into i v
+
+-- and the values so far are those of the node
+pub read-more : (columns : List (List Value)) (node i : ℕ) (v : Value) (into : List Value) → i < length columns → i < length into →
+    v ≡ value_at (get_or columns i []) node →
+    ((k : ℕ) (d : Value) → k < i → get_or into k d ≡ get_or (row_at columns node) k d) →
+    (k : ℕ) (d : Value) → k < i + 1 → get_or (set into i v) k d ≡ get_or (row_at columns node) k d
+read-more columns node i v into within room is before k d below =
+    ⊎_elim
+    (λ (same : k ≡ i).
+    let Q : ℕ → Type 0 = λ m. get_or (set into i v) m d ≡ get_or (row_at columns node) m d in
+    let here : Q i = get_or-set_same into i v d room ∙ is ∙ sym (get_or-map (λ values. value_at values node) columns i [] d within) in
+    subst Q (sym same) here)
+    (λ (differs : k ≡ i → ⊥). let less : k < i = omega arith in get_or-set_other into i k v d differs ∙ before k d less)
+    (cases_eq k i)

@@ -1,5 +1,5 @@
 -- One more slot settled.
-use Rattle.std.proofs.Common.{◌≡◌, ◌<◌, ◌≤◌, ◌+◌, ℕ, Option, None, List, [], ◌∷◌, ◌++◌, map, length, take, drop, set, get_or, sym, ap, ◌∙◌, arith, append_assoc}
+use Rattle.std.proofs.Common.{◌≡◌, ◌<◌, ◌≤◌, ◌+◌, ℕ, Option, Some, None, refl, List, [], ◌∷◌, ◌++◌, map, length, take, drop, set, get_or, sym, ap, ◌∙◌, arith, append_assoc}
 use Rattle.std.specs.List.{enumerate_from}
 use Rattle.std.proofs.lemmas.List.{take_more_set, drop-set-lt, drop_more, drop_all, take_all, append-nil}
 use Rattle.gm_value.specs.declared.values.Value.{Value}
@@ -7,6 +7,7 @@ use Rattle.gm_machine.specs.declared.faults.Fault.{Fault}
 use Rattle.gm_machine.specs.declared.contributions.Contribution.{Contribution}
 use Rattle.gm_machine.specs.Faults.{lesser, least_from}
 use Rattle.gm_machine.specs.Taking.{value_after, fault_after, settled, Settled}
+use Rattle.gm_machine.specs.Vertex.{Work, After, ended, folded}
 
 -- the first i slots are settled: the others still hold what they held, and the faults of theirs are left
 pub record IsSettledTo (places : ℕ) (cs : List Contribution) (i : ℕ) (held values : List Value) (fault : Option Fault) : Type 0 where
@@ -49,3 +50,32 @@ settled-all places cs i held values fault end to =
     ap (λ ws. least_from fault (map (fault_after places cs) (enumerate_from i ws))) (sym none) ∙ to.fault_is in
     let settled_to : List Value → Option Fault → Settled = λ vs f. record { values = vs; fault = f } in
     ap (λ vs. settled_to vs fault) all ∙ ap (settled_to (map (value_after places cs) (enumerate_from 0 held))) least
+
+-- without contributions the slots hold what they held, and nothing faults
+nothing-after : (places i : ℕ) (held : List Value) → map (value_after places []) (enumerate_from i held) ≡ held
+nothing-after places i [] = refl
+nothing-after places i (v ∷ held) = ap (λ vs. v ∷ vs) (nothing-after places (i + 1) held)
+
+nothing-faults : (places i : ℕ) (held : List Value) → least_from None (map (fault_after places []) (enumerate_from i held)) ≡ None
+nothing-faults places i [] = refl
+nothing-faults places i (v ∷ held) = nothing-faults places (i + 1) held
+
+pub settled-nothing : (places : ℕ) (held : List Value) → settled places [] held ≡ record { values = held; fault = None }
+settled-nothing places held =
+    let settled_to : List Value → Option Fault → Settled = λ vs f. record { values = vs; fault = f } in
+    ap (λ vs. settled_to vs (least_from None (map (fault_after places []) (enumerate_from 0 held)))) (nothing-after places 0 held)
+    ∙ ap (settled_to held) (nothing-faults places 0 held)
+
+lesser-none : (f : Option Fault) → lesser f None ≡ f
+lesser-none None = refl
+lesser-none (Some f) = refl
+
+-- no folds are taken
+pub folded-nothing : (places : ℕ) (w : Work) (fault : Option Fault) (skip : ℕ) → w.folds ≡ [] →
+    folded places (record { work = w; fault = fault; skip = skip }) ≡ ended w fault skip
+folded-nothing places w fault skip none =
+    let taken_to : Settled → After = λ t. ended (record w { folds = []; fields = t.values }) (lesser fault t.fault) skip in
+    ap (λ cs. taken_to (settled places cs w.fields)) none
+    ∙ ap taken_to (settled-nothing places w.fields)
+    ∙ ap (λ f. ended (record w { folds = [] }) f skip) (lesser-none fault)
+    ∙ ap (λ cs. ended (record w { folds = cs }) fault skip) (sym none)

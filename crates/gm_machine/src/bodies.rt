@@ -62,6 +62,9 @@ fn take_folds(
     ensures { IfOk result (λ end. after_line (work_of work.new) end
         ≡ folded places (record { work = work_of work.old; fault = fault; skip = skip })) }
 {
+    if work.folds.is_empty() {
+        return Ok(ended(fault, skip));
+    }
     let taken = settle(places, &work.folds, &mut work.fields)?;
     work.folds.clear();
     Ok(ended(lesser(fault, taken), skip))

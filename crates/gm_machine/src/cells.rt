@@ -1,6 +1,6 @@
 //! The cells of a row, typed as long as its values are of one type.
 
-ghost use Rattle.std.specs.Prelude.{◌≡◌, ◌<◌, ◌↔◌, IsTrue, IfOk, OnOk, IfSome, replicate, length, slice_index_or, slice_set};
+ghost use Rattle.std.specs.Prelude.{◌≡◌, ◌<◌, ◌↔◌, false, IsTrue, IfOk, OnOk, IfSome, replicate, length, slice_index_or, slice_set};
 ghost use Rattle.gm_graph.specs.Cells.{node_in};
 ghost use Rattle.gm_graph.specs.Columns.{IsStorable, CanHold};
 ghost use Rattle.gm_value.specs.declared.values.Value.TheVariants.{At};
@@ -42,6 +42,7 @@ impl Cells {
     }
 
     // The value at a node.
+    #[inline(always)]
     pub(crate) fn get(&self, node: usize) -> Value
         requires { node < length (values_of self.now) }
         ensures { (d : Value) → result ≡ slice_index_or (values_of self.now) node d }
@@ -102,8 +103,39 @@ impl Cells {
         Ok(Cells::Mixed(self.mixed(alloc)?))
     }
 
-    // Writes a value at a node. Where there is not enough memory the cells stay as they were.
-    pub(crate) fn set(&mut self, alloc: Global, node: usize, value: Value) -> Result<(), NoMemory>
+    // Writes a value at a node where the cells are of its type, and answers whether they are. Else they stay as they
+    // were.
+    #[inline(always)]
+    fn overwrite(&mut self, node: usize, value: Value) -> bool
+        requires { node < length (values_of self.old) }
+        ensures written { IsTrue result → values_of self.new ≡ slice_set (values_of self.old) node value }
+        ensures kept { result ≡ false → self.new ≡ self.old }
+    {
+        match (self, value) {
+            (Cells::Ints(cells), Value::I32(cell)) => {
+                cells[node] = cell;
+                true
+            }
+            (Cells::Longs(cells), Value::I64(cell)) => {
+                cells[node] = cell;
+                true
+            }
+            (Cells::Flags(cells), Value::Flag(cell)) => {
+                cells[node] = cell;
+                true
+            }
+            (Cells::Mixed(cells), _) => {
+                cells[node] = value;
+                true
+            }
+            _ => false,
+        }
+    }
+
+    // Writes a value at a node into cells that are widened where they cannot hold it as they are.
+    #[cold]
+    #[inline(never)]
+    fn put_widened(&mut self, alloc: Global, node: usize, value: Value) -> Result<(), NoMemory>
         requires { node < length (values_of self.old) }
         ensures { OnOk result (values_of self.new ≡ slice_set (values_of self.old) node value) }
     {
@@ -112,6 +144,18 @@ impl Cells {
         }
         self.put(node, value);
         Ok(())
+    }
+
+    // Writes a value at a node. Where there is not enough memory the cells stay as they were.
+    #[inline(always)]
+    pub(crate) fn set(&mut self, alloc: Global, node: usize, value: Value) -> Result<(), NoMemory>
+        requires { node < length (values_of self.old) }
+        ensures { OnOk result (values_of self.new ≡ slice_set (values_of self.old) node value) }
+    {
+        if self.overwrite(node, value) {
+            return Ok(());
+        }
+        self.put_widened(alloc, node, value)
     }
 
     // The values as a finished list, typed where they are of one type.

@@ -1,10 +1,12 @@
 //! The values of expressions.
 
-ghost use Rattle.std.specs.Prelude.{◌≡◌, ◌≤◌, ◌<◌, length};
+ghost use Rattle.std.specs.Prelude.{◌≡◌, ◌≤◌, ◌<◌, length, Ok, IfSome};
 ghost use Rattle.gm_value.specs.Numbers.{number_of};
-ghost use Rattle.gm_value.specs.Operations.{is_true};
+ghost use Rattle.gm_value.specs.declared.values.Value.TheVariants.{I32};
+ghost use Rattle.gm_value.specs.Operations.{is_true, result2};
 ghost use Rattle.gm_graph.specs.Graphs.{out_steps, in_steps};
 ghost use Rattle.gm_image.specs.Views.{term};
+ghost use Rattle.gm_image.specs.Term.{NodeAt, Live, And, Or, Choose};
 ghost use Rattle.gm_machine.specs.Faults.{at_place};
 ghost use Rattle.gm_machine.specs.Expressions.{value, value_at, edge_value_at, node_with, live, unary_value, binary_value};
 ghost use Rattle.gm_machine.specs.Vertex.{view_with};
@@ -29,6 +31,7 @@ pub(crate) struct Scene<'a> {
 }
 
 // The value of an index, NIL where there is none.
+#[inline(always)]
 pub(crate) fn value_at(values: &[Value], i: u32) -> Value
     ensures { result ≡ value_at values.now i }
 {
@@ -39,6 +42,7 @@ pub(crate) fn value_at(values: &[Value], i: u32) -> Value
 }
 
 // Whether a truth value is True.
+#[inline(always)]
 pub(crate) fn holds(v: Value) -> bool
     ensures { result ≡ is_true v }
 {
@@ -120,32 +124,190 @@ fn at_place(place: u32, answer: Result<Value, FaultKind>) -> Result<Value, Fault
     }
 }
 
-// An operation on one value at a place, and one on two.
-fn unary(op: Op1, place: u32, a: Result<Value, Fault>) -> Result<Value, Fault>
-    ensures { result ≡ unary_value op place a }
+// What an operation gives on two numbers of 32 bits, where that takes no wider numbers and is in range.
+#[inline(always)]
+fn on_ints(op: Op2, x: i32, y: i32) -> Option<Value>
+    ensures { IfSome result (λ v. result2 op (I32 x) (I32 y) ≡ Ok v) }
 {
-    at_place(place, apply1(op, a?))
+    match op {
+        Op2::Add => x.checked_add(y).map(Value::I32),
+        Op2::Sub => x.checked_sub(y).map(Value::I32),
+        Op2::Eq => Some(Value::Flag(x == y)),
+        Op2::Ne => Some(Value::Flag(x != y)),
+        Op2::Lt => Some(Value::Flag(x < y)),
+        Op2::Le => Some(Value::Flag(x <= y)),
+        Op2::Gt => Some(Value::Flag(x > y)),
+        Op2::Ge => Some(Value::Flag(x >= y)),
+        Op2::Mul | Op2::Div | Op2::Rem => None,
+    }
 }
 
-fn binary(
-    op: Op2,
+// What an operation gives on two values at a place.
+#[inline(always)]
+fn applied(op: Op2, place: u32, x: Value, y: Value) -> Result<Value, Fault>
+    ensures { result ≡ at_place place (result2 op x y) }
+{
+    if let (Value::I32(a), Value::I32(b)) = (x, y) {
+        if let Some(v) = on_ints(op, a, b) {
+            return Ok(v);
+        }
+    }
+    at_place(place, apply2(op, x, y))
+}
+
+/// The value of an expression that is one of the leaves in which most expressions end. It is answered where it is asked
+/// for, without a call.
+#[inline(always)]
+pub(crate) fn leaf(e: &Expr, s: &Scene, fields: &[Value], registers: &[Value]) -> Option<Value>
+    ensures { IfSome result (λ v. value (view_with (scene_of s.now) fields.now registers.now) (term e.now) ≡ Ok v) }
+{
+    match e {
+        Expr::Const(v) => Some(*v),
+        Expr::Field(f) => Some(value_at(fields, *f)),
+        Expr::Register(r) => Some(value_at(registers, *r)),
+        Expr::Message(i) => Some(value_at(s.message, *i)),
+        Expr::Neighbour => Some(Value::At(Some(s.neighbour))),
+        _ => None,
+    }
+}
+
+// An operation on one expression at a place, and one on two. Each shape of expressions has a function of its own, so
+// that a step of a short expression touches little memory.
+#[cycle(evaluation)]
+fn unary(
+    op: Op1,
     place: u32,
-    a: Result<Value, Fault>,
-    b: Result<Value, Fault>,
-) -> Result<Value, Fault>
-    ensures { result ≡ binary_value op place a b }
-{
-    at_place(place, apply2(op, a?, b?))
-}
-
-/// The value of an expression at a vertex with these fields and registers, or the fault of the first operation in it that has none. What an image may not name,
-/// an index out of range or a leaf where it has no sense, is NIL.
-pub(crate) fn evaluate(
-    e: &Expr,
+    a: &Expr,
     s: &Scene,
     fields: &[Value],
     registers: &[Value],
 ) -> Result<Value, Fault>
+    requires { HasColumns s.now.graph.now s.now.columns }
+    ensures { result ≡ unary_value op place (value (view_with (scene_of s.now) fields.now registers.now) (term a.now)) }
+{
+    match evaluate(a, s, fields, registers) {
+        Ok(x) => at_place(place, apply1(op, x)),
+        Err(f) => Err(f),
+    }
+}
+
+#[cycle(evaluation)]
+#[inline(always)]
+fn binary(
+    op: Op2,
+    place: u32,
+    a: &Expr,
+    b: &Expr,
+    s: &Scene,
+    fields: &[Value],
+    registers: &[Value],
+) -> Result<Value, Fault>
+    requires { HasColumns s.now.graph.now s.now.columns }
+    ensures { result ≡ binary_value op place (value (view_with (scene_of s.now) fields.now registers.now) (term a.now))
+        (value (view_with (scene_of s.now) fields.now registers.now) (term b.now)) }
+{
+    if let (Some(x), Some(y)) = (leaf(a, s, fields, registers), leaf(b, s, fields, registers)) {
+        return applied(op, place, x, y);
+    }
+    let x = match evaluate(a, s, fields, registers) {
+        Ok(x) => x,
+        Err(f) => return Err(f),
+    };
+    match evaluate(b, s, fields, registers) {
+        Ok(y) => applied(op, place, x, y),
+        Err(f) => Err(f),
+    }
+}
+
+// The node with the index that an expression gives.
+#[cycle(evaluation)]
+fn node_at(a: &Expr, s: &Scene, fields: &[Value], registers: &[Value]) -> Result<Value, Fault>
+    requires { HasColumns s.now.graph.now s.now.columns }
+    ensures { result ≡ value (view_with (scene_of s.now) fields.now registers.now) (NodeAt (term a.now)) }
+{
+    match evaluate(a, s, fields, registers) {
+        Ok(v) => Ok(node_with(s.graph, v)),
+        Err(f) => Err(f),
+    }
+}
+
+// The node that an expression gives, or the fault at a place where it is none.
+#[cycle(evaluation)]
+fn live_at(
+    place: u32,
+    a: &Expr,
+    s: &Scene,
+    fields: &[Value],
+    registers: &[Value],
+) -> Result<Value, Fault>
+    requires { HasColumns s.now.graph.now s.now.columns }
+    ensures { result ≡ value (view_with (scene_of s.now) fields.now registers.now) (Live place (term a.now)) }
+{
+    match evaluate(a, s, fields, registers) {
+        Ok(v) => live(place, v),
+        Err(f) => Err(f),
+    }
+}
+
+// Whether two expressions are True, and whether one of them is. The second is left out where the first decides.
+#[cycle(evaluation)]
+fn both(
+    a: &Expr,
+    b: &Expr,
+    s: &Scene,
+    fields: &[Value],
+    registers: &[Value],
+) -> Result<Value, Fault>
+    requires { HasColumns s.now.graph.now s.now.columns }
+    ensures { result ≡ value (view_with (scene_of s.now) fields.now registers.now) (And (term a.now) (term b.now)) }
+{
+    match evaluate(a, s, fields, registers) {
+        Ok(x) if holds(x) => evaluate(b, s, fields, registers),
+        other => other,
+    }
+}
+
+#[cycle(evaluation)]
+fn either(
+    a: &Expr,
+    b: &Expr,
+    s: &Scene,
+    fields: &[Value],
+    registers: &[Value],
+) -> Result<Value, Fault>
+    requires { HasColumns s.now.graph.now s.now.columns }
+    ensures { result ≡ value (view_with (scene_of s.now) fields.now registers.now) (Or (term a.now) (term b.now)) }
+{
+    match evaluate(a, s, fields, registers) {
+        Ok(x) if !holds(x) => evaluate(b, s, fields, registers),
+        other => other,
+    }
+}
+
+// One of two expressions, chosen by a third.
+#[cycle(evaluation)]
+fn choose(
+    c: &Expr,
+    a: &Expr,
+    b: &Expr,
+    s: &Scene,
+    fields: &[Value],
+    registers: &[Value],
+) -> Result<Value, Fault>
+    requires { HasColumns s.now.graph.now s.now.columns }
+    ensures { result ≡ value (view_with (scene_of s.now) fields.now registers.now) (Choose (term c.now) (term a.now) (term b.now)) }
+{
+    match evaluate(c, s, fields, registers) {
+        Ok(x) if holds(x) => evaluate(a, s, fields, registers),
+        Ok(_) => evaluate(b, s, fields, registers),
+        Err(f) => Err(f),
+    }
+}
+
+// The value of an expression by its shape. It stands apart from the leaves, which are answered where they are asked for.
+#[cycle(evaluation)]
+#[inline(never)]
+fn by_shape(e: &Expr, s: &Scene, fields: &[Value], registers: &[Value]) -> Result<Value, Fault>
     requires { HasColumns s.now.graph.now s.now.columns }
     ensures { result ≡ value (view_with (scene_of s.now) fields.now registers.now) (term e.now) }
 {
@@ -162,96 +324,44 @@ pub(crate) fn evaluate(
         Expr::Message(i) => Ok(value_at(s.message, *i)),
         Expr::Neighbour => Ok(Value::At(Some(s.neighbour))),
         Expr::Column(c) => Ok(edge_value_at(s.graph, s.columns, *c, s.edge)),
-        Expr::NodeAt(a) => match evaluate(a, s, fields, registers) {
-            Ok(v) => Ok(node_with(s.graph, v)),
-            Err(f) => Err(f),
-        },
-        Expr::Live(p, a) => match evaluate(a, s, fields, registers) {
-            Ok(v) => live(*p, v),
-            Err(f) => Err(f),
-        },
-        Expr::Add(p, a, b) => binary(
-            Op2::Add,
-            *p,
-            evaluate(a, s, fields, registers),
-            evaluate(b, s, fields, registers),
-        ),
-        Expr::Sub(p, a, b) => binary(
-            Op2::Sub,
-            *p,
-            evaluate(a, s, fields, registers),
-            evaluate(b, s, fields, registers),
-        ),
-        Expr::Mul(p, a, b) => binary(
-            Op2::Mul,
-            *p,
-            evaluate(a, s, fields, registers),
-            evaluate(b, s, fields, registers),
-        ),
-        Expr::Div(p, a, b) => binary(
-            Op2::Div,
-            *p,
-            evaluate(a, s, fields, registers),
-            evaluate(b, s, fields, registers),
-        ),
-        Expr::Rem(p, a, b) => binary(
-            Op2::Rem,
-            *p,
-            evaluate(a, s, fields, registers),
-            evaluate(b, s, fields, registers),
-        ),
-        Expr::Neg(p, a) => unary(Op1::Neg, *p, evaluate(a, s, fields, registers)),
-        Expr::ToInt(p, a) => unary(Op1::ToI32, *p, evaluate(a, s, fields, registers)),
-        Expr::ToLong(a) => unary(Op1::ToI64, 0, evaluate(a, s, fields, registers)),
-        Expr::Eq(a, b) => binary(
-            Op2::Eq,
-            0,
-            evaluate(a, s, fields, registers),
-            evaluate(b, s, fields, registers),
-        ),
-        Expr::Ne(a, b) => binary(
-            Op2::Ne,
-            0,
-            evaluate(a, s, fields, registers),
-            evaluate(b, s, fields, registers),
-        ),
-        Expr::Lt(a, b) => binary(
-            Op2::Lt,
-            0,
-            evaluate(a, s, fields, registers),
-            evaluate(b, s, fields, registers),
-        ),
-        Expr::Gt(a, b) => binary(
-            Op2::Gt,
-            0,
-            evaluate(a, s, fields, registers),
-            evaluate(b, s, fields, registers),
-        ),
-        Expr::Le(a, b) => binary(
-            Op2::Le,
-            0,
-            evaluate(a, s, fields, registers),
-            evaluate(b, s, fields, registers),
-        ),
-        Expr::Ge(a, b) => binary(
-            Op2::Ge,
-            0,
-            evaluate(a, s, fields, registers),
-            evaluate(b, s, fields, registers),
-        ),
-        Expr::Not(a) => unary(Op1::Not, 0, evaluate(a, s, fields, registers)),
-        Expr::And(a, b) => match evaluate(a, s, fields, registers) {
-            Ok(x) if holds(x) => evaluate(b, s, fields, registers),
-            other => other,
-        },
-        Expr::Or(a, b) => match evaluate(a, s, fields, registers) {
-            Ok(x) if !holds(x) => evaluate(b, s, fields, registers),
-            other => other,
-        },
-        Expr::Choose(c, a, b) => match evaluate(c, s, fields, registers) {
-            Ok(x) if holds(x) => evaluate(a, s, fields, registers),
-            Ok(_) => evaluate(b, s, fields, registers),
-            Err(f) => Err(f),
-        },
+        Expr::NodeAt(a) => node_at(a, s, fields, registers),
+        Expr::Live(p, a) => live_at(*p, a, s, fields, registers),
+        Expr::Add(p, a, b) => binary(Op2::Add, *p, a, b, s, fields, registers),
+        Expr::Sub(p, a, b) => binary(Op2::Sub, *p, a, b, s, fields, registers),
+        Expr::Mul(p, a, b) => binary(Op2::Mul, *p, a, b, s, fields, registers),
+        Expr::Div(p, a, b) => binary(Op2::Div, *p, a, b, s, fields, registers),
+        Expr::Rem(p, a, b) => binary(Op2::Rem, *p, a, b, s, fields, registers),
+        Expr::Neg(p, a) => unary(Op1::Neg, *p, a, s, fields, registers),
+        Expr::ToInt(p, a) => unary(Op1::ToI32, *p, a, s, fields, registers),
+        Expr::ToLong(a) => unary(Op1::ToI64, 0, a, s, fields, registers),
+        Expr::Eq(a, b) => binary(Op2::Eq, 0, a, b, s, fields, registers),
+        Expr::Ne(a, b) => binary(Op2::Ne, 0, a, b, s, fields, registers),
+        Expr::Lt(a, b) => binary(Op2::Lt, 0, a, b, s, fields, registers),
+        Expr::Gt(a, b) => binary(Op2::Gt, 0, a, b, s, fields, registers),
+        Expr::Le(a, b) => binary(Op2::Le, 0, a, b, s, fields, registers),
+        Expr::Ge(a, b) => binary(Op2::Ge, 0, a, b, s, fields, registers),
+        Expr::Not(a) => unary(Op1::Not, 0, a, s, fields, registers),
+        Expr::And(a, b) => both(a, b, s, fields, registers),
+        Expr::Or(a, b) => either(a, b, s, fields, registers),
+        Expr::Choose(c, a, b) => choose(c, a, b, s, fields, registers),
+    }
+}
+
+/// The value of an expression at a vertex with these fields and registers, or the fault of the first operation in it that has none. What an image may not name,
+/// an index out of range or a leaf where it has no sense, is NIL.
+#[cycle(evaluation)]
+#[inline(always)]
+pub(crate) fn evaluate(
+    e: &Expr,
+    s: &Scene,
+    fields: &[Value],
+    registers: &[Value],
+) -> Result<Value, Fault>
+    requires { HasColumns s.now.graph.now s.now.columns }
+    ensures { result ≡ value (view_with (scene_of s.now) fields.now registers.now) (term e.now) }
+{
+    match leaf(e, s, fields, registers) {
+        Some(v) => Ok(v),
+        None => by_shape(e, s, fields, registers),
     }
 }

@@ -31,7 +31,20 @@ fn load(rows: &[Cells], node: usize, into: &mut Vec<Value>) -> Result<(), NoMemo
     Ok(())
 }
 
+// Puts the values of a node, one of each row, over those of a list that is as long.
+#[inline(always)]
+fn reload(rows: &[Cells], node: usize, into: &mut Vec<Value>)
+    requires inside { All (λ values. node < length values) (map values_of rows.now) }
+    requires long { length into.old.items ≡ length rows.now }
+    ensures { into.new.items ≡ row_at (map values_of rows.now) node }
+{
+    for (slot, row) in rows.iter().enumerate() {
+        into[slot] = row.get(node);
+    }
+}
+
 // Writes a value of a node into a row.
+#[inline(always)]
 fn write(
     alloc: Global,
     rows: &mut Vec<Cells>,
@@ -91,6 +104,10 @@ impl Fields {
         requires full { IsFull (length self.now.rows.items) self.now }
         ensures { OnOk result (into.new.items ≡ slice_index_or (fields_of self.now) node []) }
     {
+        if into.len() == self.rows.len() {
+            reload(&self.rows, node, into);
+            return Ok(());
+        }
         load(&self.rows, node, into)?;
         Ok(())
     }

@@ -1,17 +1,17 @@
 //! The lines of vertex programs.
 
-ghost use Rattle.std.specs.Prelude.{◌≡◌, ◌<◌, ◌++◌, ℕ, Some, IfOk, OnOk, map, length, slice_get, slice_set};
+ghost use Rattle.std.specs.Prelude.{◌≡◌, ◌<◌, ◌++◌, ◌∷◌, [], ℕ, Some, IfOk, OnOk, map, length, slice_get, slice_set};
 ghost use Rattle.gm_value.specs.Numbers.{zero_of};
 ghost use Rattle.gm_graph.specs.Graphs.{HasNode};
 ghost use Rattle.gm_image.specs.Views.{term, line, target};
 ghost use Rattle.gm_image.specs.Program.{SetField, Fold, SetRegister, Put, Send, Skip};
-ghost use Rattle.gm_machine.specs.Expressions.{values};
+ghost use Rattle.gm_machine.specs.Expressions.{value, values};
 ghost use Rattle.gm_machine.specs.Sights.{HasColumns, scene_of, work_of, after_line, after_lines, direction, answered};
-ghost use Rattle.gm_machine.specs.Vertex.{view_with, gives, messages_to, line_after, lines_after, turns_after, steps};
+ghost use Rattle.gm_machine.specs.Vertex.{view, view_with, line_ends, leaves, gives, messages_to, line_after, lines_after, turns_after, steps};
 
 use crate::batches::Batch;
 use crate::contributions::Contribution;
-use crate::expressions::{Scene, evaluate, holds};
+use crate::expressions::{Scene, evaluate, holds, leaf};
 use crate::faults::{Fault, lesser};
 use gm_base::NoMemory;
 use gm_graph::Graph;
@@ -102,6 +102,10 @@ fn set_field(field: u32, a: &Expr, scene: &Scene, work: &mut Work) -> LineEnd
     requires { HasColumns scene.now.graph.now scene.now.columns }
     ensures { after_line (work_of work.new) result ≡ line_after (scene_of scene.now) (SetField field (term a.now)) (work_of work.old) }
 {
+    if let Some(v) = leaf(a, scene, &work.fields, &work.registers) {
+        write(&mut work.fields, field, v);
+        return LineEnd::Next(0);
+    }
     match evaluate(a, scene, &work.fields, &work.registers) {
         Ok(v) => {
             write(&mut work.fields, field, v);
@@ -124,6 +128,41 @@ fn set_register(register: u32, a: &Expr, scene: &Scene, work: &mut Work) -> Line
     }
 }
 
+// A fold onto one slot, which is what most folds are. It takes no room beside that of the folds.
+fn fold_one(
+    reduce: Reduce,
+    place: u32,
+    t: &(u32, Expr),
+    scene: &Scene,
+    work: &mut Work,
+) -> Result<LineEnd, NoMemory>
+    requires { HasColumns scene.now.graph.now scene.now.columns }
+    ensures { IfOk result (λ end. after_line (work_of work.new) end
+        ≡ line_after (scene_of scene.now) (Fold reduce place (target t.now ∷ [])) (work_of work.old)) }
+{
+    if let Some(value) = leaf(&t.1, scene, &work.fields, &work.registers) {
+        work.folds.push(Contribution {
+            place,
+            reduce,
+            slot: t.0,
+            value,
+        })?;
+        return Ok(LineEnd::Next(0));
+    }
+    match evaluate(&t.1, scene, &work.fields, &work.registers) {
+        Ok(value) => {
+            work.folds.push(Contribution {
+                place,
+                reduce,
+                slot: t.0,
+                value,
+            })?;
+            Ok(LineEnd::Next(0))
+        }
+        Err(f) => Ok(LineEnd::Faulted(f)),
+    }
+}
+
 fn fold(
     reduce: Reduce,
     place: u32,
@@ -135,6 +174,9 @@ fn fold(
     ensures { IfOk result (λ end. after_line (work_of work.new) end
         ≡ line_after (scene_of scene.now) (Fold reduce place (map target targets.now)) (work_of work.old)) }
 {
+    if let [only] = targets {
+        return fold_one(reduce, place, only, scene, work);
+    }
     match evaluate_targets(
         reduce,
         place,
@@ -152,6 +194,41 @@ fn fold(
     }
 }
 
+// A put onto one slot.
+fn put_one(
+    reduce: Reduce,
+    place: u32,
+    t: &(u32, Expr),
+    scene: &Scene,
+    work: &mut Work,
+) -> Result<LineEnd, NoMemory>
+    requires { HasColumns scene.now.graph.now scene.now.columns }
+    ensures { IfOk result (λ end. after_line (work_of work.new) end
+        ≡ line_after (scene_of scene.now) (Put reduce place (target t.now ∷ [])) (work_of work.old)) }
+{
+    if let Some(value) = leaf(&t.1, scene, &work.fields, &work.registers) {
+        work.puts.push(Contribution {
+            place,
+            reduce,
+            slot: t.0,
+            value,
+        })?;
+        return Ok(LineEnd::Next(0));
+    }
+    match evaluate(&t.1, scene, &work.fields, &work.registers) {
+        Ok(value) => {
+            work.puts.push(Contribution {
+                place,
+                reduce,
+                slot: t.0,
+                value,
+            })?;
+            Ok(LineEnd::Next(0))
+        }
+        Err(f) => Ok(LineEnd::Faulted(f)),
+    }
+}
+
 fn put(
     reduce: Reduce,
     place: u32,
@@ -163,6 +240,9 @@ fn put(
     ensures { IfOk result (λ end. after_line (work_of work.new) end
         ≡ line_after (scene_of scene.now) (Put reduce place (map target targets.now)) (work_of work.old)) }
 {
+    if let [only] = targets {
+        return put_one(reduce, place, only, scene, work);
+    }
     match evaluate_targets(
         reduce,
         place,
@@ -190,6 +270,28 @@ fn send_to(target: Value, kind: u32, values: &[Value], messages: &mut Batch) -> 
     Ok(())
 }
 
+// A message of one value, which is what most messages are.
+fn send_one(
+    target: Value,
+    kind: u32,
+    a: &Expr,
+    scene: &Scene,
+    work: &mut Work,
+) -> Result<LineEnd, NoMemory>
+    requires { HasColumns scene.now.graph.now scene.now.columns }
+    ensures { IfOk result (λ end. after_line (work_of work.new) end
+        ≡ line_ends (work_of work.old) (value (view (scene_of scene.now) (work_of work.old)) (term a.now)) (λ v.
+        leaves (record (work_of work.old) { messages = work.old.messages ++ messages_to target kind (v ∷ []) }))) }
+{
+    match evaluate(a, scene, &work.fields, &work.registers) {
+        Ok(v) => {
+            send_to(target, kind, &[v], &mut work.messages)?;
+            Ok(LineEnd::Next(0))
+        }
+        Err(f) => Ok(LineEnd::Faulted(f)),
+    }
+}
+
 fn send(
     kind: u32,
     to: &Expr,
@@ -205,6 +307,9 @@ fn send(
         Ok(target) => target,
         Err(f) => return Ok(LineEnd::Faulted(f)),
     };
+    if let [only] = values {
+        return send_one(target, kind, only, scene, work);
+    }
     match evaluate_all(
         values,
         scene,
@@ -224,6 +329,10 @@ fn skip(n: u32, a: &Expr, scene: &Scene, work: &Work) -> LineEnd
     requires { HasColumns scene.now.graph.now scene.now.columns }
     ensures { after_line (work_of work.now) result ≡ line_after (scene_of scene.now) (Skip n (term a.now)) (work_of work.now) }
 {
+    if let Some(v) = leaf(a, scene, &work.fields, &work.registers) {
+        let left_out = if holds(v) { 0 } else { n };
+        return LineEnd::Next(left_out);
+    }
     match evaluate(a, scene, &work.fields, &work.registers) {
         Ok(v) => LineEnd::Next(if holds(v) { 0 } else { n }),
         Err(f) => LineEnd::Faulted(f),
@@ -331,6 +440,7 @@ pub(crate) fn run_turns(
 }
 
 /// Sets the registers to zero.
+#[inline(always)]
 pub(crate) fn reset(registers: &mut Vec<Value>, types: &[VType]) -> Result<(), NoMemory>
     ensures { OnOk result (registers.new.items ≡ map zero_of types.now) }
 {

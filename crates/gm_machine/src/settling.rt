@@ -49,6 +49,9 @@ fn next_place(contributions: &[Contribution], slot: usize, from: usize, bound: u
     ensures a_place { result < bound → result < 2 ^ 32 }
     ensures none_before { All (IsPast slot from result) contributions.now }
 {
+    if bound <= from {
+        return bound;
+    }
     let mut next = bound;
     for c in contributions {
         let place = c.place as usize;

@@ -105,6 +105,34 @@ fn step_node(
     Ok(fault)
 }
 
+// The steps of all nodes, in ascending order, where no messages wait.
+fn step_quiet(
+    alloc: Global,
+    round: &Round,
+    fields: &mut Fields,
+    work: &mut Work,
+) -> Result<Option<Fault>, NoMemory>
+    requires columns { FitsGraph round.now.image.now round.now.graph.now }
+    requires keeps { (kind : ℕ) → never_sets (handler_lines (todo_of round.now.todo).handlers kind) ≡ true }
+    requires nodes { fields.old.nodes ≡ node_count round.now.graph.now }
+    requires full { IsFull (length fields.old.rows.items) fields.old }
+    requires messages { work.old.messages ≡ [] }
+    requires puts { work.old.puts.items ≡ [] }
+    ensures nodes { OnOk result (fields.new.nodes ≡ fields.old.nodes) }
+    ensures full { OnOk result (IsFull (length fields.old.rows.items) fields.new) }
+    ensures together { IfOk result (λ f.
+        record { fields = fields_of fields.new; messages = work.new.messages; puts = work.new.puts.items; fault = f }
+        ≡ together (nodes_after round.now [] (fields_of fields.old))) }
+{
+    let nodes = round.graph.node_count();
+    let mut fault = None;
+    for node in 0..nodes {
+        let one = step_node(alloc, round, &[], node, fields, work)?;
+        fault = lesser(fault, one);
+    }
+    Ok(fault)
+}
+
 // The steps of all nodes, in ascending order, with the messages of some heads.
 fn step_all(
     alloc: Global,
@@ -126,6 +154,9 @@ fn step_all(
         record { fields = fields_of fields.new; messages = work.new.messages; puts = work.new.puts.items; fault = f }
         ≡ together (nodes_after round.now heads.now (fields_of fields.old))) }
 {
+    if heads.is_empty() {
+        return step_quiet(alloc, round, fields, work);
+    }
     let nodes = round.graph.node_count();
     let (sorted, starts) = grouped(alloc, heads, nodes as usize)?;
     let mut fault = None;

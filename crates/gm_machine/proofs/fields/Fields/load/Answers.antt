@@ -6,8 +6,14 @@ use Rattle.gm_machine.specs.Machine.{row_at}
 use Rattle.gm_machine.proofs.FieldRows.{get_or-by_node}
 use Rattle.gm_machine.proofs.fields.Fields.load.Goals as goal
 
+pub returns-then-len : goal.returns-then-len
+returns-then-len c =
+    c.reload.ensures
+    ∙ ap (λ rows. row_at (map values_of rows) c.args.node) c.deref.ensures.value
+    ∙ sym (get_or-by_node c.args.self.now.nodes (columns_of c.args.self.now) c.args.node [] c.requires.node)
+
 pub returns : goal.returns
 returns c =
     c.in_ok-load.ensures
-    ∙ ap (λ rows. row_at (map values_of rows) c.args.node) c.deref.ensures.value
+    ∙ ap (λ rows. row_at (map values_of rows) c.args.node) c.deref-2.ensures.value
     ∙ sym (get_or-by_node c.args.self.now.nodes (columns_of c.args.self.now) c.args.node [] c.requires.node)
