@@ -8,7 +8,7 @@ use Rattle.gm_value.specs.declared.values.Value.{Value}
 use Rattle.gm_value.specs.declared.values.Value.TheVariants.{I32}
 use Rattle.gm_source.specs.declared.slots.Slot.TheVariants.{Scalar, Node}
 use Rattle.gm_source.specs.Stores as S
-use Rattle.gm_store.specs.Held.{Row, Held, uniform_row, value_in, with_value, no_row, scalar_of, node_of, store_of, put}
+use Rattle.gm_store.specs.Held.{Row, Held, uniform_row, value_in, with_value, no_row, scalar_of, node_of, store_of, put, replaced}
 
 -- an element after a write, by whether it is the one that was written
 pub get_or-set_by : {X : Type 0} (xs : List X) (i : ℕ) (v d : X) (j : ℕ) → i < length xs → get_or (set xs i v) j d ≡ (if nat_eq i j then v else get_or xs j d)
@@ -65,6 +65,31 @@ pub row-filled : (edge : ℕ → ℕ → Value) (h : Held) (p : ℕ) (v : Value)
 row-filled edge h p v within =
     ap (λ f. let s : S.Store = record { scalar = scalar_of h; node = f; edge = edge } in s)
     (fun_ext (λ q. fun_ext (λ m. ap (λ r. value_in r m) (get_or-set_by h.rows p (uniform_row h.nodes v) no_row q within) ∙ uniform-by h.nodes v (get_or h.rows q no_row) m (nat_eq p q))))
+
+-- what a longer default says of an element that there is, and of one that there is not
+pub get_or-full : {X : Type 0} (xs ys : List X) (n : ℕ) (d : X) → length xs ≡ length ys → get_or xs n d ≡ get_or xs n (get_or ys n d)
+get_or-full [] [] n d e = refl
+get_or-full [] (y ∷ ys) n d e = absurd (omega arith)
+get_or-full (x ∷ xs) [] n d e = absurd (omega arith)
+get_or-full (x ∷ xs) (y ∷ ys) zero d e = refl
+get_or-full (x ∷ xs) (y ∷ ys) (suc n) d e = get_or-full xs ys n d (omega arith)
+
+-- a property has other values
+pub row-replaced : (edge : ℕ → ℕ → Value) (h : Held) (p : ℕ) (values : List Value) → p < length h.rows → length values ≡ length (get_or h.rows p no_row).values →
+    store_of edge (record h { rows = set h.rows p (record { values = values; other = (get_or h.rows p no_row).other }) }) ≡ replaced (store_of edge h) p values
+row-replaced edge h p values within full =
+    ap (λ f. let s : S.Store = record { scalar = scalar_of h; node = f; edge = edge } in s)
+    (fun_ext (λ q. fun_ext (λ m. ap (λ r. value_in r m) (get_or-set_by h.rows p other no_row q within) ∙ by_test q m (nat_eq p q) refl)))
+  where
+    other : Row
+    other = record { values = values; other = (get_or h.rows p no_row).other }
+
+    by_test : (q m : ℕ) (b : Bool) → nat_eq p q ≡ b →
+        value_in (if b then other else get_or h.rows q no_row) m ≡ (if b then get_or values m (node_of h q m) else node_of h q m)
+    by_test q m true same =
+        get_or-full values (get_or h.rows p no_row).values m (get_or h.rows p no_row).other full
+        ∙ ap (λ k. get_or values m (node_of h k m)) (eqb-true p q same)
+    by_test q m false away = refl
 
 -- a property is added, with one value everywhere
 pub row-added : (edge : ℕ → ℕ → Value) (h : Held) (v : Value) →

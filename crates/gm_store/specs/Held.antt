@@ -1,5 +1,5 @@
 -- The store of a run as contracts see it: what it holds, the store of the source meaning that this is, and how writes are taken back.
-use Rattle.std.specs.Prelude.{◌≡◌, ◌<◌, ◌≤◌, ℕ, pos, List, [], ◌∷◌, ◌++◌, All, length, replicate, slice_index_or, slice_set}
+use Rattle.std.specs.Prelude.{◌≡◌, ◌<◌, ◌≤◌, ℕ, nat_eq, if◌then◌else◌, pos, List, [], ◌∷◌, ◌++◌, All, length, replicate, slice_index_or, slice_set}
 use Rattle.gm_value.specs.declared.values.Value.{Value}
 use Rattle.gm_value.specs.declared.values.Value.TheVariants.{I32}
 use Rattle.gm_source.specs.declared.slots.Slot.{Slot}
@@ -51,6 +51,10 @@ held_at h (Node p n) = node_of h p n
 -- the store of the source meaning that is held, with the values of edge properties
 abbrev pub store_of : (ℕ → ℕ → Value) → Held → S.Store
 store_of edge h = record { scalar = scalar_of h; node = node_of h; edge = edge }
+
+-- the store with other values of a property by node: what there is no value for stays as it was
+abbrev pub replaced : S.Store → ℕ → List Value → S.Store
+replaced s p values = record s { node = λ q n. if nat_eq p q then slice_index_or values n (s.node q n) else s.node q n }
 
 -- how many scalars, rows and nodes there are
 pub record Shape : Type 0 where

@@ -13,8 +13,8 @@ use std::alloc::Global;
 // The place of NIL in a row of node indices.
 const NIL: u32 = u32::MAX;
 
-// The values of a row by node: one value for all nodes, which takes no room, numbers or truth values of one type,
-// or values of any type.
+/// The values of a property by node: one value for all nodes, which takes no room, numbers or truth values of one
+/// type, or values of any type. A row of node indices has the greatest number where the value is NIL.
 #[derive(Debug, Drop)]
 pub enum Cells {
     Uniform { value: Value, nodes: usize },
@@ -26,7 +26,7 @@ pub enum Cells {
 }
 
 impl Cells {
-    // How many nodes there are.
+    /// How many nodes there are.
     pub fn len(&self) -> usize
         ensures { result ≡ length (values_of self.now) }
     {
@@ -40,7 +40,8 @@ impl Cells {
         }
     }
 
-    // The value at a node.
+    /// The value at a node.
+    #[inline(always)]
     pub fn get(&self, node: usize) -> Value
         requires { node < length (values_of self.now) }
         ensures { (d : Value) → result ≡ slice_index_or (values_of self.now) node d }
@@ -56,7 +57,7 @@ impl Cells {
     }
 
     // Whether the cells can hold a value at a node as they are.
-    pub fn takes(&self, value: Value) -> bool
+    pub(crate) fn takes(&self, value: Value) -> bool
         ensures { IsTrue result → Takes self.now value }
     {
         match (self, value) {
@@ -71,7 +72,7 @@ impl Cells {
     }
 
     // Writes a value that the cells can hold at a node.
-    pub fn put(&mut self, node: usize, value: Value)
+    pub(crate) fn put(&mut self, node: usize, value: Value)
         requires within { node < length (values_of self.old) }
         requires taken { Takes self.old value }
         ensures { values_of self.new ≡ slice_set (values_of self.old) node value }
@@ -88,7 +89,7 @@ impl Cells {
     }
 
     // Cells with the same values that can hold one more value: typed ones where all values are of its type.
-    pub fn widened(&self, alloc: Global, value: Value) -> Result<Cells, NoMemory>
+    pub(crate) fn widened(&self, alloc: Global, value: Value) -> Result<Cells, NoMemory>
         ensures values { IfOk result (λ cells. values_of cells ≡ values_of self.now) }
         ensures taken { IfOk result (λ cells. Takes cells value) }
     {
@@ -99,6 +100,23 @@ impl Cells {
             }
         }
         Ok(Cells::Mixed(self.mixed(alloc)?))
+    }
+
+    /// Cells with the same values.
+    pub fn copied(&self, alloc: Global) -> Result<Cells, NoMemory>
+        ensures { IfOk result (λ cells. values_of cells ≡ values_of self.now) }
+    {
+        match self {
+            Cells::Uniform { value, nodes } => Ok(Cells::Uniform {
+                value: *value,
+                nodes: *nodes,
+            }),
+            Cells::Ints(cells) => Ok(Cells::Ints(cells.as_slice().to_vec(alloc)?)),
+            Cells::Longs(cells) => Ok(Cells::Longs(cells.as_slice().to_vec(alloc)?)),
+            Cells::Flags(cells) => Ok(Cells::Flags(cells.as_slice().to_vec(alloc)?)),
+            Cells::Nodes(cells) => Ok(Cells::Nodes(cells.as_slice().to_vec(alloc)?)),
+            Cells::Mixed(cells) => Ok(Cells::Mixed(cells.as_slice().to_vec(alloc)?)),
+        }
     }
 
     // The values, one by one.

@@ -6,6 +6,7 @@ mod laws;
 mod rows;
 mod store;
 
+pub use cells::Cells;
 pub use laws::{logged_writes_are_reversible, rolling_back_restores};
 pub use store::Store;
 

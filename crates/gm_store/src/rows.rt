@@ -1,6 +1,7 @@
 //! Rows: the values of a property by node.
 
 ghost use Rattle.std.specs.Prelude.{◌≡◌, ◌<◌, ◌≤◌, length, OnOk, OnErr};
+ghost use Rattle.gm_store.specs.Cells.{values_of};
 ghost use Rattle.gm_store.specs.Held.{uniform_row, value_in, with_value};
 
 use crate::cells::Cells;
@@ -57,5 +58,19 @@ impl Row {
         }
         self.cells.put(node, value);
         Ok(())
+    }
+
+    // The values by node.
+    pub fn cells(&self) -> &Cells
+        ensures { values_of result.now ≡ self.now.values }
+    {
+        &self.cells
+    }
+
+    // Other values by node. What is no node keeps its value.
+    pub fn replace(&mut self, cells: Cells)
+        ensures { self.new ≡ record self.old { values = values_of cells } }
+    {
+        self.cells = cells;
     }
 }

@@ -1,10 +1,12 @@
 //! The store of a run.
 
-ghost use Rattle.std.specs.Prelude.{◌≡◌, ◌<◌, ◌≤◌, ◌+◌, ℕ, [], ◌∷◌, ◌++◌, All, OnOk, OnErr, length, take, drop};
+ghost use Rattle.std.specs.Prelude.{◌≡◌, ◌<◌, ◌≤◌, ◌+◌, ℕ, [], ◌∷◌, ◌++◌, All, OnOk, OnErr, length, slice_index_or, take, drop};
 ghost use Rattle.gm_source.specs.Stores.{write, fill};
 ghost use Rattle.gm_source.specs.declared.slots.Slot.TheVariants.{Scalar};
-ghost use Rattle.gm_store.specs.Held.{uniform_row, scalar_of, node_of, held_at, store_of, shape_of, HasSlot, undone, Reversible};
+ghost use Rattle.gm_store.specs.Cells.{values_of};
+ghost use Rattle.gm_store.specs.Held.{replaced, uniform_row, scalar_of, node_of, held_at, store_of, shape_of, HasSlot, undone, Reversible};
 
+use crate::cells::Cells;
 use crate::rows::Row;
 use gm_base::NoMemory;
 use gm_source::slots::{Slot, Write};
@@ -176,6 +178,29 @@ impl Store {
         ensures shape { shape_of self.new ≡ shape_of self.old }
     {
         self.rows[property as usize] = Row::uniform(self.nodes as usize, value);
+    }
+
+    /// The values of a property by node.
+    pub fn cells(&self, property: u32) -> &Cells
+        requires { property < length self.now.rows }
+        ensures full { length (values_of result.now) ≡ self.now.nodes }
+        ensures values { (n : ℕ) (d : Value) → n < self.now.nodes → slice_index_or (values_of result.now) n d ≡ node_of self.now property n }
+    {
+        let row = &self.rows[property as usize];
+        row.cells()
+    }
+
+    /// Gives a property other values, one for each node. What is no node keeps its value. This is not logged: it stays
+    /// when writes are taken back.
+    pub fn replace(&mut self, property: u32, cells: Cells)
+        requires property { property < length self.old.rows }
+        requires full { length (values_of cells) ≡ self.old.nodes }
+        ensures store { (edge : ℕ → ℕ → Value) → store_of edge self.new ≡ replaced (store_of edge self.old) property (values_of cells) }
+        ensures undo { self.new.undo ≡ self.old.undo }
+        ensures shape { shape_of self.new ≡ shape_of self.old }
+    {
+        let row = &mut self.rows[property as usize];
+        row.replace(cells);
     }
 
     /// The logged writes, in order, each with the value that its slot held before.
