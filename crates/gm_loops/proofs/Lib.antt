@@ -5,7 +5,9 @@ pub mod Effects
 pub mod Parting
 pub mod Turning
 pub mod Closing
+pub mod Renewing
 pub mod Statements
 pub mod Keeping
 pub mod Looping
+pub mod Everywhere
 pub mod Deeds

@@ -3,6 +3,7 @@ use Rattle.std.proofs.Common.{◌≡◌, ℕ, Vec, Option, map, rules}
 use Rattle.std.specs.Prelude.{Box, box_value, option_map}
 use Rattle.std.specs.declared.alloc.Global.{Global}
 use Rattle.gm_base.specs.declared.places.Place.{Place}
+use Rattle.gm_value.specs.declared.operations.Op1.{Op1}
 use Rattle.gm_value.specs.declared.operations.Op2.{Op2}
 use Rattle.gm_ast.specs.declared.tree.Fold.{Fold}
 use Rattle.gm_ast.specs.declared.tree.Head.{Head}
@@ -16,6 +17,15 @@ use Rattle.gm_ast.specs.declared.tree.TotalKey.{TotalKey}
 use Rattle.gm_value.specs.declared.reductions.Reduce.{Reduce}
 use Rattle.gm_ast.specs.Program as P
 use Rattle.gm_ast.specs.Tree.{expr_of, stmt_of}
+
+pub expr_of-Var : (x : ℕ) (at : Place) → expr_of (E.Var x at) ≡ P.Var x at
+expr_of-Var x at = search (rules, expr_lemmas)
+
+pub expr_of-Property : (x p : ℕ) (at : Place) → expr_of (E.Property x p at) ≡ P.Property x p at
+expr_of-Property x p at = search (rules, expr_lemmas)
+
+pub expr_of-Unary : (op : Op1) (at : Place) (e : Box E.Expr Global) → expr_of (E.Unary op at e) ≡ P.Unary op at (expr_of (box_value e))
+expr_of-Unary op at e = search (rules, expr_lemmas)
 
 pub expr_of-Binary : (op : Op2) (at : Place) (a b : Box E.Expr Global) → expr_of (E.Binary op at a b) ≡ P.Binary op at (expr_of (box_value a)) (expr_of (box_value b))
 expr_of-Binary op at a b = search (rules, expr_lemmas)

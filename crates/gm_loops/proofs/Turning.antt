@@ -24,7 +24,7 @@ use Rattle.gm_loops.proofs.Effects.{fits-same}
 use Rattle.gm_loops.proofs.Parting.{faults-append, joined-one, least-one, map-append, parts-append}
 
 -- what is held is as it was, by another name
-ready-same : (f : Setting) (a b : Going) → shape_of b.store ≡ shape_of a.store → b.inner ≡ a.inner → b.outermost ≡ a.outermost → b.deferred ≡ a.deferred → IsReady f a → IsReady f b
+pub ready-same : (f : Setting) (a b : Going) → shape_of b.store ≡ shape_of a.store → b.inner ≡ a.inner → b.outermost ≡ a.outermost → b.deferred ≡ a.deferred → IsReady f a → IsReady f b
 ready-same f a b shape inner outermost deferred r = record {
   fits = fits-same f a.store b.store shape r.fits;
   inner = subst (λ (t : Totals). Within (shape_of b.store) t) (sym inner) (subst (λ (s : Shape). Within s a.inner) (sym shape) r.inner);

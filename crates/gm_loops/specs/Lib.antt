@@ -11,3 +11,5 @@ pub mod LoopEnds
 pub mod Turns
 pub mod Own
 pub mod Shorts
+pub mod Columns
+pub mod Renewals

@@ -4,6 +4,7 @@
 mod around;
 mod bodies;
 mod bounds;
+mod columns;
 mod doing;
 mod expressions;
 mod faultless;
@@ -12,6 +13,7 @@ mod loops;
 mod own;
 mod parts;
 mod ranges;
+mod renewals;
 mod runnings;
 mod scopes;
 mod shorts;

@@ -71,6 +71,30 @@ impl Going {
             (store_of (edges_in around.now.setting.now) self.old.store)) }
         ensures rest { IfOk result (λ fault. AtRest around.now.setting.now self.new) }
     {
+        if self.renews(around, filter, nodes)? {
+            return Ok(None);
+        }
+        self.turn_by_turn(around, key, filter, nodes)
+    }
+
+    // A parallel loop, done iteration by iteration.
+    fn turn_by_turn(
+        &mut self,
+        around: &Around,
+        key: Key,
+        filter: &Expr,
+        nodes: LoopNodes,
+    ) -> Result<Option<Fault>, NoMemory>
+        requires rest { AtRest around.now.setting.now self.old }
+        requires iterator { around.now.outer < around.now.setting.now.variables }
+        requires bound { bound_of (body_of around.now.body) ≤ around.now.setting.now.variables }
+        requires known { All (λ n. n < node_count around.now.setting.now.graph.now) (nodes_in nodes) }
+        ensures meaning { IfOk result (λ fault.
+            ended fault (store_of (edges_in around.now.setting.now) self.new.store)
+            ≡ parallel (loop_of around.now) key (expr_of filter.now) (body_of around.now.body) (nodes_in nodes.entry)
+            (store_of (edges_in around.now.setting.now) self.old.store)) }
+        ensures rest { IfOk result (λ fault. AtRest around.now.setting.now self.new) }
+    {
         let mut own = Vec::new(self.alloc);
         let least = self.outer_turns(around, key, filter, nodes, &mut own)?;
         set_all(&mut self.store, own.as_slice())?;

@@ -1,13 +1,13 @@
 //! The cells of a row, typed as long as its values are of one type.
 
-ghost use Rattle.std.specs.Prelude.{◌≡◌, ◌<◌, ◌↔◌, IsTrue, IfOk, replicate, length, slice_index_or, slice_set};
+ghost use Rattle.std.specs.Prelude.{◌≡◌, ◌<◌, ◌↔◌, ◌∷◌, ◌++◌, [], IsTrue, IfOk, replicate, length, slice_index_or, slice_set};
 ghost use Rattle.gm_graph.specs.Cells.{node_in};
 ghost use Rattle.gm_graph.specs.Columns.{IsStorable};
 ghost use Rattle.gm_value.specs.declared.values.Value.TheVariants.{At};
 ghost use Rattle.gm_store.specs.Cells.{values_of, Takes};
 
 use gm_base::NoMemory;
-use gm_value::Value;
+use gm_value::{VType, Value};
 use std::alloc::Global;
 
 // The place of NIL in a row of node indices.
@@ -100,6 +100,35 @@ impl Cells {
             }
         }
         Ok(Cells::Mixed(self.mixed(alloc)?))
+    }
+
+    /// Cells for values of a type, of no node so far, with room for some.
+    pub fn with_capacity(alloc: Global, vtype: VType, nodes: usize) -> Result<Cells, NoMemory>
+        ensures { IfOk result (λ cells. values_of cells ≡ []) }
+    {
+        match vtype {
+            VType::I32 => Ok(Cells::Ints(Vec::with_capacity(alloc, nodes)?)),
+            VType::I64 => Ok(Cells::Longs(Vec::with_capacity(alloc, nodes)?)),
+            VType::Flag => Ok(Cells::Flags(Vec::with_capacity(alloc, nodes)?)),
+            VType::Node => Ok(Cells::Nodes(Vec::with_capacity(alloc, nodes)?)),
+        }
+    }
+
+    /// Adds a node with a value, if the cells hold values of its type one by one. Answers whether they do.
+    #[inline(always)]
+    pub fn push(&mut self, value: Value) -> Result<bool, NoMemory>
+        ensures { IfOk result (λ pushed. IsTrue pushed → values_of self.new ≡ values_of self.old ++ value ∷ []) }
+    {
+        match (self, value) {
+            (Cells::Ints(cells), Value::I32(cell)) => cells.push(cell)?,
+            (Cells::Longs(cells), Value::I64(cell)) => cells.push(cell)?,
+            (Cells::Flags(cells), Value::Flag(cell)) => cells.push(cell)?,
+            (Cells::Nodes(cells), Value::At(node)) if is_storable(node) => {
+                cells.push(cell_of(node))?;
+            }
+            _ => return Ok(false),
+        }
+        Ok(true)
     }
 
     /// Cells with the same values.

@@ -1,0 +1,192 @@
+//! The values of an expression at all nodes of the graph at once, where nothing faults.
+
+ghost use Rattle.std.specs.Prelude.{◌≡◌, IfOk, IfSome, length, replicate};
+ghost use Rattle.gm_base.specs.declared.places.Place.{Place};
+ghost use Rattle.gm_graph.specs.Graphs.{node_count};
+ghost use Rattle.gm_ast.specs.Program as program;
+ghost use Rattle.gm_ast.specs.Tree.{expr_of};
+ghost use Rattle.gm_source.specs.Levels.{numbers_from};
+ghost use Rattle.gm_store.specs.Cells.{values_of};
+ghost use Rattle.gm_loops.specs.Columns.{Applies1, Applies2, IsColumn};
+ghost use Rattle.gm_loops.specs.Sights.{view_of, Fits};
+
+use crate::scopes::Scope;
+use crate::sights::Sight;
+use gm_ast::tree::Expr;
+use gm_base::NoMemory;
+use gm_store::{Cells, Store};
+use gm_value::{Op1, Op2, VType, Value, apply1, apply2};
+use std::alloc::Global;
+
+// One value at each node.
+#[inline(always)]
+fn uniform(value: Value, nodes: u32) -> Cells
+    ensures { values_of result ≡ replicate nodes value }
+{
+    Cells::Uniform {
+        value,
+        nodes: nodes as usize,
+    }
+}
+
+// The nodes below a count.
+fn numbered(alloc: Global, nodes: u32) -> Result<Vec<u32>, NoMemory>
+    ensures { IfOk result (λ all. all.items ≡ numbers_from 0 nodes) }
+{
+    let mut all = Vec::with_capacity(alloc, nodes as usize)?;
+    for node in 0..nodes {
+        all.push(node)?;
+    }
+    Ok(all)
+}
+
+// The type of what an operation gives on the first of some values.
+fn type_of_one(op: Op1, inner: &Cells) -> VType {
+    if inner.len() > 0 {
+        op.result_type(inner.get(0).type_of())
+    } else {
+        VType::I32
+    }
+}
+
+// The type of what an operation gives on the first two of some values.
+fn type_of_two(op: Op2, first: &Cells) -> VType {
+    if first.len() > 0 {
+        op.result_type(first.get(0).type_of())
+    } else {
+        VType::I32
+    }
+}
+
+// What an operation gives on each of some values, if nothing faults and all is of one type.
+fn column_of_one(alloc: Global, op: Op1, inner: &Cells) -> Result<Option<Cells>, NoMemory>
+    ensures { IfOk result (λ found. IfSome found (Applies1 op (values_of inner.now))) }
+{
+    let mut cells = Cells::with_capacity(alloc, type_of_one(op, inner), inner.len())?;
+    for node in 0..inner.len() {
+        match apply1(op, inner.get(node)) {
+            Ok(value) => {
+                if !cells.push(value)? {
+                    return Ok(None);
+                }
+            }
+            Err(_) => return Ok(None),
+        }
+    }
+    Ok(Some(cells))
+}
+
+// What an operation gives on each two of some values, if nothing faults and all is of one type.
+fn column_of_two(
+    alloc: Global,
+    op: Op2,
+    first: &Cells,
+    second: &Cells,
+) -> Result<Option<Cells>, NoMemory>
+    requires { length (values_of second.now) ≡ length (values_of first.now) }
+    ensures { IfOk result (λ found. IfSome found (Applies2 op (values_of first.now) (values_of second.now))) }
+{
+    let mut cells = Cells::with_capacity(alloc, type_of_two(op, first), first.len())?;
+    for node in 0..first.len() {
+        match apply2(op, first.get(node), second.get(node)) {
+            Ok(value) => {
+                if !cells.push(value)? {
+                    return Ok(None);
+                }
+            }
+            Err(_) => return Ok(None),
+        }
+    }
+    Ok(Some(cells))
+}
+
+impl Sight<'_> {
+    // The values of a variable where the iterator goes over all nodes.
+    fn column_of_variable(
+        &self,
+        alloc: Global,
+        x: u32,
+        iterator: u32,
+        scope: &Scope,
+        store: &Store,
+    ) -> Result<Cells, NoMemory>
+        requires { Fits self.now.setting.now store.now }
+        ensures { (at : Place) → IfOk result (IsColumn (program.Var x at) (view_of self.now scope.now store.now) iterator) }
+    {
+        let nodes = self.setting.graph.node_count();
+        if x == iterator {
+            Ok(Cells::Nodes(numbered(alloc, nodes)?))
+        } else {
+            Ok(uniform(self.setting.scalar(scope, store, x), nodes))
+        }
+    }
+
+    // The values of a property, if its owner is the iterator that goes over all nodes.
+    fn column_of_property(
+        &self,
+        alloc: Global,
+        owner: u32,
+        property: u32,
+        iterator: u32,
+        scope: &Scope,
+        store: &Store,
+    ) -> Result<Option<Cells>, NoMemory>
+        requires { Fits self.now.setting.now store.now }
+        ensures { (at : Place) → IfOk result (λ found. IfSome found (IsColumn (program.Property owner property at) (view_of self.now scope.now store.now) iterator)) }
+    {
+        if owner == iterator && (property as usize) < self.setting.variables {
+            let cells = store.cells(property).copied(alloc)?;
+            Ok(Some(cells))
+        } else {
+            Ok(None)
+        }
+    }
+
+    // The values of an expression where the iterator goes over all nodes. It answers none where one may fault, where
+    // they are not all of one type, and where the expression is of another form.
+    pub(crate) fn column(
+        &self,
+        alloc: Global,
+        e: &Expr,
+        iterator: u32,
+        scope: &Scope,
+        store: &Store,
+    ) -> Result<Option<Cells>, NoMemory>
+        requires { Fits self.now.setting.now store.now }
+        ensures { IfOk result (λ found. IfSome found (IsColumn (expr_of e.now) (view_of self.now scope.now store.now) iterator)) }
+    {
+        match e {
+            Expr::Const(value) => Ok(Some(uniform(*value, self.setting.graph.node_count()))),
+            Expr::Var { variable, .. } => {
+                let cells = self.column_of_variable(alloc, *variable, iterator, scope, store)?;
+                Ok(Some(cells))
+            }
+            Expr::Property {
+                owner,
+                property,
+                ..
+            } => self.column_of_property(alloc, *owner, *property, iterator, scope, store),
+            Expr::Unary { op, inner, .. } => {
+                match self.column(alloc, inner, iterator, scope, store)? {
+                    Some(cells) => column_of_one(alloc, *op, &cells),
+                    None => Ok(None),
+                }
+            }
+            Expr::Binary {
+                op,
+                left,
+                right,
+                ..
+            } => {
+                match self.column(alloc, left, iterator, scope, store)? {
+                    Some(first) => match self.column(alloc, right, iterator, scope, store)? {
+                        Some(second) => column_of_two(alloc, *op, &first, &second),
+                        None => Ok(None),
+                    },
+                    None => Ok(None),
+                }
+            }
+            _ => Ok(None),
+        }
+    }
+}
