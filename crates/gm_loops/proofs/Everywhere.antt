@@ -135,3 +135,10 @@ pub found-then : {A E : Type 0} (P Q : A → Type 0) (r : Result (Option A) E) �
 found-then P Q (Ok (Some a)) f h = f a h
 found-then P Q (Ok None) f h = h
 found-then P Q (Err e) f h = h
+
+-- cells with the same values
+pub column-copied : (e : Expr) (w : View) (i : ℕ) (a b : Cells) → values_of b ≡ values_of a → IsColumn e w i a → IsColumn e w i b
+column-copied e w i a b same h = record {
+  full = ap length same ∙ h.full;
+  values = λ k d lt. h.values k d lt ∙ ap (λ (vs : List Value). plain (Ok (get_or vs k d))) (sym same);
+}

@@ -5,6 +5,7 @@ pub mod Effects
 pub mod Parting
 pub mod Turning
 pub mod Closing
+pub mod Folding
 pub mod Renewing
 pub mod Statements
 pub mod Keeping

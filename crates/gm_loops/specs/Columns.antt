@@ -12,10 +12,17 @@ use Rattle.gm_source.specs.Expressions.{View, evaluated, plain}
 use Rattle.gm_source.specs.Stores.{write}
 use Rattle.gm_store.specs.declared.cells.Cells.{Cells}
 use Rattle.gm_store.specs.Cells.{values_of}
+use Rattle.gm_loops.specs.declared.columns.Operand.{Operand}
+use Rattle.gm_loops.specs.declared.columns.Operand.TheVariants.{Held, Made}
 
 -- what is seen where an iterator holds a node
 abbrev pub here : View → ℕ → ℕ → View
 here w i n = record w { store = write w.store (Scalar i) (At (Some n)) }
+
+-- the cells that an operand holds
+abbrev pub cells_of : Operand → Cells
+cells_of (Held cells) = cells.now
+cells_of (Made cells) = cells
 
 -- cells with a value for each of n nodes, of which each is as it has to be at its node
 pub record Each (n : ℕ) (P : ℕ → Value → Type 0) (cells : Cells) : Type 0 where

@@ -13,3 +13,4 @@ pub mod Own
 pub mod Shorts
 pub mod Columns
 pub mod Renewals
+pub mod Filters

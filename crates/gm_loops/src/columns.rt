@@ -7,7 +7,7 @@ ghost use Rattle.gm_ast.specs.Program as program;
 ghost use Rattle.gm_ast.specs.Tree.{expr_of};
 ghost use Rattle.gm_source.specs.Levels.{numbers_from};
 ghost use Rattle.gm_store.specs.Cells.{values_of};
-ghost use Rattle.gm_loops.specs.Columns.{Applies1, Applies2, IsColumn};
+ghost use Rattle.gm_loops.specs.Columns.{cells_of, Applies1, Applies2, IsColumn};
 ghost use Rattle.gm_loops.specs.Sights.{view_of, Fits};
 
 use crate::scopes::Scope;
@@ -17,6 +17,35 @@ use gm_base::NoMemory;
 use gm_store::{Cells, Store};
 use gm_value::{Op1, Op2, VType, Value, apply1, apply2};
 use std::alloc::Global;
+
+// The values of an expression at all nodes: cells that the store holds, or made ones.
+#[derive(Drop)]
+pub(crate) enum Operand<'a> {
+    Held(&'a Cells),
+    Made(Cells),
+}
+
+impl Operand<'_> {
+    // The values.
+    pub fn cells(&self) -> &Cells
+        ensures { result.now ≡ cells_of self.now }
+    {
+        match self {
+            Operand::Held(cells) => cells,
+            Operand::Made(cells) => cells,
+        }
+    }
+
+    // Cells with the values.
+    fn owned(self, alloc: Global) -> Result<Cells, NoMemory>
+        ensures { IfOk result (λ cells. values_of cells ≡ values_of (cells_of self.entry)) }
+    {
+        match self {
+            Operand::Held(cells) => cells.copied(alloc),
+            Operand::Made(cells) => Ok(cells),
+        }
+    }
+}
 
 // One value at each node.
 #[inline(always)]
@@ -121,30 +150,59 @@ impl Sight<'_> {
         }
     }
 
-    // The values of a property, if its owner is the iterator that goes over all nodes.
-    fn column_of_property(
+    // The values of a property as the store holds them.
+    fn column_of_property<'a>(
         &self,
-        alloc: Global,
         owner: u32,
         property: u32,
         iterator: u32,
         scope: &Scope,
-        store: &Store,
-    ) -> Result<Option<Cells>, NoMemory>
+        store: &'a Store,
+    ) -> Option<&'a Cells>
         requires { Fits self.now.setting.now store.now }
-        ensures { (at : Place) → IfOk result (λ found. IfSome found (IsColumn (program.Property owner property at) (view_of self.now scope.now store.now) iterator)) }
+        ensures { (at : Place) → IfSome result (λ cells. IsColumn (program.Property owner property at) (view_of self.now scope.now store.now) iterator cells.now) }
     {
         if owner == iterator && (property as usize) < self.setting.variables {
-            let cells = store.cells(property).copied(alloc)?;
-            Ok(Some(cells))
+            Some(store.cells(property))
         } else {
-            Ok(None)
+            None
         }
     }
 
     // The values of an expression where the iterator goes over all nodes. It answers none where one may fault, where
     // they are not all of one type, and where the expression is of another form.
-    pub(crate) fn column(
+    #[cycle(columns)]
+    pub(crate) fn operand<'a>(
+        &self,
+        alloc: Global,
+        e: &Expr,
+        iterator: u32,
+        scope: &Scope,
+        store: &'a Store,
+    ) -> Result<Option<Operand<'a>>, NoMemory>
+        requires { Fits self.now.setting.now store.now }
+        ensures { IfOk result (λ found. IfSome found (λ operand. IsColumn (expr_of e.now) (view_of self.now scope.now store.now) iterator (cells_of operand))) }
+    {
+        if let Expr::Property {
+            owner,
+            property,
+            ..
+        } = e
+        {
+            return match self.column_of_property(*owner, *property, iterator, scope, store) {
+                Some(cells) => Ok(Some(Operand::Held(cells))),
+                None => Ok(None),
+            };
+        }
+        match self.made(alloc, e, iterator, scope, store)? {
+            Some(cells) => Ok(Some(Operand::Made(cells))),
+            None => Ok(None),
+        }
+    }
+
+    // The values of an expression that the store does not hold.
+    #[cycle(columns)]
+    fn made(
         &self,
         alloc: Global,
         e: &Expr,
@@ -161,14 +219,18 @@ impl Sight<'_> {
                 let cells = self.column_of_variable(alloc, *variable, iterator, scope, store)?;
                 Ok(Some(cells))
             }
-            Expr::Property {
-                owner,
-                property,
-                ..
-            } => self.column_of_property(alloc, *owner, *property, iterator, scope, store),
+            Expr::NodeCount => {
+                let nodes = self.setting.graph.node_count();
+                Ok(Some(uniform(Value::I32(nodes as i32), nodes)))
+            }
+            Expr::EdgeCount => {
+                let nodes = self.setting.graph.node_count();
+                let edges = self.setting.graph.edge_count();
+                Ok(Some(uniform(Value::I32(edges as i32), nodes)))
+            }
             Expr::Unary { op, inner, .. } => {
-                match self.column(alloc, inner, iterator, scope, store)? {
-                    Some(cells) => column_of_one(alloc, *op, &cells),
+                match self.operand(alloc, inner, iterator, scope, store)? {
+                    Some(operand) => column_of_one(alloc, *op, operand.cells()),
                     None => Ok(None),
                 }
             }
@@ -178,15 +240,34 @@ impl Sight<'_> {
                 right,
                 ..
             } => {
-                match self.column(alloc, left, iterator, scope, store)? {
-                    Some(first) => match self.column(alloc, right, iterator, scope, store)? {
-                        Some(second) => column_of_two(alloc, *op, &first, &second),
+                match self.operand(alloc, left, iterator, scope, store)? {
+                    Some(first) => match self.operand(alloc, right, iterator, scope, store)? {
+                        Some(second) => column_of_two(alloc, *op, first.cells(), second.cells()),
                         None => Ok(None),
                     },
                     None => Ok(None),
                 }
             }
             _ => Ok(None),
+        }
+    }
+
+    // The values of an expression where the iterator goes over all nodes, in cells of their own. It answers none where
+    // one may fault, where they are not all of one type, and where the expression is of another form.
+    pub(crate) fn column(
+        &self,
+        alloc: Global,
+        e: &Expr,
+        iterator: u32,
+        scope: &Scope,
+        store: &Store,
+    ) -> Result<Option<Cells>, NoMemory>
+        requires { Fits self.now.setting.now store.now }
+        ensures { IfOk result (λ found. IfSome found (IsColumn (expr_of e.now) (view_of self.now scope.now store.now) iterator)) }
+    {
+        match self.operand(alloc, e, iterator, scope, store)? {
+            Some(operand) => Ok(Some(operand.owned(alloc)?)),
+            None => Ok(None),
         }
     }
 }

@@ -29,7 +29,7 @@ fn found(answer: Result<Value, FaultKind>) -> Option<Value>
 }
 
 // A value, if there is no fault.
-fn sound(answer: Answer) -> Option<Value>
+pub(crate) fn sound(answer: Answer) -> Option<Value>
     ensures { IfSome result (λ v. answer ≡ Ok v) }
 {
     match answer {
@@ -150,6 +150,9 @@ impl Sight<'_> {
             body,
         } = e
         {
+            if let Some(value) = self.fold_of_column(fold, head, filter, body, scope, store) {
+                return Some(value);
+            }
             totals_have_room();
             let reduce = reduce_of(fold.word);
             let range = self.range(scope, store, head);

@@ -8,6 +8,8 @@ mod columns;
 mod doing;
 mod expressions;
 mod faultless;
+mod filters;
+mod folds;
 mod goings;
 mod loops;
 mod own;

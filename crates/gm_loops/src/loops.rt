@@ -11,6 +11,7 @@ ghost use Rattle.gm_totals.specs.Standing.{Within};
 ghost use Rattle.gm_loops.specs.declared.sights.Setting.{Setting};
 ghost use Rattle.gm_loops.specs.Around.{body_of, loop_of};
 ghost use Rattle.gm_loops.specs.Bounds.{bound_of};
+ghost use Rattle.gm_loops.specs.Filters.{IsFilter};
 ghost use Rattle.gm_loops.specs.Goings.{Before, Does, IsReady};
 ghost use Rattle.gm_loops.specs.LoopEnds.{ended, nodes_in, AtRest, Finishes};
 ghost use Rattle.gm_loops.specs.Sights.{edges_in, Fits};
@@ -24,7 +25,7 @@ use gm_ast::tree::{Expr, Key};
 use gm_base::NoMemory;
 use gm_source::faults::Fault;
 use gm_source::slots::Write;
-use gm_store::Store;
+use gm_store::{Cells, Store};
 use gm_totals::Totals;
 use std::alloc::Global;
 
@@ -95,8 +96,9 @@ impl Going {
             (store_of (edges_in around.now.setting.now) self.old.store)) }
         ensures rest { IfOk result (λ fault. AtRest around.now.setting.now self.new) }
     {
+        let passing = self.passing(around, key, filter, nodes)?;
         let mut own = Vec::new(self.alloc);
-        let least = self.outer_turns(around, key, filter, nodes, &mut own)?;
+        let least = self.outer_turns(around, key, filter, nodes, &passing, &mut own)?;
         set_all(&mut self.store, own.as_slice())?;
         let fault = self.close_outermost(least)?;
         Ok(fault)
@@ -110,11 +112,13 @@ impl Going {
         key: Key,
         filter: &Expr,
         nodes: LoopNodes,
+        passing: &Option<Cells>,
         own: &mut Vec<Write>,
     ) -> Result<Option<Fault>, NoMemory>
         requires rest { AtRest around.now.setting.now self.old }
         requires iterator { around.now.outer < around.now.setting.now.variables }
         requires bound { bound_of (body_of around.now.body) ≤ around.now.setting.now.variables }
+        requires filter { IsFilter around.now key (expr_of filter.now) (seen around.now.setting.now self.old) passing.now }
         requires none { own.old.items ≡ [] }
         ensures turns { IfOk result (λ fault. DoesTurns around.now.setting.now iterations.Outermost self.old self.new fault
             (λ s. map (iteration (loop_of around.now) key (expr_of filter.now) (body_of around.now.body) s) (nodes_in nodes.entry))) }
@@ -124,7 +128,7 @@ impl Going {
     {
         let mut least = None;
         for k in 0..nodes.count() {
-            self.outer_turn(around, key, filter, nodes.at(k), own)?;
+            self.outer_turn(around, key, filter, passing, nodes.at(k), own)?;
             keep_least(&mut least, &self.fault);
         }
         Ok(least)
@@ -137,6 +141,7 @@ impl Going {
         around: &Around,
         key: Key,
         filter: &Expr,
+        passing: &Option<Cells>,
         node: u32,
         own: &mut Vec<Write>,
     ) -> Result<(), NoMemory>
@@ -144,6 +149,7 @@ impl Going {
         requires quiet { self.old.store.undo ≡ [] }
         requires iterator { around.now.outer < around.now.setting.now.variables }
         requires bound { bound_of (body_of around.now.body) ≤ around.now.setting.now.variables }
+        requires filter { IsFilter around.now key (expr_of filter.now) (seen around.now.setting.now self.old) passing.now }
         requires slots { All (λ w. HasSlot (shape_of self.old.store) w.slot) own.old.items }
         ensures turn { OnOk result (DoesTurns around.now.setting.now iterations.Outermost self.old self.new self.new.fault
             (λ s. iteration (loop_of around.now) key (expr_of filter.now) (body_of around.now.body) s node ∷ [])) }
@@ -152,15 +158,7 @@ impl Going {
             OnOk result ((b : Before) (ks : List ℕ) → Follows iterations.Outermost b self.old → KeepsOwn s own.old.items ks turn → KeepsOwn s own.new.items (ks ++ node ∷ []) turn) }
         ensures slots { OnOk result (All (λ w. HasSlot (shape_of self.old.store) w.slot) own.new.items) }
     {
-        match self.deed_at(
-            key,
-            around.outer,
-            around.body,
-            filter,
-            node,
-            Mode::Outermost,
-            around,
-        ) {
+        match self.deed_by(key, filter, passing, node, around) {
             Some(deed) => {
                 self.take(deed)?;
                 deed.keep(own)?;

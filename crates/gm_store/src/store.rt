@@ -54,6 +54,11 @@ impl Store {
         }
     }
 
+    /// Where the store takes its memory.
+    pub fn allocator(&self) -> Global {
+        self.alloc
+    }
+
     /// How many nodes there are.
     pub fn nodes(&self) -> u32
         ensures nodes { result ≡ self.now.nodes }

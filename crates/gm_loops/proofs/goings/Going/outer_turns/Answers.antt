@@ -10,6 +10,7 @@ use Rattle.gm_source.specs.Loops.{iteration}
 use Rattle.gm_source.specs.Stores.{Store}
 use Rattle.gm_store.specs.Held.{Shape, HasSlot, shape_of}
 use Rattle.gm_loops.specs.Around.{body_of, loop_of}
+use Rattle.gm_loops.specs.Filters.{IsFilter}
 use Rattle.gm_loops.specs.LoopEnds.{nodes_in}
 use Rattle.gm_loops.specs.Sights.{edges_in}
 use Rattle.gm_loops.specs.Turns.{seen, DoesTurns, KeepsOwn}
@@ -38,6 +39,7 @@ outer_turn-requires c =
       quiet = h.turns.restored.undo ∙ c.requires.rest.quiet;
       iterator = c.requires.iterator;
       bound = c.requires.bound;
+      filter = subst (λ (s : Store). IsFilter c.args.around.now c.args.key (expr_of c.args.filter.now) s c.args.passing.now) (sym (h.turns.restored.store (edges_in c.args.around.now.setting.now))) c.requires.filter;
       slots = subst (λ (s : Shape). All (λ (w : Write). HasSlot s w.slot) c.loop-k.own.items) (sym h.turns.restored.shape) h.slots;
     }
 
