@@ -1,10 +1,20 @@
 -- Reductions over all nodes, by the column of their elements.
-use Rattle.std.proofs.Common.{◌≡◌, ◌∙◌, ◌<◌, ◌≤◌, ◌+◌, ℕ, zero, suc, Bool, true, List, [], ◌∷◌, ◌++◌, length, map, drop, get_or, Option, None, Result, Ok, refl, ap, sym, arith}
+use Rattle.std.proofs.Common.{◌≡◌, ◌∙◌, ◌<◌, ◌≤◌, ◌+◌, ℕ, zero, suc, Bool, true, false, not, pos, List, [], ◌∷◌, ◌++◌, length, map, drop, get_or, Option, None, Result, Ok, refl, ap, sym, subst, arith}
 use Rattle.std.proofs.lemmas.List.{drop_all}
+use Rattle.std.specs.Int.{int_max, int_min}
+use Rattle.std.specs.List.{list_any}
+use Rattle.gm_value.specs.declared.reductions.Reduce.TheVariants.{And, Or}
+use Rattle.gm_value.specs.declared.values.VType.TheVariants as types
 use Rattle.gm_value.specs.declared.values.Value.{Value}
+use Rattle.gm_value.specs.declared.values.Value.TheVariants.{Flag}
+use Rattle.gm_value.specs.Numbers.{number_of}
+use Rattle.gm_value.specs.Reductions.{total}
+use Rattle.gm_value.specs.declared.totals.Total.TheVariants.{Small}
+use Rattle.gm_value.specs.Totals.{AreNear, IsTotal}
 use Rattle.gm_value.specs.Operations.{is_true}
 use Rattle.gm_graph.specs.Graphs.{Step, node_count}
 use Rattle.gm_ast.specs.declared.surface.ReductionWord.{ReductionWord}
+use Rattle.gm_ast.specs.declared.surface.ReductionWord.TheVariants.{All, Exist}
 use Rattle.gm_ast.specs.declared.tree.Domain.TheVariants.{Nodes}
 use Rattle.gm_ast.specs.declared.tree.Domain.{Domain}
 use Rattle.gm_ast.specs.declared.tree.Fold.{Fold}
@@ -49,8 +59,8 @@ no-errs word (v ∷ vs) = no-errs word vs
 pub column-folded : (f : Fold) (head : Head) (test e : Expr) (w : View) (cells : Cells) (v : Value) → head.domain ≡ Nodes → PassesAll test
     → IsColumn e (record w { parallel = true; key = f.body }) head.iterator cells → closed f (joined (map (members_of f.word) (values_of cells))) ≡ Ok v
     → evaluated (Folded f head test e) w ≡ plain (Ok v)
-column-folded f head test e w cells v all passes column total =
-    ap early (ap (reduction f) same ∙ whole ∙ total)
+column-folded f head test e w cells v all passes column sum =
+    ap early (ap (reduction f) same ∙ whole ∙ sum)
   where
     elem : Step → Result (List Value) Fault
     elem s = element f.word (settled (evaluated test (entered w head s f.filter))) (settled (evaluated e (entered w head s f.body)))
@@ -80,3 +90,46 @@ column-folded f head test e w cells v all passes column total =
     whole =
         ap (λ (fs : List Fault). unless_fault (least fs) (closed f (joined (oks (map given (values_of cells)))))) (no-errs f.word (values_of cells))
         ∙ ap (λ (l : List (List Value)). closed f (joined l)) (all-oks f.word (values_of cells))
+
+-- the total of an Exist, and that of an All, of truth values
+pub near-flags : (bs : List Bool) → AreNear (map (λ b. Flag b) bs)
+near-flags [] = tt
+near-flags (true ∷ bs) = (omega arith, near-flags bs)
+near-flags (false ∷ bs) = (omega arith, near-flags bs)
+
+pub exist-total : (bs : List Bool) → number_of (Flag (list_any (λ b. b) bs)) ≡ total Or types.Flag (map (λ b. Flag b) bs)
+exist-total [] = refl
+exist-total (true ∷ bs) = by (list_any (λ b. b) bs) ∙ ap (int_max (pos 1)) (exist-total bs) where
+  by : (a : Bool) → pos 1 ≡ int_max (pos 1) (number_of (Flag a))
+  by true = refl
+  by false = refl
+exist-total (false ∷ bs) = by (list_any (λ b. b) bs) ∙ ap (int_max (pos 0)) (exist-total bs) where
+  by : (a : Bool) → number_of (Flag a) ≡ int_max (pos 0) (number_of (Flag a))
+  by true = refl
+  by false = refl
+
+pub all-total : (bs : List Bool) → number_of (Flag (not (list_any not bs))) ≡ total And types.Flag (map (λ b. Flag b) bs)
+all-total [] = refl
+all-total (true ∷ bs) = by (list_any not bs) ∙ ap (int_min (pos 1)) (all-total bs) where
+  by : (a : Bool) → number_of (Flag (not a)) ≡ int_min (pos 1) (number_of (Flag (not a)))
+  by true = refl
+  by false = refl
+all-total (false ∷ bs) = by (list_any not bs) ∙ ap (int_min (pos 0)) (all-total bs) where
+  by : (a : Bool) → pos 0 ≡ int_min (pos 0) (number_of (Flag (not a)))
+  by true = refl
+  by false = refl
+
+-- each value is a member
+pub ones-joined : (vs : List Value) → joined (map (λ (v : Value). v ∷ []) vs) ≡ vs
+ones-joined [] = refl
+ones-joined (v ∷ vs) = ap (λ (l : List Value). v ∷ l) (ones-joined vs)
+
+pub exist-is : (bs : List Bool) (b : Bool) → b ≡ list_any (λ b. b) bs → IsTotal Or types.Flag (Small (Flag b)) (joined (map (members_of Exist) (map (λ b. Flag b) bs)))
+exist-is bs b e =
+    subst (λ (bag : List Value). IsTotal Or types.Flag (Small (Flag b)) bag) (sym (ones-joined (map (λ b. Flag b) bs)))
+    (near-flags bs, ap (λ (c : Bool). number_of (Flag c)) e ∙ exist-total bs)
+
+pub all-is : (bs : List Bool) (b : Bool) → b ≡ list_any not bs → IsTotal And types.Flag (Small (Flag (not b))) (joined (map (members_of All) (map (λ b. Flag b) bs)))
+all-is bs b e =
+    subst (λ (bag : List Value). IsTotal And types.Flag (Small (Flag (not b))) bag) (sym (ones-joined (map (λ b. Flag b) bs)))
+    (near-flags bs, ap (λ (c : Bool). number_of (Flag (not c))) e ∙ all-total bs)

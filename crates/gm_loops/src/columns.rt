@@ -1,7 +1,9 @@
 //! The values of an expression at all nodes of the graph at once, where nothing faults.
 
-ghost use Rattle.std.specs.Prelude.{◌≡◌, IfOk, IfSome, length, replicate};
+ghost use Rattle.std.specs.Prelude.{◌≡◌, ◌<◌, Ok, IfOk, IfSome, length, replicate, slice_index_or};
 ghost use Rattle.gm_base.specs.declared.places.Place.{Place};
+ghost use Rattle.gm_value.specs.declared.values.Value.TheVariants.{I32, Flag};
+ghost use Rattle.gm_value.specs.Operations.{result2};
 ghost use Rattle.gm_graph.specs.Graphs.{node_count};
 ghost use Rattle.gm_ast.specs.Program as program;
 ghost use Rattle.gm_ast.specs.Tree.{expr_of};
@@ -105,8 +107,89 @@ fn column_of_one(alloc: Global, op: Op1, inner: &Cells) -> Result<Option<Cells>,
     Ok(Some(cells))
 }
 
+// The number at a node, if it is an Int.
+#[inline(always)]
+fn int_at(cells: &Cells, node: usize) -> Option<i32>
+    requires { node < length (values_of cells.now) }
+    ensures { IfSome result (λ z. (d : Value) → slice_index_or (values_of cells.now) node d ≡ I32 z) }
+{
+    match cells {
+        Cells::Ints(cells) => Some(cells[node]),
+        Cells::Uniform {
+            value: Value::I32(number),
+            ..
+        } => Some(*number),
+        _ => None,
+    }
+}
+
+// What a comparison of two Ints gives.
+#[inline(always)]
+fn compared(op: Op2, x: i32, y: i32) -> Option<bool>
+    ensures { IfSome result (λ b. result2 op (I32 x) (I32 y) ≡ Ok (Flag b)) }
+{
+    match op {
+        Op2::Eq => Some(x == y),
+        Op2::Ne => Some(x != y),
+        Op2::Lt => Some(x < y),
+        Op2::Le => Some(x <= y),
+        Op2::Gt => Some(x > y),
+        Op2::Ge => Some(x >= y),
+        _ => None,
+    }
+}
+
+// What a comparison gives on each two of some values, if they are Ints.
+fn comparisons(
+    alloc: Global,
+    op: Op2,
+    first: &Cells,
+    second: &Cells,
+) -> Result<Option<Cells>, NoMemory>
+    requires { length (values_of second.now) ≡ length (values_of first.now) }
+    ensures { IfOk result (λ found. IfSome found (Applies2 op (values_of first.now) (values_of second.now))) }
+{
+    let mut flags = Vec::with_capacity(alloc, first.len())?;
+    for node in 0..first.len() {
+        match (int_at(first, node), int_at(second, node)) {
+            (Some(x), Some(y)) => match compared(op, x, y) {
+                Some(holds) => flags.push(holds)?,
+                None => return Ok(None),
+            },
+            _ => return Ok(None),
+        }
+    }
+    Ok(Some(Cells::Flags(flags)))
+}
+
+// Whether an operation is a comparison.
+fn is_comparison(op: Op2) -> bool {
+    match op {
+        Op2::Eq | Op2::Ne | Op2::Lt | Op2::Le | Op2::Gt | Op2::Ge => true,
+        _ => false,
+    }
+}
+
 // What an operation gives on each two of some values, if nothing faults and all is of one type.
 fn column_of_two(
+    alloc: Global,
+    op: Op2,
+    first: &Cells,
+    second: &Cells,
+) -> Result<Option<Cells>, NoMemory>
+    requires { length (values_of second.now) ≡ length (values_of first.now) }
+    ensures { IfOk result (λ found. IfSome found (Applies2 op (values_of first.now) (values_of second.now))) }
+{
+    if is_comparison(op) {
+        if let Some(cells) = comparisons(alloc, op, first, second)? {
+            return Ok(Some(cells));
+        }
+    }
+    applied(alloc, op, first, second)
+}
+
+// What an operation gives on each two of some values, one after the other, if nothing faults and all is of one type.
+fn applied(
     alloc: Global,
     op: Op2,
     first: &Cells,

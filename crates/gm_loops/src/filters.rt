@@ -22,7 +22,6 @@ ghost use Rattle.gm_loops.specs.Turns.{seen};
 use crate::around::{Around, Mode};
 use crate::goings::Going;
 use crate::loops::LoopNodes;
-use crate::parts::is_true;
 use crate::renewals::passes_all;
 use crate::scopes::Scope;
 use crate::shorts::Deed;
@@ -36,11 +35,11 @@ fn is_over(passing: &Option<Cells>, node: u32) -> bool
     ensures { (test : program.Expr) (w : View) (i : ℕ) → IfSome passing.now (IsColumn test w i) → IsTrue result → Fails test (here w i node) }
 {
     match passing {
-        Some(cells) => {
+        Some(Cells::Flags(flags)) => {
             let at = node as usize;
-            at < cells.len() && !is_true(cells.get(at))
+            at < flags.len() && !flags[at]
         }
-        None => false,
+        _ => false,
     }
 }
 

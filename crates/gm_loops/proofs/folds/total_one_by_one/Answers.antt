@@ -7,7 +7,7 @@ use Rattle.gm_source.specs.Faults.{joined}
 use Rattle.gm_store.specs.Cells.{values_of}
 use Rattle.gm_loops.proofs.Elements.{one-member}
 use Rattle.gm_loops.proofs.Folding.{no-members}
-use Rattle.gm_loops.proofs.folds.total_of.Goals as goal
+use Rattle.gm_loops.proofs.folds.total_one_by_one.Goals as goal
 
 pub elements-init : goal.elements-init
 elements-init c =

@@ -3,7 +3,7 @@ use Rattle.gm_value.specs.Totals.{IsTotal}
 use Rattle.gm_source.specs.Expressions.{members_of, reduce_of}
 use Rattle.gm_source.specs.Faults.{joined}
 use Rattle.gm_store.specs.Cells.{values_of}
-use Rattle.gm_loops.proofs.folds.total_of.Given as goal
+use Rattle.gm_loops.proofs.folds.total_one_by_one.Given as goal
 
 -- the total is that of the values from the k-th on, and there are no more members than values
 abbrev pub invariant-elements : goal.invariant-elements
