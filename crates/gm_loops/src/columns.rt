@@ -162,10 +162,48 @@ fn comparisons(
     Ok(Some(Cells::Flags(flags)))
 }
 
+// A sum or a difference of two Ints, if it is an Int.
+#[inline(always)]
+fn summed(op: Op2, x: i32, y: i32) -> Option<i32>
+    ensures { IfSome result (λ z. result2 op (I32 x) (I32 y) ≡ Ok (I32 z)) }
+{
+    match op {
+        Op2::Add => x.checked_add(y),
+        Op2::Sub => x.checked_sub(y),
+        _ => None,
+    }
+}
+
+// The sums or the differences of each two of some values, if they are Ints and so are all results.
+fn sums(alloc: Global, op: Op2, first: &Cells, second: &Cells) -> Result<Option<Cells>, NoMemory>
+    requires { length (values_of second.now) ≡ length (values_of first.now) }
+    ensures { IfOk result (λ found. IfSome found (Applies2 op (values_of first.now) (values_of second.now))) }
+{
+    let mut numbers = Vec::with_capacity(alloc, first.len())?;
+    for node in 0..first.len() {
+        match (int_at(first, node), int_at(second, node)) {
+            (Some(x), Some(y)) => match summed(op, x, y) {
+                Some(number) => numbers.push(number)?,
+                None => return Ok(None),
+            },
+            _ => return Ok(None),
+        }
+    }
+    Ok(Some(Cells::Ints(numbers)))
+}
+
 // Whether an operation is a comparison.
 fn is_comparison(op: Op2) -> bool {
     match op {
         Op2::Eq | Op2::Ne | Op2::Lt | Op2::Le | Op2::Gt | Op2::Ge => true,
+        _ => false,
+    }
+}
+
+// Whether an operation is a sum or a difference.
+fn is_sum(op: Op2) -> bool {
+    match op {
+        Op2::Add | Op2::Sub => true,
         _ => false,
     }
 }
@@ -185,16 +223,16 @@ fn column_of_two(
             return Ok(Some(cells));
         }
     }
+    if is_sum(op) {
+        if let Some(cells) = sums(alloc, op, first, second)? {
+            return Ok(Some(cells));
+        }
+    }
     applied(alloc, op, first, second)
 }
 
 // What an operation gives on each two of some values, one after the other, if nothing faults and all is of one type.
-fn applied(
-    alloc: Global,
-    op: Op2,
-    first: &Cells,
-    second: &Cells,
-) -> Result<Option<Cells>, NoMemory>
+fn applied(alloc: Global, op: Op2, first: &Cells, second: &Cells) -> Result<Option<Cells>, NoMemory>
     requires { length (values_of second.now) ≡ length (values_of first.now) }
     ensures { IfOk result (λ found. IfSome found (Applies2 op (values_of first.now) (values_of second.now))) }
 {

@@ -59,7 +59,13 @@ impl Going {
             return Ok(None);
         }
         let sight = around.sight(Mode::Outermost, key);
-        sight.column(self.alloc, filter, around.outer, &Scope::Nothing, &self.store)
+        sight.column(
+            self.alloc,
+            filter,
+            around.outer,
+            &Scope::Nothing,
+            &self.store,
+        )
     }
 
     // What an iteration of an outermost loop does, if it is one deed and nothing faults: nothing, where the column of

@@ -74,14 +74,15 @@ impl Going {
             value,
         } = around.body
         {
-            if owner == around.outer
-                && passes_all(filter)
-                && nodes.are_all(around.setting.graph)
-            {
+            if owner == around.outer && passes_all(filter) && nodes.are_all(around.setting.graph) {
                 let sight = around.sight(Mode::Outermost, key);
-                if let Some(cells) =
-                    sight.column(self.alloc, value, owner, &Scope::Nothing, &self.store)?
-                {
+                if let Some(cells) = sight.column(
+                    self.alloc,
+                    value,
+                    owner,
+                    &Scope::Nothing,
+                    &self.store,
+                )? {
                     return Ok(Some(Renewal { property, cells }));
                 }
             }
