@@ -1,8 +1,9 @@
 -- All pots closed one after another.
-use Rattle.std.proofs.Common.{◌≡◌, ℕ, ◌+◌, ◌≤◌, true, false, cond, List, [], ◌∷◌, ◌++◌, map, take, length, slice_get, add-one, arith, refl, sym, ap, subst, ◌∙◌, Option, Some, None, ⊎_elim, inl, inr}
+use Rattle.std.proofs.Common.{◌≡◌, ℕ, ◌+◌, ◌<◌, ◌≤◌, true, false, cond, List, [], ◌∷◌, ◌++◌, map, take, length, get_or, arith, refl, sym, ap, subst, ◌∙◌, Option, Some, None, ⊎_elim, inl, inr}
 use Rattle.std.specs.Prelude.{◌⊎◌}
 use Rattle.std.specs.Map.{lookup, keys_of}
 use Rattle.std.proofs.lemmas.Bool.{cases_Bool}
+use Rattle.std.proofs.lemmas.List.{take_all, take_more}
 use Rattle.gm_value.specs.declared.values.Value.{Value}
 use Rattle.gm_value.specs.Bag.{IsIn}
 use Rattle.gm_source.specs.declared.contributions.Contribution.{Contribution}
@@ -18,10 +19,11 @@ use Rattle.gm_totals.specs.declared.pots.Pot.{Pot}
 use Rattle.gm_totals.specs.declared.totals.Totals.{Totals}
 use Rattle.gm_totals.specs.declared.totals.Closed.{Closed}
 use Rattle.gm_totals.specs.Pots.{SlotStands, PotStands}
-use Rattle.gm_totals.specs.Standing.{pot_at, StandsFor, least_with, ClosesSlot, WritesWithin, Settles}
+use Rattle.gm_totals.specs.Standing.{pot_at, slots_of, IsPotOf, StandsFor, least_with, ClosesSlot, WritesWithin, Settles}
 use Rattle.gm_totals.proofs.Leasts.{least-last, somes-append}
 use Rattle.gm_totals.proofs.Settling.{HasAll, writes_of, slot_eq-itself, own-some, writes-settle, faults-settle}
-use Rattle.gm_totals.proofs.Slots.{keys-more, keys-all}
+use Rattle.gm_totals.proofs.Slots.{lookup-first}
+use Rattle.gm_totals.proofs.Placing.{get-key, length-keys, placed-first}
 
 -- a key that a look-up finds is one of the keys
 pub lookup-in : {X : Type 0} (slot : Slot) (es : List (Slot × X)) (x : X) → lookup (slot_eq slot) es ≡ Some x → IsIn slot (keys_of es)
@@ -36,16 +38,16 @@ lookup-in slot (p ∷ es) x e =
     (cases_Bool (slot_eq slot p.0))
 
 -- the slots of all pots are those that have contributions
-pub has_all : (totals : Totals) (cs : List Contribution) → StandsFor totals cs → HasAll cs (keys_of totals.pots.entries)
-has_all totals cs stands slot = by (pot_at totals slot) refl (stands slot)
+pub has_all : (totals : Totals) (cs : List Contribution) → StandsFor totals cs → HasAll cs (keys_of totals.pots.items)
+has_all totals cs stands slot = by (pot_at totals slot) refl (stands.slots slot)
   where
-    by : (o : Option Pot) → pot_at totals slot ≡ o → SlotStands o (to_slot slot cs) → IsIn slot (keys_of totals.pots.entries) ⊎ (to_slot slot cs ≡ [])
+    by : (o : Option Pot) → pot_at totals slot ≡ o → SlotStands o (to_slot slot cs) → IsIn slot (keys_of totals.pots.items) ⊎ (to_slot slot cs ≡ [])
     by None e is = inr is
-    by (Some pot) e is = inl (lookup-in slot totals.pots.entries pot e)
+    by (Some pot) e is = inl (lookup-in slot totals.pots.items pot e)
 
 -- a pot that a look-up finds stands for its slot's contributions
 pub pot_stands : (totals : Totals) (cs : List Contribution) (slot : Slot) (pot : Pot) → pot_at totals slot ≡ Some pot → StandsFor totals cs → PotStands pot (to_slot slot cs)
-pot_stands totals cs slot pot is stands = subst (λ o. SlotStands o (to_slot slot cs)) is (stands slot)
+pot_stands totals cs slot pot is stands = subst (λ o. SlotStands o (to_slot slot cs)) is (stands.slots slot)
 
 -- one more fault among some
 least_some : (o : Option Fault) (os : List (Option Fault)) → least (somes (os ++ o ∷ [])) ≡ least_with o (least (somes os))
@@ -67,7 +69,7 @@ pub record AreClosed (s : Store) (cs : List Contribution) (ks : List Slot) (clos
 
 -- the first slots of totals are closed
 pub record AreFirst (held : Held) (totals : Totals) (n : ℕ) (closed : Closed) : Type 0 where
-  pub slots : (edge : ℕ → ℕ → Value) (cs : List Contribution) → StandsFor totals cs → AreClosed (store_of edge held) cs (take n (keys_of totals.pots.entries)) closed
+  pub slots : (edge : ℕ → ℕ → Value) (cs : List Contribution) → StandsFor totals cs → AreClosed (store_of edge held) cs (take n (keys_of totals.pots.items)) closed
   pub within : WritesWithin (shape_of held) closed
 
 -- one slot more
@@ -84,8 +86,8 @@ closed-more held edge cs ks slot pot old new are closes stands =
     }
 
 -- totals have no pot where they stand for no contribution
-pub no_pots : (totals : Totals) (cs : List Contribution) → StandsFor totals cs → (length totals.pots.entries ≡ 0 → cs ≡ []) × (cs ≡ [] → length totals.pots.entries ≡ 0)
-no_pots totals cs stands = (λ none. nothing cs (subst (λ es. HasAll cs (keys_of es)) (no_items totals.pots.entries none) (has_all totals cs stands)), λ none. by totals.pots.entries none stands)
+pub no_pots : (totals : Totals) (cs : List Contribution) → StandsFor totals cs → (length totals.pots.items ≡ 0 → cs ≡ []) × (cs ≡ [] → length totals.pots.items ≡ 0)
+no_pots totals cs stands = (λ none. nothing cs (subst (λ es. HasAll cs (keys_of es)) (no_items totals.pots.items none) (has_all totals cs stands)), λ none. by totals.pots.items none stands.slots)
   where
     no_items : {A : Type 0} (xs : List A) → length xs ≡ 0 → xs ≡ []
     no_items [] e = refl
@@ -102,24 +104,32 @@ no_pots totals cs stands = (λ none. nothing cs (subst (λ es. HasAll cs (keys_o
         let empty : PotStands e.1 [] = subst (λ l. PotStands e.1 (to_slot e.0 l)) none found in
         absurd empty.reduce
 
+-- the pot at a place is that of its slot
+pub pot-of : (totals : Totals) (i : ℕ) (p : Slot × Pot) → i < length totals.pots.items → IsPotOf totals (get_or totals.pots.items i p).0 i
+pot-of totals i p h = (omega (arith, h, length-keys totals.pots.items), λ d. get-key totals.pots.items i d p h)
+
 -- the next slot of totals is closed
-pub slots-next : (held : Held) (totals : Totals) (i : ℕ) (slot : Slot) (pot : Pot) (old new : Closed) → slice_get totals.pots.entries i ≡ Some (slot, pot)
-    → pot_at totals slot ≡ Some pot → AreFirst held totals i old → ClosesSlot held slot pot old new
+pub slots-next : (held : Held) (totals : Totals) (i : ℕ) (p : Slot × Pot) (old new : Closed) → i < length totals.pots.items → AreFirst held totals i old
+    → ClosesSlot held (get_or totals.pots.items i p).0 (get_or totals.pots.items i p).1 old new
     → (WritesWithin (shape_of held) old → WritesWithin (shape_of held) new) → AreFirst held totals (i + 1) new
-slots-next held totals i slot pot old new entry found are closes within =
-    let keys = keys_of totals.pots.entries in
-    let longer : take (i + 1) keys ≡ take i keys ++ slot ∷ [] = ap (λ n. take n keys) (add-one i) ∙ keys-more totals.pots.entries i slot pot entry in
+slots-next held totals i p old new h are closes within =
+    let slot = (get_or totals.pots.items i p).0 in
+    let at = pot-of totals i p h in
+    let longer : take (i + 1) (slots_of totals) ≡ take i (slots_of totals) ++ slot ∷ [] = take_more (slots_of totals) i slot at.0 ∙ ap (λ k. take i (slots_of totals) ++ k ∷ []) (at.1 slot) in
     record {
-      slots = λ edge cs stands. subst (λ ks. AreClosed (store_of edge held) cs ks new) (sym longer)
-          (closed-more held edge cs (take i keys) slot pot old new (are.slots edge cs stands) closes (pot_stands totals cs slot pot found stands));
+      slots = λ edge cs stands.
+          let found : pot_at totals slot ≡ Some (get_or totals.pots.items i p).1 = lookup-first slot totals.pots.items i p (placed-first totals stands.placed slot i at) in
+          subst (λ ks. AreClosed (store_of edge held) cs ks new) (sym longer)
+          (closed-more held edge cs (take i (slots_of totals)) slot (get_or totals.pots.items i p).1 old new (are.slots edge cs stands) closes
+          (pot_stands totals cs slot (get_or totals.pots.items i p).1 found stands));
       within = within are.within;
     }
 
 -- all slots of totals are closed
-pub all-settled : (held : Held) (totals : Totals) (i : ℕ) (closed : Closed) → length totals.pots.entries ≤ i → AreFirst held totals i closed → Settles held totals closed
+pub all-settled : (held : Held) (totals : Totals) (i : ℕ) (closed : Closed) → length totals.pots.items ≤ i → AreFirst held totals i closed → Settles held totals closed
 all-settled held totals i closed all are =
-    let keys = keys_of totals.pots.entries in
-    let whole : take i keys ≡ keys = keys-all totals.pots.entries i all in
+    let keys = slots_of totals in
+    let whole : take i keys ≡ keys = take_all i keys (omega (arith, all, length-keys totals.pots.items)) in
     record {
       store = λ edge cs stands. let s = store_of edge held in
           ap (overlaid s) ((are.slots edge cs stands).writes ∙ ap (writes_of (value_after s cs)) whole) ∙ writes-settle s cs keys (has_all totals cs stands);

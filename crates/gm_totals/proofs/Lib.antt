@@ -5,4 +5,7 @@ pub mod Takings
 pub mod Potting
 pub mod Settling
 pub mod Slots
+pub mod Keeping
+pub mod Placing
+pub mod Giving
 pub mod Closing

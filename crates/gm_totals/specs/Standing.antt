@@ -1,6 +1,6 @@
 -- The contributions for which all running totals stand, and what closing a slot's totals gives.
-use Rattle.std.specs.Prelude.{◌≡◌, ℕ, List, [], ◌∷◌, ◌++◌, Option, Some, None, All}
-use Rattle.std.specs.Map.{lookup}
+use Rattle.std.specs.Prelude.{◌≡◌, ◌<◌, ℕ, List, [], ◌∷◌, ◌++◌, Option, Some, None, All, length, slice_index_or}
+use Rattle.std.specs.Map.{lookup, keys_of}
 use Rattle.gm_value.specs.declared.values.Value.{Value}
 use Rattle.gm_source.specs.declared.contributions.Contribution.{Contribution}
 use Rattle.gm_source.specs.declared.faults.Fault.{Fault}
@@ -12,19 +12,33 @@ use Rattle.gm_store.specs.Held.{Held, Shape, HasSlot, store_of}
 use Rattle.gm_totals.specs.declared.pots.Pot.{Pot}
 use Rattle.gm_totals.specs.declared.totals.Totals.{Totals}
 use Rattle.gm_totals.specs.declared.totals.Closed.{Closed}
+use Rattle.gm_totals.specs.Places.{place_at}
 use Rattle.gm_totals.specs.Pots.{SlotStands, PotStands}
 
 -- the pot of a slot
 abbrev pub pot_at : Totals → Slot → Option Pot
-pot_at totals slot = lookup (slot_eq slot) totals.pots.entries
+pot_at totals slot = lookup (slot_eq slot) totals.pots.items
 
--- totals stand for contributions, in the order in which they were given: for each slot its pot does
-abbrev pub StandsFor : Totals → List Contribution → Type 0
-StandsFor totals cs = (slot : Slot) → SlotStands (pot_at totals slot) (to_slot slot cs)
+-- the slots that have pots, in the order of the pots
+abbrev pub slots_of : Totals → List Slot
+slots_of totals = keys_of totals.pots.items
+
+-- each pot stands where the place of its slot says
+abbrev pub ArePlaced : Totals → Type 0
+ArePlaced totals = (k : ℕ) (d : Slot) → k < length (slots_of totals) → place_at totals.places (slice_index_or (slots_of totals) k d) ≡ k
+
+-- the pot at a place is that of a slot
+abbrev pub IsPotOf : Totals → Slot → ℕ → Type 0
+IsPotOf totals slot place = (place < length (slots_of totals)) × ((d : Slot) → slice_index_or (slots_of totals) place d ≡ slot)
+
+-- totals stand for contributions, in the order in which they were given: for each slot its pot does, and each pot is found by its place
+pub record StandsFor (totals : Totals) (cs : List Contribution) : Type 0 where
+  pub slots : (slot : Slot) → SlotStands (pot_at totals slot) (to_slot slot cs)
+  pub placed : ArePlaced totals
 
 -- the slots of totals are those of a store of a shape
 abbrev pub Within : Shape → Totals → Type 0
-Within shape totals = (slot : Slot) (pot : Pot) → pot_at totals slot ≡ Some pot → HasSlot shape slot
+Within shape totals = All (HasSlot shape) (slots_of totals)
 
 -- the lesser of what may be faults
 abbrev pub least_with : Option Fault → Option Fault → Option Fault

@@ -4,6 +4,7 @@
 
 mod entries;
 mod faults;
+mod places;
 mod pots;
 #[cfg(test)]
 mod tests;

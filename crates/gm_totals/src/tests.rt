@@ -254,13 +254,34 @@ fn slots_settle_apart(rt: HostRuntime) -> Result<(), Fail> {
     Ok(())
 }
 
+// Totals that were emptied hold nothing of what was given before, also at the slots that had contributions.
 #[test]
 fn totals_are_emptied(rt: HostRuntime) -> Result<(), Fail> {
+    let mut store = Store::new(rt.alloc(), 3);
+    store.add_scalar(TEN)?;
+    store.add_row(Value::At(None))?;
     let mut totals = Totals::new(rt.alloc());
     assert!(rt; totals.is_empty());
     totals.give(added(1, TEN))?;
+    totals.give(gift(1, Reduce::Max, parent(2), Value::At(Some(2))))?;
+    totals.give(gift(1, Reduce::Max, parent(1), Value::At(Some(2))))?;
     assert!(rt; !totals.is_empty());
     totals.clear();
     assert!(rt; totals.is_empty());
+    let one = Value::At(Some(1));
+    totals.give(gift(2, Reduce::Max, parent(1), one))?;
+    totals.give(gift(2, Reduce::Max, parent(2), Value::At(None)))?;
+    let closed = totals.closed(rt.alloc(), &store)?;
+    let want = [
+        Write {
+            slot: parent(1),
+            value: one,
+        },
+        Write {
+            slot: parent(2),
+            value: Value::At(None),
+        },
+    ];
+    assert!(rt; closed.writes.as_slice() == want.as_slice());
     Ok(())
 }

@@ -1,25 +1,26 @@
 //! The running totals of all slots.
 
-ghost use Rattle.std.specs.Prelude.{◌≡◌, ◌↔◌, List, [], ◌∷◌, ◌++◌, IsTrue, IfOk, OnOk};
+ghost use Rattle.std.specs.Prelude.{◌≡◌, ◌↔◌, List, [], ◌∷◌, ◌++◌, None, IsTrue, IfOk, IfSome, OnOk};
 ghost use Rattle.gm_source.specs.declared.contributions.Contribution.{Contribution};
 ghost use Rattle.gm_store.specs.Held.{Shape, HasSlot, shape_of};
-ghost use Rattle.gm_totals.specs.Standing.{StandsFor, Within, ClosesSlot, WritesWithin, Settles};
+ghost use Rattle.gm_totals.specs.Standing.{pot_at, ArePlaced, IsPotOf, StandsFor, Within, ClosesSlot, WritesWithin, Settles};
 
 use crate::faults::lesser;
+use crate::places::Places;
 use crate::pots::Pot;
 use gm_base::NoMemory;
 use gm_source::contributions::Contribution;
 use gm_source::faults::Fault;
 use gm_source::slots::{Slot, Write};
 use gm_store::Store;
-use indexmap::IndexMap;
 use std::alloc::Global;
 
 /// The running totals of what reduction assignments gave to their slots, kept exactly for each slot and statement.
 #[derive(Drop)]
 pub struct Totals {
     alloc: Global,
-    pots: IndexMap<Slot, Pot>,
+    places: Places,
+    pots: Vec<(Slot, Pot)>,
 }
 
 /// What totals close to: a write for each slot, and the least fault of the totals that do not fit.
@@ -56,7 +57,8 @@ impl Totals {
     {
         Totals {
             alloc,
-            pots: IndexMap::new(alloc),
+            places: Places::new(alloc),
+            pots: Vec::new(alloc),
         }
     }
 
@@ -67,16 +69,41 @@ impl Totals {
         ensures within { OnOk result ((shape : Shape) → HasSlot shape contribution.slot
             → Within shape self.old → Within shape self.new) }
     {
-        match self.pots.get_index_of(&contribution.slot) {
-            Some(index) => {
-                let (_slot, pot) = self.pots.pair_mut(index);
-                pot.give(contribution)?;
-            }
-            None => {
-                let pot = Pot::new(self.alloc, contribution)?;
-                self.pots.insert(contribution.slot, pot)?;
-            }
+        match self.find(contribution.slot) {
+            Some(place) => self.pots[place].1.give(contribution)?,
+            None => self.add(contribution)?,
         }
+        Ok(())
+    }
+
+    // The place of a slot's pot, if it has one.
+    #[inline(always)]
+    fn find(&self, slot: Slot) -> Option<usize>
+        ensures found { IfSome result (λ place. IsPotOf self.now slot place) }
+        ensures none { result ≡ None → ArePlaced self.now → pot_at self.now slot ≡ None }
+    {
+        let place = self.places.get(slot) as usize;
+        if place < self.pots.len() && self.pots[place].0 == slot {
+            Some(place)
+        } else {
+            None
+        }
+    }
+
+    // Gives a slot its first contribution.
+    fn add(&mut self, contribution: Contribution) -> Result<(), NoMemory>
+        ensures stands { OnOk result ((cs : List Contribution) → StandsFor self.old cs → pot_at self.old contribution.slot ≡ None
+            → StandsFor self.new (cs ++ contribution ∷ [])) }
+        ensures within { OnOk result ((shape : Shape) → HasSlot shape contribution.slot
+            → Within shape self.old → Within shape self.new) }
+    {
+        let place = self.pots.len();
+        if place >= u32::MAX as usize {
+            return Err(NoMemory);
+        }
+        let pot = Pot::new(self.alloc, contribution)?;
+        self.places.keep(contribution.slot, place as u32)?;
+        self.pots.push((contribution.slot, pot))?;
         Ok(())
     }
 
@@ -92,10 +119,8 @@ impl Totals {
             writes: Vec::with_capacity(alloc, self.pots.len())?,
             fault: None,
         };
-        for index in 0..self.pots.len() {
-            if let Some((slot, pot)) = self.pots.get_index(index) {
-                close_slot(&mut closed, *slot, pot, store)?;
-            }
+        for (slot, pot) in &self.pots {
+            close_slot(&mut closed, *slot, pot, store)?;
         }
         Ok(closed)
     }

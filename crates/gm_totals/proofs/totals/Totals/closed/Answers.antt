@@ -1,30 +1,36 @@
 -- The slots of totals are closed one after another.
-use Rattle.std.proofs.Common.{◌+◌, ◌<◌, ◌≤◌, ◌∙◌, length, sym, ap, subst, arith}
-use Rattle.std.proofs.lemmas.Bool.{false≢true}
-use Rattle.std.specs.Map.{lookup}
-use Rattle.gm_totals.proofs.Closing.{AreFirst, slots-next, all-settled}
-use Rattle.gm_totals.proofs.Slots.{eq-slots}
-use Rattle.gm_totals.proofs.totals.Totals.closed.Goals.{in-Some+in_ok-close_slot, in_default}
+use Rattle.std.proofs.Common.{◌≡◌, ◌<◌, ◌≤◌, ◌∙◌, List, length, get_or, sym, ap, subst}
+use Rattle.gm_source.specs.declared.slots.Slot.{Slot}
+use Rattle.gm_store.specs.Held.{HasSlot, shape_of}
+use Rattle.gm_totals.specs.declared.pots.Pot.{Pot}
+use Rattle.gm_totals.specs.Standing.{ClosesSlot}
+use Rattle.gm_totals.proofs.Closing.{pot-of, slots-next, all-settled}
 use Rattle.gm_totals.proofs.totals.Totals.closed.Goals as goal
 
 pub close_slot-requires : goal.close_slot-requires
 close_slot-requires c =
-    c.requires c.in-Some.slot.now c.in-Some.pot.now (ap (λ t. lookup t c.args.self.now.pots.entries) (sym (eq-slots c.in-Some.slot.now)) ∙ c.in-Some.ensures.value)
+    let totals = c.args.self.now in
+    let i = c.loop-slot.slot-index in
+    let pair = c.loop-slot-item.result in
+    let h : i < length totals.pots.items = subst (λ (l : List (Slot × Pot)). i < length l) c.deref-slot-items.ensures.value c.loop-slot-test.true in
+    let is : pair ≡ get_or totals.pots.items i pair = c.loop-slot-item.is ∙ ap (λ (l : List (Slot × Pot)). get_or l i pair) c.deref-slot-items.ensures.value in
+    let at = pot-of totals i pair h in
+    subst (λ (p : Slot × Pot). HasSlot (shape_of c.args.store.now) p.0) (sym is)
+    (subst (HasSlot (shape_of c.args.store.now)) (at.1 pair.0) (c.requires i pair.0 at.0))
 
-pub loop-index-preserved : goal.loop-index-preserved
-loop-index-preserved c =
-    elim c.match-get_index.branch [
-      | in-Some+in_ok-close_slot w ↦ subst (AreFirst c.args.store.now c.args.self.now (c.loop-index.index + 1)) (sym w.closed-is)
-          (slots-next c.args.store.now c.args.self.now c.loop-index.index w.in-Some.slot.now w.in-Some.pot.now c.loop-index.closed w.close_slot.new.closed
-          (sym w.in-Some.ensures.entry)
-          (ap (λ t. lookup t c.args.self.now.pots.entries) (sym (eq-slots w.in-Some.slot.now)) ∙ w.in-Some.ensures.value)
-          c.loop-index.invariant w.in_ok-close_slot.ensures.closes w.in_ok-close_slot.ensures.within)
-      | in_default w ↦
-          let within : c.loop-index.index < length c.args.self.now.pots.entries = omega (arith, c.len-index-end.ensures.len) in
-          absurd (false≢true (w.in_default.ensures.found.1 within))
-    ]
+pub loop-slot-preserved : goal.loop-slot-preserved
+loop-slot-preserved c =
+    let totals = c.args.self.now in
+    let i = c.loop-slot.slot-index in
+    let pair = c.loop-slot-item.result in
+    let h : i < length totals.pots.items = subst (λ (l : List (Slot × Pot)). i < length l) c.deref-slot-items.ensures.value c.loop-slot-test.true in
+    let is : pair ≡ get_or totals.pots.items i pair = c.loop-slot-item.is ∙ ap (λ (l : List (Slot × Pot)). get_or l i pair) c.deref-slot-items.ensures.value in
+    slots-next c.args.store.now totals i pair c.loop-slot.closed c.close_slot.new.closed h c.loop-slot.invariant
+    (subst (λ (p : Slot × Pot). ClosesSlot c.args.store.now p.0 p.1 c.loop-slot.closed c.close_slot.new.closed) is c.in_ok-close_slot.ensures.closes) c.in_ok-close_slot.ensures.within
 
 pub returns-clause-settles : goal.returns-clause-settles
 returns-clause-settles c =
-    let all : length c.args.self.now.pots.entries ≤ c.loop-index.index = omega (arith, c.len-index-end.ensures.len) in
-    all-settled c.args.store.now c.args.self.now c.loop-index.index c.loop-index.closed all c.loop-index.invariant
+    let totals = c.args.self.now in
+    let i = c.loop-slot.slot-index in
+    let all : length totals.pots.items ≤ i = subst (λ (l : List (Slot × Pot)). length l ≤ i) c.deref-slot-items.ensures.value c.loop-slot-test.false in
+    all-settled c.args.store.now totals i c.loop-slot.closed all c.loop-slot.invariant
