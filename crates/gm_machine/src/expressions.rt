@@ -158,7 +158,7 @@ fn applied(op: Op2, place: u32, x: Value, y: Value) -> Result<Value, Fault>
 /// The value of an expression that is one of the leaves in which most expressions end. It is answered where it is asked
 /// for, without a call.
 #[inline(always)]
-pub(crate) fn leaf(e: &Expr, s: &Scene, fields: &[Value], registers: &[Value]) -> Option<Value>
+fn leaf(e: &Expr, s: &Scene, fields: &[Value], registers: &[Value]) -> Option<Value>
     ensures { IfSome result (λ v. value (view_with (scene_of s.now) fields.now registers.now) (term e.now) ≡ Ok v) }
 {
     match e {

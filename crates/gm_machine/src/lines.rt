@@ -11,7 +11,7 @@ ghost use Rattle.gm_machine.specs.Vertex.{view, view_with, line_ends, leaves, gi
 
 use crate::batches::Batch;
 use crate::contributions::Contribution;
-use crate::expressions::{Scene, evaluate, holds, leaf};
+use crate::expressions::{Scene, evaluate, holds};
 use crate::faults::{Fault, lesser};
 use gm_base::NoMemory;
 use gm_graph::Graph;
@@ -102,10 +102,6 @@ fn set_field(field: u32, a: &Expr, scene: &Scene, work: &mut Work) -> LineEnd
     requires { HasColumns scene.now.graph.now scene.now.columns }
     ensures { after_line (work_of work.new) result ≡ line_after (scene_of scene.now) (SetField field (term a.now)) (work_of work.old) }
 {
-    if let Some(v) = leaf(a, scene, &work.fields, &work.registers) {
-        write(&mut work.fields, field, v);
-        return LineEnd::Next(0);
-    }
     match evaluate(a, scene, &work.fields, &work.registers) {
         Ok(v) => {
             write(&mut work.fields, field, v);
@@ -140,15 +136,6 @@ fn fold_one(
     ensures { IfOk result (λ end. after_line (work_of work.new) end
         ≡ line_after (scene_of scene.now) (Fold reduce place (target t.now ∷ [])) (work_of work.old)) }
 {
-    if let Some(value) = leaf(&t.1, scene, &work.fields, &work.registers) {
-        work.folds.push(Contribution {
-            place,
-            reduce,
-            slot: t.0,
-            value,
-        })?;
-        return Ok(LineEnd::Next(0));
-    }
     match evaluate(&t.1, scene, &work.fields, &work.registers) {
         Ok(value) => {
             work.folds.push(Contribution {
@@ -206,15 +193,6 @@ fn put_one(
     ensures { IfOk result (λ end. after_line (work_of work.new) end
         ≡ line_after (scene_of scene.now) (Put reduce place (target t.now ∷ [])) (work_of work.old)) }
 {
-    if let Some(value) = leaf(&t.1, scene, &work.fields, &work.registers) {
-        work.puts.push(Contribution {
-            place,
-            reduce,
-            slot: t.0,
-            value,
-        })?;
-        return Ok(LineEnd::Next(0));
-    }
     match evaluate(&t.1, scene, &work.fields, &work.registers) {
         Ok(value) => {
             work.puts.push(Contribution {
@@ -329,10 +307,6 @@ fn skip(n: u32, a: &Expr, scene: &Scene, work: &Work) -> LineEnd
     requires { HasColumns scene.now.graph.now scene.now.columns }
     ensures { after_line (work_of work.now) result ≡ line_after (scene_of scene.now) (Skip n (term a.now)) (work_of work.now) }
 {
-    if let Some(v) = leaf(a, scene, &work.fields, &work.registers) {
-        let left_out = if holds(v) { 0 } else { n };
-        return LineEnd::Next(left_out);
-    }
     match evaluate(a, scene, &work.fields, &work.registers) {
         Ok(v) => LineEnd::Next(if holds(v) { 0 } else { n }),
         Err(f) => LineEnd::Faulted(f),
