@@ -16,7 +16,7 @@ use Rattle.gm_source.specs.Faults.{least}
 use Rattle.gm_source.specs.Iterations.{Iteration, Mode, Outermost, AtEdge, as_it_is, begun, edge_of, failed, inner_done, one_way, turn_at, view_in, with_ok, wrote}
 use Rattle.gm_source.specs.Stores.{Store, write}
 use Rattle.gm_store.specs.Held.{Held, Shape, HasSlot, shape_of, store_of}
-use Rattle.gm_store.proofs.Reversing.{Reversible-trans}
+use Rattle.gm_store.proofs.Reversing.{Reversible-refl, Reversible-trans}
 use Rattle.gm_totals.specs.declared.totals.Totals.{Totals}
 use Rattle.gm_totals.specs.declared.totals.Closed.{Closed}
 use Rattle.gm_totals.specs.Standing.{StandsFor, Within, Settles}
@@ -30,7 +30,7 @@ use Rattle.gm_loops.specs.Scopes.{no_scope}
 use Rattle.gm_loops.specs.Sights.{edges_in, view_of}
 use Rattle.gm_loops.specs.Turns.{seen, Begins, Closes, DoesTurns, Follows, Overlays, behind, faults_of, inner_of, outermost_of}
 use Rattle.gm_loops.proofs.Effects.{fits-same, view-same}
-use Rattle.gm_loops.proofs.Parting.{least-append}
+use Rattle.gm_loops.proofs.Parting.{least-append, sooner_none}
 use Rattle.gm_loops.proofs.Turning.{begun-stands}
 
 -- the code of an iteration before its first fault
@@ -114,6 +114,22 @@ closes f old new found closed settles written empty within outermost deferred fa
     deferred = ap (λ v. v.items) deferred ∙ has_deferred;
     fault = fault ∙ ap (sooner found) (settles.fault (edges_in f) inner has_inner ∙ ap (λ (s : Store). least (total_faults s inner)) same);
   };
+}
+
+-- no totals are closed
+pub closes-nothing : (f : Setting) (old : Going) (found : Option Fault) → ((cs : List Contribution) → StandsFor old.inner cs → cs ≡ []) → Closes f old (record old { fault = found }) found
+closes-nothing f old found none = record {
+  ready = λ r. record { fits = r.fits; inner = r.inner; outermost = r.outermost; deferred = r.deferred };
+  back = Reversible-refl old.store;
+  stands = λ b it inner same has_inner has_outermost has_deferred.
+      let empty : inner ≡ [] = none inner has_inner in
+      record {
+        store = same ∙ ap (λ (cs : List Contribution). settled_store it.store cs) (sym empty);
+        inner = subst (λ (cs : List Contribution). StandsFor old.inner cs) empty has_inner;
+        outermost = has_outermost;
+        deferred = has_deferred;
+        fault = sym (sooner_none found) ∙ ap (λ (cs : List Contribution). sooner found (least (total_faults it.store cs))) (sym empty);
+      };
 }
 
 -- an inner loop, of its iterations and its end

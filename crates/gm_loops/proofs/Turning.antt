@@ -1,6 +1,6 @@
 -- What iterations of a loop leave, one after the other.
-use Rattle.std.proofs.Common.{◌≡◌, ◌∙◌, ℕ, true, false, List, [], ◌∷◌, ◌++◌, length, map, Option, Some, None, refl, ap, sym, subst, append_assoc}
-use Rattle.std.proofs.lemmas.List.{append-nil}
+use Rattle.std.proofs.Common.{◌≡◌, ◌∙◌, ◌<◌, ◌+◌, ℕ, get_or, take, true, false, List, [], ◌∷◌, ◌++◌, length, map, Option, Some, None, refl, ap, sym, subst, append_assoc}
+use Rattle.std.proofs.lemmas.List.{append-nil, take_more}
 use Rattle.std.specs.Prelude.{All}
 use Rattle.std.specs.Option.{is_some}
 use Rattle.gm_source.specs.declared.contributions.Contribution.{Contribution}
@@ -19,7 +19,7 @@ use Rattle.gm_loops.specs.declared.sights.Setting.{Setting}
 use Rattle.gm_loops.specs.Goings.{Before, Does, InnerStands, IsReady, Stands, deferred_after}
 use Rattle.gm_loops.specs.Parts.{sooner}
 use Rattle.gm_loops.specs.Sights.{edges_in}
-use Rattle.gm_loops.specs.Turns.{seen, Follows, Overlays, Begins, DoesTurn, DoesTurns, behind, deferred_of, faults_of, inner_of, outermost_of}
+use Rattle.gm_loops.specs.Turns.{seen, Follows, Keeps, Overlays, Begins, DoesTurn, DoesTurns, behind, deferred_of, faults_of, inner_of, outermost_of}
 use Rattle.gm_loops.proofs.Effects.{fits-same}
 use Rattle.gm_loops.proofs.Parting.{faults-append, joined-one, least-one, map-append, parts-append}
 
@@ -217,6 +217,21 @@ turns-more f m a b c found more turns others first second = record {
         after_both m x.deferred (deferred_of ts) (deferred_of us) ∙ ap (deferred_after m x.deferred) (sym (parts-append (λ (t : Iteration). t.deferred) ts us)) in
         cc
 
+-- iterations, after which nothing of what they left is changed
+pub turns-kept : (f : Setting) (m : Mode) (a b c : Going) (found : Option Fault) (turns : Store → List Iteration) → Keeps b c → DoesTurns f m a b found turns → DoesTurns f m a c found turns
+turns-kept f m a b c found turns k h = record {
+  ready = λ r. ready-same f b c (ap shape_of k.store) k.inner k.outermost k.deferred (h.ready r);
+  restored = subst (λ (s : Held). Restored a.store s) (sym k.store) h.restored;
+  follows = λ x g.
+      let w : Follows m (behind m x (turns (seen f a))) b = h.follows x g in
+      record {
+        inner = subst (λ (t : Totals). InnerStands m t (behind m x (turns (seen f a))).with_inner) (sym k.inner) w.inner;
+        outermost = subst (λ (t : Totals). StandsFor t (behind m x (turns (seen f a))).with_outermost) (sym k.outermost) w.outermost;
+        deferred = ap (λ v. v.items) k.deferred ∙ w.deferred;
+      };
+  fault = h.fault;
+}
+
 -- the same iterations at the store that was
 pub turns-at : (f : Setting) (m : Mode) (a b : Going) (found : Option Fault) (turns others : Store → List Iteration) → turns (seen f a) ≡ others (seen f a)
     → DoesTurns f m a b found turns → DoesTurns f m a b found others
@@ -236,9 +251,9 @@ turns-step f m a b c found fault turn done x first second =
     (sym (map-append (λ y. turn y (seen f a)) done (x ∷ [])))
     (turns-more f m a b c found fault (λ s. map (λ y. turn y s) done) (λ s. turn x s ∷ []) first second)
 
--- the steps that are left, after one more is done
-pub step-done : {A : Type 0} (done : List A) (x : A) (rest all other : List A) → done ++ all ≡ other → all ≡ x ∷ rest → (done ++ x ∷ []) ++ rest ≡ other
-step-done done x rest all other h e = append_assoc done (x ∷ []) rest ∙ ap (λ l. done ++ l) (sym e) ∙ h
+-- what the first of a list give, and one more of it
+pub taken-more : {A B : Type 0} (g : A → B) (xs : List A) (i : ℕ) (x : A) → i < length xs → map g (take (i + 1) xs) ≡ map g (take i xs) ++ g (get_or xs i x) ∷ []
+taken-more g xs i x lt = ap (map g) (take_more xs i x lt) ∙ map-append g (take i xs) (get_or xs i x ∷ [])
 
 -- a test for a fault
 pub has-fault : (o : Option Fault) → true ≡ is_some o → (f : Fault) × (o ≡ Some f)

@@ -78,6 +78,14 @@ pub record DoesTurns (f : Setting) (m : Mode) (old new : Going) (found : Option 
   pub follows : (b : Before) → Follows m b old → Follows m (behind m b (turns (seen f old))) new
   pub fault : (b : Before) → Follows m b old → found ≡ least (faults_of (turns (seen f old)))
 
+-- what iterations and statements change is as it was
+pub record Keeps (old new : Going) : Type 0 where
+  pub store : new.store ≡ old.store
+  pub inner : new.inner ≡ old.inner
+  pub outermost : new.outermost ≡ old.outermost
+  pub deferred : new.deferred ≡ old.deferred
+  pub fault : new.fault ≡ old.fault
+
 -- the iteration of an inner loop at a step
 abbrev pub inner_turn : Loop → Key → Expr → Stmt → ℕ → Step → Store → Iteration
 inner_turn loop key test body iterator step s = turn_at loop (AtEdge step.edge) key test (does body (AtEdge step.edge) loop) iterator step.node s

@@ -18,7 +18,6 @@ use crate::around::{Around, Body, Mode};
 use crate::goings::Going;
 use crate::parts::is_true;
 use crate::ranges::Hop;
-use crate::scopes::Scope;
 use crate::turns::keep_least;
 use gm_ast::tree::{Expr, Head, Key, Stmt};
 use gm_base::NoMemory;
@@ -148,15 +147,13 @@ impl Going {
             (λ s. map (λ step. inner_turn (loop_of around.now) key (expr_of filter.now) (stmt_of body.now) head.now.iterator step s)
             (steps_in (view_in (loop_of around.now) iterations.Outermost (begun s) key) head.now))) }
     {
-        let sight = around.sight(Mode::Outermost, key);
-        let range = sight.range(&Scope::Nothing, &self.store, head);
+        let hops = self.inner_steps(key, head, around)?;
         let mut least = None;
-        for k in 0..range.count() {
-            if let Some(hop) = range.at(k) {
-                self.inner_turn(key, head.iterator, body, filter, hop, around)?;
-                keep_least(&mut least, &self.fault);
-            }
+        for hop in &hops {
+            self.inner_turn(key, head.iterator, body, filter, *hop, around)?;
+            keep_least(&mut least, &self.fault);
         }
+        self.hops = hops;
         Ok(least)
     }
 

@@ -125,7 +125,7 @@ fn int_at(cells: &Cells, node: usize) -> Option<i32>
 
 // What a comparison of two Ints gives.
 #[inline(always)]
-fn compared(op: Op2, x: i32, y: i32) -> Option<bool>
+pub(crate) fn compared(op: Op2, x: i32, y: i32) -> Option<bool>
     ensures { IfSome result (λ b. result2 op (I32 x) (I32 y) ≡ Ok (Flag b)) }
 {
     match op {
@@ -164,7 +164,7 @@ fn comparisons(
 
 // A sum or a difference of two Ints, if it is an Int.
 #[inline(always)]
-fn summed(op: Op2, x: i32, y: i32) -> Option<i32>
+pub(crate) fn summed(op: Op2, x: i32, y: i32) -> Option<i32>
     ensures { IfSome result (λ z. result2 op (I32 x) (I32 y) ≡ Ok (I32 z)) }
 {
     match op {

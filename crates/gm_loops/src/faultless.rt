@@ -1,6 +1,7 @@
 //! The value of an expression of which nothing faults.
 
 ghost use Rattle.std.specs.Prelude.{◌≡◌, ◌<◌, Ok, IfSome};
+ghost use Rattle.gm_value.specs.Operations.{result2};
 ghost use Rattle.gm_graph.specs.Graphs.{node_count};
 ghost use Rattle.gm_ast.specs.Tree.{expr_of};
 ghost use Rattle.gm_source.specs.Levels.{node_in};
@@ -9,13 +10,14 @@ ghost use Rattle.gm_store.specs.Held.{scalar_of};
 ghost use Rattle.gm_loops.specs.Scopes.{scalar_in};
 ghost use Rattle.gm_loops.specs.Sights.{view_of, Fits};
 
+use crate::columns::{compared, summed};
 use crate::parts::{Answer, is_true};
 use crate::runnings::{added, closed_total, reduce_of};
 use crate::scopes::Scope;
 use crate::sights::{Sight, degree_of};
 use gm_ast::tree::Expr;
 use gm_store::Store;
-use gm_value::{FaultKind, Value, apply1, apply2, total_unit, totals_have_room};
+use gm_value::{FaultKind, Op2, Value, apply1, apply2, total_unit, totals_have_room};
 
 // A value, if there is no fault.
 #[inline(always)]
@@ -36,6 +38,22 @@ pub(crate) fn sound(answer: Answer) -> Option<Value>
         Ok(value) => Some(value),
         Err(_) => None,
     }
+}
+
+// What an operation gives, if there is no fault. Comparisons, sums and differences of Ints are done in place.
+#[inline(always)]
+fn result_of(op: Op2, first: Value, second: Value) -> Option<Value>
+    ensures { IfSome result (λ v. result2 op first second ≡ Ok v) }
+{
+    if let (Value::I32(x), Value::I32(y)) = (first, second) {
+        if let Some(number) = summed(op, x, y) {
+            return Some(Value::I32(number));
+        }
+        if let Some(holds) = compared(op, x, y) {
+            return Some(Value::Flag(holds));
+        }
+    }
+    found(apply2(op, first, second))
 }
 
 impl Sight<'_> {
@@ -60,6 +78,7 @@ impl Sight<'_> {
 
     // The value of an expression of which nothing faults. Where it answers none, `evaluated` says what comes of it.
     #[cycle(finding)]
+    #[inline(always)]
     pub(crate) fn faultless(&self, e: &Expr, scope: &Scope, store: &Store) -> Option<Value>
         requires { Fits self.now.setting.now store.now }
         ensures { IfSome result (λ v. evaluated (expr_of e.now) (view_of self.now scope.now store.now) ≡ plain (Ok v)) }
@@ -115,7 +134,7 @@ impl Sight<'_> {
             } => {
                 let first = self.faultless(left, scope, store)?;
                 let second = self.faultless(right, scope, store)?;
-                found(apply2(*op, first, second))
+                result_of(*op, first, second)
             }
             Expr::Both(left, right) => {
                 let first = self.faultless(left, scope, store)?;

@@ -8,6 +8,7 @@ ghost use Rattle.gm_loops.specs.declared.sights.Setting.{Setting};
 ghost use Rattle.gm_loops.specs.Targets.{pair_of};
 ghost use Rattle.gm_loops.specs.Goings.{Does};
 
+use crate::ranges::Hop;
 use gm_ast::tree::TotalKey;
 use gm_base::NoMemory;
 use gm_source::contributions::Contribution;
@@ -19,7 +20,7 @@ use gm_value::Reduce;
 use std::alloc::Global;
 
 /// The iterations of a loop so far: the store that the present one sees, the totals that end with the inner and with
-/// the outermost loop, the deferred writes, and the fault of the present one.
+/// the outermost loop, the deferred writes, the fault of the present one, and room for the steps of an inner loop.
 #[derive(Drop)]
 pub struct Going {
     pub alloc: Global,
@@ -28,6 +29,7 @@ pub struct Going {
     pub outermost: Totals,
     pub deferred: Vec<Write>,
     pub fault: Option<Fault>,
+    pub(crate) hops: Vec<Hop>,
 }
 
 // What a reduction assignment gives.

@@ -49,6 +49,7 @@ impl Going {
             outermost: Totals::new(alloc),
             deferred: Vec::new(alloc),
             fault: None,
+            hops: Vec::new(alloc),
         }
     }
 

@@ -1,6 +1,6 @@
 //! The steps of loops and reductions.
 
-ghost use Rattle.std.specs.Prelude.{◌≡◌, ◌<◌, ◌≤◌, ◌+◌, Some, IfSome, length, slice_get};
+ghost use Rattle.std.specs.Prelude.{◌≡◌, ◌<◌, ◌≤◌, ◌+◌, Some, IfSome, OnOk, length, map, slice_get};
 ghost use Rattle.gm_graph.specs.Graphs.{node_count};
 ghost use Rattle.gm_source.specs.Levels.{is_next};
 ghost use Rattle.gm_source.specs.Expressions.{View, steps_of, steps_in};
@@ -10,6 +10,7 @@ ghost use Rattle.gm_loops.specs.Ranges.{all_steps, levels_by, step_of, steps_at,
 use crate::scopes::Scope;
 use crate::sights::Sight;
 use gm_ast::tree::{Domain, Head};
+use gm_base::NoMemory;
 use gm_graph::Graph;
 use gm_levels::Levels;
 use gm_store::Store;
@@ -121,6 +122,22 @@ impl Range<'_> {
         } else {
             None
         }
+    }
+
+    // All steps in their order, in place of what a list had.
+    pub fn gather(&self, hops: &mut Vec<Hop>) -> Result<(), NoMemory>
+        requires { HasStart (node_count self.now.graph.now) self.now.edges }
+        ensures { OnOk result (map step_of hops.new.items ≡ steps_at self.now 0) }
+    {
+        let count = self.count();
+        hops.clear();
+        hops.reserve(count as usize)?;
+        for k in 0..count {
+            if let Some(hop) = self.at(k) {
+                hops.push_reserved(hop);
+            }
+        }
+        Ok(())
     }
 }
 

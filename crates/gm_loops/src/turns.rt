@@ -1,26 +1,31 @@
 //! How an iteration of a loop begins, and how an inner loop ends.
 
-ghost use Rattle.std.specs.Prelude.{◌≡◌, ◌<◌, All, IfOk, OnOk};
+ghost use Rattle.std.specs.Prelude.{◌≡◌, ◌<◌, All, IfOk, OnOk, map};
 ghost use Rattle.gm_ast.specs.Tree.{expr_of};
-ghost use Rattle.gm_source.specs.Iterations.{turn_at};
+ghost use Rattle.gm_source.specs.Expressions.{steps_in};
+ghost use Rattle.gm_source.specs.Iterations.{Outermost, begun, turn_at, view_in};
 ghost use Rattle.gm_store.specs.Held.{HasSlot, shape_of};
 ghost use Rattle.gm_totals.specs.Standing.{Within};
 ghost use Rattle.gm_loops.specs.declared.sights.Setting.{Setting};
 ghost use Rattle.gm_loops.specs.Around.{loop_of, mode_of};
 ghost use Rattle.gm_loops.specs.Goings.{IsReady};
 ghost use Rattle.gm_loops.specs.Parts.{sooner};
-ghost use Rattle.gm_loops.specs.Turns.{Begins, Closes, Overlays};
+ghost use Rattle.gm_loops.specs.Ranges.{step_of};
+ghost use Rattle.gm_loops.specs.Turns.{seen, Begins, Closes, Keeps, Overlays};
 
 use crate::around::{Around, Mode};
 use crate::goings::Going;
 use crate::parts::is_true;
-use gm_ast::tree::{Expr, Key};
+use crate::ranges::Hop;
+use crate::scopes::Scope;
+use gm_ast::tree::{Expr, Head, Key};
 use gm_base::NoMemory;
 use gm_source::faults::Fault;
 use gm_source::slots::{Slot, Write};
 use gm_store::Store;
 use gm_totals::lesser;
 use gm_value::Value;
+use std::mem::replace;
 
 // The lesser of what may be two faults.
 pub(crate) fn sooner(a: Option<Fault>, b: Option<Fault>) -> Option<Fault>
@@ -84,11 +89,35 @@ impl Going {
         }
     }
 
+    // The steps of an inner loop, in the room that is kept for them.
+    pub(crate) fn inner_steps(
+        &mut self,
+        key: Key,
+        head: &Head,
+        around: &Around,
+    ) -> Result<Vec<Hop>, NoMemory>
+        requires { IsReady around.now.setting.now self.old }
+        ensures steps { IfOk result (λ hops. map step_of hops.items
+            ≡ steps_in (view_in (loop_of around.now) Outermost (begun (seen around.now.setting.now self.old)) key) head.now) }
+        ensures keeps { Keeps self.old self.new }
+    {
+        let mut hops = replace(&mut self.hops, Vec::new(self.alloc));
+        let sight = around.sight(Mode::Outermost, key);
+        sight
+            .range(&Scope::Nothing, &self.store, head)
+            .gather(&mut hops)?;
+        Ok(hops)
+    }
+
     // The end of an inner loop: its totals are closed, and its fault is the least of its iterations and totals.
     pub(crate) fn close_inner(&mut self, least: Option<Fault>) -> Result<(), NoMemory>
         requires { Within (shape_of self.old.store) self.old.inner }
         ensures { OnOk result ((f : Setting) → Closes f self.old self.new least) }
     {
+        if self.inner.is_empty() {
+            self.fault = least;
+            return Ok(());
+        }
         let closed = self.inner.closed(self.alloc, &self.store)?;
         self.inner.clear();
         self.fault = sooner(least, closed.fault);

@@ -1,5 +1,5 @@
-use Rattle.std.proofs.Common.{◌≡◌, ◌∙◌, ◌≤◌, ◌+◌, ◌<◌, ℕ, Bool, List, [], ◌∷◌, ◌++◌, drop, get_or, length, map, Option, refl, ap, sym, subst}
-use Rattle.std.proofs.lemmas.List.{append-nil}
+use Rattle.std.proofs.Common.{◌≡◌, ◌∙◌, ◌≤◌, ◌+◌, ◌<◌, ℕ, Bool, List, [], ◌∷◌, ◌++◌, drop, get_or, length, map, None, Option, take, refl, ap, sym, subst}
+use Rattle.std.proofs.lemmas.List.{take_all}
 use Rattle.gm_graph.specs.Graphs.{Step}
 use Rattle.gm_ast.specs.declared.tree.Stmt as S
 use Rattle.gm_ast.specs.Program as P
@@ -9,24 +9,26 @@ use Rattle.gm_source.specs.Expressions.{View, steps_in, value}
 use Rattle.gm_source.specs.Iterations as I
 use Rattle.gm_source.specs.Iterations.{Iteration, does, failed, begun, inner_done, turn_at, view_in}
 use Rattle.gm_source.specs.Stores.{Store}
+use Rattle.gm_store.specs.Held.{shape_of}
 use Rattle.gm_store.specs.Laws.{IsRolledBack}
 use Rattle.gm_loops.specs.declared.goings.Going.{Going}
+use Rattle.gm_loops.specs.declared.ranges.Hop.{Hop}
 use Rattle.gm_loops.specs.declared.sights.Sight.{Sight}
 use Rattle.gm_loops.specs.Around.{loop_of, mode_of}
 use Rattle.gm_loops.specs.Bounds.{bound_of}
 use Rattle.gm_loops.specs.Goings.{Does, IsReady}
-use Rattle.gm_loops.specs.Ranges.{all_steps, step_of, steps_at}
+use Rattle.gm_loops.specs.Parts.{sooner}
+use Rattle.gm_loops.specs.Ranges.{step_of}
 use Rattle.gm_loops.specs.Scopes.{no_scope}
 use Rattle.gm_loops.specs.Sights.{view_of}
-use Rattle.gm_loops.specs.Turns.{Begins, DoesTurn, DoesTurns, inner_turn, seen}
+use Rattle.gm_loops.specs.Turns.{Begins, DoesTurn, DoesTurns, Keeps, inner_turn, seen}
 use Rattle.gm_loops.proofs.Closing.{inner-done}
 use Rattle.gm_loops.proofs.Effects.{does-as, view-same}
 use Rattle.gm_loops.proofs.Statements.{below-right, drop-end, drop-next, if-fault, if-no, if-yes}
 use Rattle.gm_loops.proofs.Trees.{stmt_of-Foreach, stmt_of-If}
-use Rattle.gm_loops.proofs.Steps.{no-steps-left}
-use Rattle.gm_loops.proofs.Turning.{has-fault, no-fault, step-done, turns-at, turns-step, does-none, does-stop, does-then, turn-passed, turn-skipped, turns-anywhere, turns-none, turns-once}
+use Rattle.gm_loops.proofs.Turning.{has-fault, no-fault, ready-same, turns-at, turns-kept, turns-step, does-none, does-stop, does-then, turn-passed, turn-skipped, turns-anywhere, taken-more, turns-none, turns-once}
 use Rattle.gm_loops.proofs.goings.Going.+doing.Goals as goal
-use Rattle.gm_loops.proofs.goings.Going.+doing.Goals.{long_inner_turn-then-branch+in_ok-does, long_inner_turn-else-branch, inner_turns-in-Some+in_ok-inner_turn, inner_turns-in_default}
+use Rattle.gm_loops.proofs.goings.Going.+doing.Goals.{long_inner_turn-then-branch+in_ok-does, long_inner_turn-else-branch}
 
 pub does-returns-in_ok-does-in-Ok : goal.does-returns-in_ok-does-in-Ok
 does-returns-in_ok-does-in-Ok t c =
@@ -179,56 +181,49 @@ long_inner_turn-returns t c =
     (record { store = c.in_ok-roll_back.ensures.store; undo = c.in_ok-roll_back.ensures.undo; shape = c.in_ok-roll_back.ensures.shape }))
     refl refl refl refl)
 
-pub inner_turns-loop-k-init : goal.inner_turns-loop-k-init
-inner_turns-loop-k-init t c = record { ready = c.requires.ready; turns = ([], refl, turns-none c.args.around.now.setting.now (I.AtEdge 0) c.args.self.now) }
+pub inner_turns-loop-hop-init : goal.inner_turns-loop-hop-init
+inner_turns-loop-hop-init t c =
+    let f = c.args.around.now.setting.now in
+    let old = c.args.self.now in
+    let new = c.inner_steps.new.self in
+    let k : Keeps old new = c.in_ok-hops.ensures.keeps in
+    record {
+      ready = ready-same f old new (ap shape_of k.store) k.inner k.outermost k.deferred c.requires.ready;
+      turns = turns-kept f (I.AtEdge 0) old old new None (λ s. []) k (turns-none f (I.AtEdge 0) old);
+    }
 
-pub inner_turns-loop-k-preserved : goal.inner_turns-loop-k-preserved
-inner_turns-loop-k-preserved t c =
+pub inner_turns-loop-hop-preserved : goal.inner_turns-loop-hop-preserved
+inner_turns-loop-hop-preserved t c =
     let a = c.args.around.now in
     let f = a.setting.now in
-    let r = c.range-range.result in
     let turn : Step → Store → Iteration = λ step s. inner_turn (loop_of a) c.args.key (expr_of c.args.filter.now) (stmt_of c.args.body.now) c.args.head.now.iterator step s in
-    let h = c.loop-k.invariant in
-    let done : List Step = h.turns.0 in
-    elim c.match-at.branch [
-      | inner_turns-in-Some+in_ok-inner_turn w ↦
-          (let step : Step = step_of w.in-Some.hop in
-          record {
-            ready = subst (λ (g : Going). IsReady f g) (sym w.self-is) (w.in_ok-inner_turn.ensures.ready h.ready);
-            turns = (
-              done ++ step ∷ [],
-              step-done done step (steps_at r (c.loop-k.k + 1)) (steps_at r c.loop-k.k) (steps_at r 0) h.turns.1 w.in-Some.ensures.step,
-              subst (λ (g : Going). DoesTurns f (I.AtEdge 0) c.args.self.now g c.match-at.least (λ s. map (λ y. turn y s) (done ++ step ∷ []))) (sym w.self-is)
-                  (subst (λ (o : Option Fault). DoesTurns f (I.AtEdge 0) c.args.self.now w.inner_turn.new.self o (λ s. map (λ y. turn y s) (done ++ step ∷ []))) (sym (w.least-is ∙ w.keep_least.ensures))
-                  (turns-step f (I.AtEdge 0) c.args.self.now c.loop-k.self w.inner_turn.new.self c.loop-k.least w.inner_turn.new.self.fault turn done step h.turns.2 w.in_ok-inner_turn.ensures)),
-            );
-          })
-      | inner_turns-in_default w ↦
-          (record {
-            ready = subst (λ (g : Going). IsReady f g) (sym w.self-is) h.ready;
-            turns = (
-              done,
-              ap (λ (l : List Step). done ++ l) (sym w.in_default.ensures.step) ∙ h.turns.1,
-              subst (λ (g : Going). DoesTurns f (I.AtEdge 0) c.args.self.now g c.match-at.least (λ s. map (λ y. turn y s) done)) (sym w.self-is)
-                  (subst (λ (o : Option Fault). DoesTurns f (I.AtEdge 0) c.args.self.now c.loop-k.self o (λ s. map (λ y. turn y s) done)) (sym w.least-is) h.turns.2),
-            );
-          })
-    ]
+    let h = c.loop-hop.invariant in
+    let items : List Hop = c.deref-hop-items.result.now in
+    let i = c.loop-hop.hop-index in
+    let none : Hop = record { node = 0; edge = 0 } in
+    let hop : Hop = get_or items i none in
+    record {
+      ready = c.in_ok-inner_turn.ensures.ready h.ready;
+      turns =
+          subst (λ (o : Option Fault). DoesTurns f (I.AtEdge 0) c.args.self.now c.inner_turn.new.self o (λ s. map (λ y. turn y s) (map step_of (take (i + 1) items)))) (sym c.keep_least.ensures)
+          (subst (λ (steps : List Step). DoesTurns f (I.AtEdge 0) c.args.self.now c.inner_turn.new.self (sooner c.loop-hop.least c.inner_turn.new.self.fault) (λ s. map (λ y. turn y s) steps))
+          (sym (taken-more step_of items i none c.loop-hop-test.true))
+          (turns-step f (I.AtEdge 0) c.args.self.now c.loop-hop.self c.inner_turn.new.self c.loop-hop.least c.inner_turn.new.self.fault turn (map step_of (take i items)) (step_of hop) h.turns c.in_ok-inner_turn.ensures));
+    }
 
 pub inner_turns-returns : goal.inner_turns-returns
 inner_turns-returns t c =
     let a = c.args.around.now in
     let f = a.setting.now in
-    let r = c.range-range.result in
+    let old = c.args.self.now in
+    let last = c.loop-hop.self in
     let turn : Step → Store → Iteration = λ step s. inner_turn (loop_of a) c.args.key (expr_of c.args.filter.now) (stmt_of c.args.body.now) c.args.head.now.iterator step s in
-    let h = c.loop-k.invariant in
-    let k = c.loop-k.k in
-    let ge : length (all_steps r) ≤ k = subst (λ (n : ℕ). n ≤ k) c.count-k-end.ensures.count c.loop-k-test.false in
-    let done : h.turns.0 ≡ steps_at r 0 = sym (append-nil h.turns.0) ∙ ap (λ (l : List Step). h.turns.0 ++ l) (sym (no-steps-left r k ge)) ∙ h.turns.1 in
-    let all : steps_at r 0 ≡ steps_in (view_in (loop_of a) I.Outermost (begun (seen f c.args.self.now)) c.args.key) c.args.head.now =
-    c.range-range.ensures.steps
-    ∙ ap (λ (s : Sight). steps_in (view_of s no_scope c.args.self.now.store) c.args.head.now) c.sight-sight.ensures
-    ∙ ap (λ (w : View). steps_in w c.args.head.now) (view-same a I.Outermost c.args.key c.args.self.now.store (begun (seen f c.args.self.now)) refl) in
-    turns-at f (I.AtEdge 0) c.args.self.now c.loop-k.self c.loop-k.least (λ s. map (λ step. turn step s) h.turns.0)
+    let items : List Hop = c.deref-hop-items.result.now in
+    let all : map step_of (take c.loop-hop.hop-index items) ≡ steps_in (view_in (loop_of a) I.Outermost (begun (seen f old)) c.args.key) c.args.head.now =
+    ap (map step_of) (take_all c.loop-hop.hop-index items c.loop-hop-test.false ∙ c.deref-hop-items.ensures.value) ∙ c.in_ok-hops.ensures.steps in
+    turns-kept f (I.AtEdge 0) old last _ c.loop-hop.least
     (λ s. map (λ step. turn step s) (steps_in (view_in (loop_of a) I.Outermost (begun s) c.args.key) c.args.head.now))
-    (ap (λ (l : List Step). map (λ step. turn step (seen f c.args.self.now)) l) (done ∙ all)) h.turns.2
+    (record { store = refl; inner = refl; outermost = refl; deferred = refl; fault = refl })
+    (turns-at f (I.AtEdge 0) old last c.loop-hop.least (λ s. map (λ step. turn step s) (map step_of (take c.loop-hop.hop-index items)))
+    (λ s. map (λ step. turn step s) (steps_in (view_in (loop_of a) I.Outermost (begun s) c.args.key) c.args.head.now))
+    (ap (λ (l : List Step). map (λ step. turn step (seen f old)) l) all) c.loop-hop.invariant.turns)

@@ -1,5 +1,4 @@
-use Rattle.std.proofs.Common.{◌≡◌, ◌≤◌, ◌++◌, List, drop, map}
-use Rattle.gm_graph.specs.Graphs.{Step}
+use Rattle.std.proofs.Common.{◌≤◌, drop, map, take}
 use Rattle.gm_ast.specs.Program.{sequence}
 use Rattle.gm_ast.specs.Tree.{expr_of, stmt_of}
 use Rattle.gm_source.specs.Iterations.{AtEdge, does}
@@ -7,7 +6,7 @@ use Rattle.gm_loops.specs.declared.goings.Going.{Going}
 use Rattle.gm_loops.specs.Around.{loop_of, mode_of}
 use Rattle.gm_loops.specs.Bounds.{bound_of}
 use Rattle.gm_loops.specs.Goings.{Does, IsReady}
-use Rattle.gm_loops.specs.Ranges.{steps_at}
+use Rattle.gm_loops.specs.Ranges.{step_of}
 use Rattle.gm_loops.specs.Turns.{DoesTurns, inner_turn}
 use Rattle.gm_loops.proofs.goings.Going.+doing.Given as goal
 
@@ -20,11 +19,10 @@ invariant-does_all-loop-stmt l = record {
       → Does l.around.setting.now (mode_of l.mode) l.fn.self new (does (sequence (map stmt_of l.stmts.items)) (mode_of l.mode) (loop_of l.around));
 }
 
--- the steps that are done and those that are left are all
-abbrev pub invariant-inner_turns-loop-k : goal.invariant-inner_turns-loop-k
-invariant-inner_turns-loop-k l = record {
+-- the iterations at the steps so far are done
+abbrev pub invariant-inner_turns-loop-hop : goal.invariant-inner_turns-loop-hop
+invariant-inner_turns-loop-hop l = record {
   ready : IsReady l.around.setting.now l.self;
-  turns : (done : List Step) × (done ++ steps_at l.range l.k ≡ steps_at l.range 0)
-      × DoesTurns l.around.setting.now (AtEdge 0) l.fn.self l.self l.least
-      (λ s. map (λ step. inner_turn (loop_of l.around) l.key (expr_of l.filter) (stmt_of l.body) l.head.iterator step s) done);
+  turns : DoesTurns l.around.setting.now (AtEdge 0) l.fn.self l.self l.least
+      (λ s. map (λ step. inner_turn (loop_of l.around) l.key (expr_of l.filter) (stmt_of l.body) l.head.iterator step s) (map step_of (take l.hop-index l.hop-items)));
 }
