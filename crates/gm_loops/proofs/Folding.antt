@@ -1,5 +1,5 @@
 -- Reductions over all nodes, by the column of their elements.
-use Rattle.std.proofs.Common.{◌≡◌, ◌∙◌, ◌<◌, ◌≤◌, ◌+◌, ℕ, zero, suc, Bool, true, false, not, pos, List, [], ◌∷◌, ◌++◌, length, map, drop, get_or, Option, None, Result, Ok, refl, ap, sym, subst, arith}
+use Rattle.std.proofs.Common.{◌≡◌, ◌∙◌, ◌<◌, ◌≤◌, ◌+◌, ℕ, suc, Bool, true, false, not, pos, List, [], ◌∷◌, length, map, drop, get_or, Result, Ok, refl, ap, sym, subst, arith}
 use Rattle.std.proofs.lemmas.List.{drop_all}
 use Rattle.std.specs.Int.{int_max, int_min}
 use Rattle.std.specs.List.{list_any}
@@ -11,8 +11,7 @@ use Rattle.gm_value.specs.Numbers.{number_of}
 use Rattle.gm_value.specs.Reductions.{total}
 use Rattle.gm_value.specs.declared.totals.Total.TheVariants.{Small}
 use Rattle.gm_value.specs.Totals.{AreNear, IsTotal}
-use Rattle.gm_value.specs.Operations.{is_true}
-use Rattle.gm_graph.specs.Graphs.{Step, node_count}
+use Rattle.gm_graph.specs.Graphs.{Step}
 use Rattle.gm_ast.specs.declared.surface.ReductionWord.{ReductionWord}
 use Rattle.gm_ast.specs.declared.surface.ReductionWord.TheVariants.{All, Exist}
 use Rattle.gm_ast.specs.declared.tree.Domain.TheVariants.{Nodes}
@@ -21,7 +20,7 @@ use Rattle.gm_ast.specs.declared.tree.Fold.{Fold}
 use Rattle.gm_ast.specs.declared.tree.Head.{Head}
 use Rattle.gm_ast.specs.Program.{Expr, Folded}
 use Rattle.gm_source.specs.declared.faults.Fault.{Fault}
-use Rattle.gm_source.specs.Expressions.{Answer, Evaluated, View, closed, early, element, entered, evaluated, members_of, plain, reduction, settled, steps_of}
+use Rattle.gm_source.specs.Expressions.{Evaluated, View, closed, early, element, entered, evaluated, members_of, plain, reduction, settled, steps_of}
 use Rattle.gm_source.specs.Faults.{errs, joined, least, oks, unless_fault}
 use Rattle.gm_source.specs.Levels.{node_in, nodes, numbers_from}
 use Rattle.gm_store.specs.declared.cells.Cells.{Cells}

@@ -1,11 +1,10 @@
 -- Loops that give a property its values at all nodes at once.
-use Rattle.std.proofs.Common.{◌≡◌, ◌∙◌, ◌<◌, ◌≤◌, ◌+◌, ℕ, zero, suc, nat_eq, nat_lt, ◌&&◌, Bool, true, false, if◌then◌else◌, List, [], ◌∷◌, ◌++◌, length, map, get_or, Option, Some, None, Result, Ok, Err, refl, ap, sym, subst, arith}
+use Rattle.std.proofs.Common.{◌≡◌, ◌∙◌, ◌<◌, ◌≤◌, ◌+◌, ℕ, zero, suc, nat_eq, nat_lt, ◌&&◌, Bool, true, false, if◌then◌else◌, List, [], ◌∷◌, ◌++◌, length, map, get_or, Option, Some, None, Result, Ok, refl, ap, sym, subst, arith}
 use Rattle.std.proofs.Math.Path.{fun_ext}
 use Rattle.std.proofs.lemmas.Bool.{eq-eqb, eqb-true, eqb-false, ltb-true, ltb-false}
 use Rattle.std.proofs.lemmas.List.{get_or_past}
 use Rattle.gm_value.specs.declared.values.Value.{Value}
 use Rattle.gm_value.specs.declared.values.Value.TheVariants.{At}
-use Rattle.gm_value.specs.Operations.{is_true}
 use Rattle.gm_graph.specs.Graphs.{node_count}
 use Rattle.gm_ast.specs.declared.tree.Key.{Key}
 use Rattle.gm_ast.specs.declared.tree.Target.TheVariants as T
@@ -22,7 +21,7 @@ use Rattle.gm_source.specs.Levels.{numbers_from}
 use Rattle.gm_source.specs.Loops.{iteration, left_at, loop_done, own_left, parallel}
 use Rattle.gm_source.specs.Stores.{Store, overlaid, write}
 use Rattle.gm_store.specs.Cells.{values_of}
-use Rattle.gm_store.specs.Held.{Shape, replaced, shape_of}
+use Rattle.gm_store.specs.Held.{replaced, shape_of}
 use Rattle.gm_totals.specs.declared.totals.Totals.{Totals}
 use Rattle.gm_totals.specs.Standing.{StandsFor}
 use Rattle.gm_loops.specs.declared.goings.Going.{Going}

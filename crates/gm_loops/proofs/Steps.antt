@@ -1,12 +1,11 @@
 -- The nodes by their numbers, and steps one by one.
-use Rattle.std.proofs.Common.{◌≡◌, ◌∙◌, ◌<◌, ◌≤◌, ◌+◌, ℕ, zero, suc, true, false, List, [], ◌∷◌, length, map, drop, slice_get, Some, Option, refl, ap, sym, arith}
+use Rattle.std.proofs.Common.{◌≡◌, ◌∙◌, ◌<◌, ◌+◌, ℕ, zero, suc, true, false, List, [], ◌∷◌, length, map, drop, slice_get, Some, Option, refl, ap, sym, arith}
 use Rattle.std.proofs.lemmas.List.{length-map}
 use Rattle.gm_graph.specs.Graphs.{NumberedGraph, Step, nodes_of, edges_of, node_count}
 use Rattle.gm_source.specs.Levels.{numbers_from, nodes, node_steps}
 use Rattle.gm_loops.specs.declared.ranges.Course.{Course}
-use Rattle.gm_loops.specs.declared.ranges.Range.{Range}
 use Rattle.gm_loops.specs.declared.ranges.Course.TheVariants.{Any, Above, Below}
-use Rattle.gm_loops.specs.Ranges.{all_steps, levels_by, steps_at, takes, taken_by}
+use Rattle.gm_loops.specs.Ranges.{takes, taken_by}
 
 pub length-numbers : (k n : ℕ) → length (numbers_from k n) ≡ n
 length-numbers k zero = refl
@@ -55,17 +54,3 @@ pub left-step : (levels : ℕ → Option ℕ) (c : Course) (s : Step) (steps : L
 left-step levels Any s steps e = cc
 left-step levels (Above level) s steps e = rw e refl
 left-step levels (Below level) s steps e = rw e refl
-
--- past the last edge no step is left
-pub no-steps-left : (r : Range) (k : ℕ) → length (all_steps r) ≤ k → steps_at r k ≡ []
-no-steps-left r k h = ap (taken_by (levels_by r) r.course) (drop-past (all_steps r) k h) ∙ none r.course where
-  drop-past : {A : Type 0} (xs : List A) (i : ℕ) → length xs ≤ i → drop i xs ≡ []
-  drop-past [] zero h = refl
-  drop-past [] (suc i) h = refl
-  drop-past (x ∷ xs) zero h = absurd (omega arith)
-  drop-past (x ∷ xs) (suc i) h = drop-past xs i (omega arith)
-
-  none : (c : Course) → taken_by (levels_by r) c [] ≡ []
-  none Any = refl
-  none (Above level) = refl
-  none (Below level) = refl

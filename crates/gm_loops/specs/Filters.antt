@@ -1,5 +1,5 @@
 -- The column of a loop's filter.
-use Rattle.std.specs.Prelude.{◌≡◌, ℕ, false, Option, IfSome, Ok}
+use Rattle.std.specs.Prelude.{◌≡◌, false, Option, IfSome, Ok}
 use Rattle.gm_value.specs.declared.values.Value.{Value}
 use Rattle.gm_value.specs.Operations.{is_true}
 use Rattle.gm_ast.specs.declared.tree.Key.{Key}

@@ -1,5 +1,5 @@
 -- All pots closed one after another.
-use Rattle.std.proofs.Common.{◌≡◌, ℕ, ◌+◌, ◌<◌, ◌≤◌, true, false, cond, List, [], ◌∷◌, ◌++◌, map, take, length, get_or, arith, refl, sym, ap, subst, ◌∙◌, Option, Some, None, ⊎_elim, inl, inr}
+use Rattle.std.proofs.Common.{◌≡◌, ℕ, ◌+◌, zero, suc, ◌<◌, ◌≤◌, Bool, true, false, cond, List, [], ◌∷◌, ◌++◌, map, take, length, get_or, arith, refl, sym, ap, subst, ◌∙◌, Option, Some, None, ⊎_elim, inl, inr}
 use Rattle.std.specs.Prelude.{◌⊎◌}
 use Rattle.std.specs.Map.{lookup, keys_of}
 use Rattle.std.proofs.lemmas.Bool.{cases_Bool}
@@ -39,7 +39,7 @@ lookup-in slot (p ∷ es) x e =
 
 -- the slots of all pots are those that have contributions
 pub has_all : (totals : Totals) (cs : List Contribution) → StandsFor totals cs → HasAll cs (keys_of totals.pots.items)
-has_all totals cs stands slot = by (pot_at totals slot) refl (stands.slots slot)
+has_all totals cs stands slot = by (pot_at totals slot) refl (stands slot).stands
   where
     by : (o : Option Pot) → pot_at totals slot ≡ o → SlotStands o (to_slot slot cs) → IsIn slot (keys_of totals.pots.items) ⊎ (to_slot slot cs ≡ [])
     by None e is = inr is
@@ -47,7 +47,7 @@ has_all totals cs stands slot = by (pot_at totals slot) refl (stands.slots slot)
 
 -- a pot that a look-up finds stands for its slot's contributions
 pub pot_stands : (totals : Totals) (cs : List Contribution) (slot : Slot) (pot : Pot) → pot_at totals slot ≡ Some pot → StandsFor totals cs → PotStands pot (to_slot slot cs)
-pot_stands totals cs slot pot is stands = subst (λ o. SlotStands o (to_slot slot cs)) is (stands.slots slot)
+pot_stands totals cs slot pot is stands = subst (λ o. SlotStands o (to_slot slot cs)) is (stands slot).stands
 
 -- one more fault among some
 least_some : (o : Option Fault) (os : List (Option Fault)) → least (somes (os ++ o ∷ [])) ≡ least_with o (least (somes os))
@@ -87,7 +87,7 @@ closed-more held edge cs ks slot pot old new are closes stands =
 
 -- totals have no pot where they stand for no contribution
 pub no_pots : (totals : Totals) (cs : List Contribution) → StandsFor totals cs → (length totals.pots.items ≡ 0 → cs ≡ []) × (cs ≡ [] → length totals.pots.items ≡ 0)
-no_pots totals cs stands = (λ none. nothing cs (subst (λ es. HasAll cs (keys_of es)) (no_items totals.pots.items none) (has_all totals cs stands)), λ none. by totals.pots.items none stands.slots)
+no_pots totals cs stands = (λ none. nothing cs (subst (λ es. HasAll cs (keys_of es)) (no_items totals.pots.items none) (has_all totals cs stands)), λ none. by totals.pots.items none (λ q. (stands q).stands))
   where
     no_items : {A : Type 0} (xs : List A) → length xs ≡ 0 → xs ≡ []
     no_items [] e = refl
@@ -108,6 +108,23 @@ no_pots totals cs stands = (λ none. nothing cs (subst (λ es. HasAll cs (keys_o
 pub pot-of : (totals : Totals) (i : ℕ) (p : Slot × Pot) → i < length totals.pots.items → IsPotOf totals (get_or totals.pots.items i p).0 i
 pot-of totals i p h = (omega (arith, h, length-keys totals.pots.items), λ d. get-key totals.pots.items i d p h)
 
+-- what is found among entries is found behind one more
+found-behind : {X : Type 0} (q : Slot) (e : Slot × X) (es : List (Slot × X)) → (x : X) × (lookup (slot_eq q) es ≡ Some x) → (x : X) × (lookup (slot_eq q) (e ∷ es) ≡ Some x)
+found-behind {X} q e es rest = by (slot_eq q e.0) refl
+  where
+    by : (b : Bool) → slot_eq q e.0 ≡ b → (x : X) × (lookup (slot_eq q) (e ∷ es) ≡ Some x)
+    by true is = (e.1, ap (λ b. cond b (Some e.1) (lookup (slot_eq q) es)) is)
+    by false is = (rest.0, ap (λ b. cond b (Some e.1) (lookup (slot_eq q) es)) is ∙ rest.1)
+
+-- the slot of a pot has one
+pub has-pot : {X : Type 0} (es : List (Slot × X)) (i : ℕ) (p : Slot × X) → i < length es → (x : X) × (lookup (slot_eq (get_or es i p).0) es ≡ Some x)
+has-pot [] i p h = absurd (empty (omega (arith, h)))
+  where
+    empty : ⊥ → ⊥
+    empty e = e
+has-pot (e ∷ es) zero p h = (e.1, ap (λ b. cond b (Some e.1) (lookup (slot_eq e.0) es)) (slot_eq-itself e.0))
+has-pot (e ∷ es) (suc i) p h = let less : i < length es = omega (arith, h) in found-behind (get_or es i p).0 e es (has-pot es i p less)
+
 -- the next slot of totals is closed
 pub slots-next : (held : Held) (totals : Totals) (i : ℕ) (p : Slot × Pot) (old new : Closed) → i < length totals.pots.items → AreFirst held totals i old
     → ClosesSlot held (get_or totals.pots.items i p).0 (get_or totals.pots.items i p).1 old new
@@ -118,7 +135,7 @@ slots-next held totals i p old new h are closes within =
     let longer : take (i + 1) (slots_of totals) ≡ take i (slots_of totals) ++ slot ∷ [] = take_more (slots_of totals) i slot at.0 ∙ ap (λ k. take i (slots_of totals) ++ k ∷ []) (at.1 slot) in
     record {
       slots = λ edge cs stands.
-          let found : pot_at totals slot ≡ Some (get_or totals.pots.items i p).1 = lookup-first slot totals.pots.items i p (placed-first totals stands.placed slot i at) in
+          let found : pot_at totals slot ≡ Some (get_or totals.pots.items i p).1 = lookup-first slot totals.pots.items i p (placed-first totals (λ q. (stands q).placed) slot i at) in
           subst (λ ks. AreClosed (store_of edge held) cs ks new) (sym longer)
           (closed-more held edge cs (take i (slots_of totals)) slot (get_or totals.pots.items i p).1 old new (are.slots edge cs stands) closes
           (pot_stands totals cs slot (get_or totals.pots.items i p).1 found stands));

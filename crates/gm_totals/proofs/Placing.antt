@@ -13,9 +13,18 @@ use Rattle.gm_totals.specs.Standing.{pot_at, slots_of, ArePlaced, IsPotOf}
 use Rattle.gm_totals.proofs.Settling.{slot_eq-itself}
 use Rattle.gm_totals.proofs.Slots.{slot_eq-sym, IsFirstAt, keys-other, lookup-none}
 
+empty : ⊥ → ⊥
+empty h = h
+
+-- an index within a list needs no default
+same_default : {X : Type 0} (xs : List X) (k : ℕ) (e d : X) → k < length xs → get_or xs k e ≡ get_or xs k d
+same_default [] k e d h = absurd (empty (omega (arith, h)))
+same_default (x ∷ xs) zero e d h = refl
+same_default (x ∷ xs) (suc k) e d h = let less : k < length xs = omega (arith, h) in same_default xs k e d less
+
 -- a placed slot has its place
 place-of : (totals : Totals) → ArePlaced totals → (slot : Slot) (k : ℕ) (d : Slot) → k < length (slots_of totals) → slot ≡ get_or (slots_of totals) k d → place_at totals.places slot ≡ k
-place-of totals placed slot k d h is = ap (place_at totals.places) is ∙ placed k d h
+place-of totals placed slot k d h is = placed slot k (h, λ e. same_default (slots_of totals) k e d h ∙ sym is)
 
 -- the pot at a slot's place is the slot's first
 pub placed-first : (totals : Totals) → ArePlaced totals → (slot : Slot) (place : ℕ) → IsPotOf totals slot place → IsFirstAt slot totals.pots.items place
@@ -27,13 +36,10 @@ placed-first totals placed slot place is = record {
       (λ (same : slot_eq slot (get_or (slots_of totals) k d) ≡ true).
       let within : k < length (slots_of totals) = omega (arith, is.0, h) in
       let twice : k ≡ place = sym (place-of totals placed slot k d within (slot_eq-true slot _ same)) ∙ place-of totals placed slot place d is.0 (sym (is.1 d)) in
-      absurd (none (omega (arith, h, twice))))
+      absurd (empty (omega (arith, h, twice))))
       (λ (other : slot_eq slot (get_or (slots_of totals) k d) ≡ false). other)
       (cases_Bool (slot_eq slot (get_or (slots_of totals) k d)));
 }
-  where
-    none : ⊥ → ⊥
-    none h = h
 
 -- a slot has no pot where its place has none of it
 pub unplaced-none : (totals : Totals) → ArePlaced totals → (slot : Slot)
@@ -69,31 +75,27 @@ length-keys [] = refl
 length-keys (e ∷ es) = ap suc (length-keys es)
 
 pub get-key : {X : Type 0} (es : List (Slot × X)) (k : ℕ) (d : Slot) (e : Slot × X) → k < length es → get_or (keys_of es) k d ≡ (get_or es k e).0
-get-key [] k d e h = absurd (none (omega (arith, h)))
-  where
-    none : ⊥ → ⊥
-    none h = h
+get-key [] k d e h = absurd (empty (omega (arith, h)))
 get-key (x ∷ es) zero d e h = refl
 get-key (x ∷ es) (suc k) d e h = let less : k < length es = omega (arith, h) in get-key es k d e less
 
 -- the pots stand at their places after one was put behind them
 pub placed-more : (old new : Totals) (slot : Slot) (pot : Pot) → pot_at old slot ≡ None → HasOneMore old.places new.places slot (length old.pots.items)
     → new.pots.items ≡ old.pots.items ++ (slot, pot) ∷ [] → ArePlaced old → ArePlaced new
-placed-more old new slot pot none more items placed k d h =
+placed-more old new slot pot none more items placed q k at =
     let keys : slots_of new ≡ slots_of old ++ slot ∷ [] = ap keys_of items ∙ keys-more old.pots.items (slot, pot) in
-    let within : k < suc (length (slots_of old)) = subst (λ n. k < n) (ap length keys ∙ length-more (slots_of old) slot) h in
-    ap (λ l. place_at new.places (get_or l k d)) keys
-    ∙ ⊎_elim
+    let within : k < suc (length (slots_of old)) = subst (λ n. k < n) (ap length keys ∙ length-more (slots_of old) slot) at.0 in
+    let here : (d : Slot) → get_or (slots_of old ++ slot ∷ []) k d ≡ q = λ d. ap (λ l. get_or l k d) (sym keys) ∙ at.1 d in
+    ⊎_elim
     (λ (before : k < length (slots_of old)).
-    let here : get_or (slots_of old ++ slot ∷ []) k d ≡ get_or (slots_of old) k d = get_or_append_left (slots_of old) (slot ∷ []) d k before in
-    let other : slot_eq (get_or (slots_of old) k d) slot ≡ false = slot_eq-sym (get_or (slots_of old) k d) slot ∙ keys-other slot old.pots.items none k d before in
-    ap (place_at new.places) here ∙ more (get_or (slots_of old) k d)
-    ∙ ap (λ b. cond b (length old.pots.items) (place_at old.places (get_or (slots_of old) k d))) other ∙ placed k d before)
+    let was : (d : Slot) → get_or (slots_of old) k d ≡ q = λ d. sym (get_or_append_left (slots_of old) (slot ∷ []) d k before) ∙ here d in
+    let other : slot_eq q slot ≡ false = slot_eq-sym q slot ∙ ap (slot_eq slot) (sym (was slot)) ∙ keys-other slot old.pots.items none k slot before in
+    more q ∙ ap (λ b. cond b (length old.pots.items) (place_at old.places q)) other ∙ placed q k (before, was))
     (λ (last : length (slots_of old) ≤ k).
-    let at : k ≡ length (slots_of old) = omega (arith, within, last) in
-    ap (place_at new.places) (ap (λ n. get_or (slots_of old ++ slot ∷ []) n d) at ∙ get-last (slots_of old) slot d)
-    ∙ more slot ∙ ap (λ b. cond b (length old.pots.items) (place_at old.places slot)) (slot_eq-itself slot)
-    ∙ sym (length-keys old.pots.items) ∙ sym at)
+    let end : k ≡ length (slots_of old) = omega (arith, within, last) in
+    let same : slot ≡ q = sym (get-last (slots_of old) slot slot) ∙ ap (λ n. get_or (slots_of old ++ slot ∷ []) n slot) (sym end) ∙ here slot in
+    more q ∙ ap (λ b. cond b (length old.pots.items) (place_at old.places q)) (ap (λ s. slot_eq s slot) (sym same) ∙ slot_eq-itself slot)
+    ∙ sym (length-keys old.pots.items) ∙ sym end)
     (cases_lt k (length (slots_of old)))
 
 -- the slots of pots of which one is changed

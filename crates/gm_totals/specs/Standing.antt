@@ -23,22 +23,26 @@ pot_at totals slot = lookup (slot_eq slot) totals.pots.items
 abbrev pub slots_of : Totals → List Slot
 slots_of totals = keys_of totals.pots.items
 
--- each pot stands where the place of its slot says
-abbrev pub ArePlaced : Totals → Type 0
-ArePlaced totals = (k : ℕ) (d : Slot) → k < length (slots_of totals) → place_at totals.places (slice_index_or (slots_of totals) k d) ≡ k
-
 -- the pot at a place is that of a slot
 abbrev pub IsPotOf : Totals → Slot → ℕ → Type 0
 IsPotOf totals slot place = (place < length (slots_of totals)) × ((d : Slot) → slice_index_or (slots_of totals) place d ≡ slot)
 
--- totals stand for contributions, in the order in which they were given: for each slot its pot does, and each pot is found by its place
-pub record StandsFor (totals : Totals) (cs : List Contribution) : Type 0 where
-  pub slots : (slot : Slot) → SlotStands (pot_at totals slot) (to_slot slot cs)
-  pub placed : ArePlaced totals
+-- a slot's pot stands for the contributions to the slot, and nowhere but where the slot's place says
+pub record IsKept (totals : Totals) (slot : Slot) (cs : List Contribution) : Type 0 where
+  pub stands : SlotStands (pot_at totals slot) (to_slot slot cs)
+  pub placed : (k : ℕ) → IsPotOf totals slot k → place_at totals.places slot ≡ k
+
+-- totals stand for contributions, in the order in which they were given: each slot's pot is kept for those to the slot
+abbrev pub StandsFor : Totals → List Contribution → Type 0
+StandsFor totals cs = (slot : Slot) → IsKept totals slot cs
+
+-- each slot's pot is where the slot's place says
+abbrev pub ArePlaced : Totals → Type 0
+ArePlaced totals = (slot : Slot) (k : ℕ) → IsPotOf totals slot k → place_at totals.places slot ≡ k
 
 -- the slots of totals are those of a store of a shape
 abbrev pub Within : Shape → Totals → Type 0
-Within shape totals = All (HasSlot shape) (slots_of totals)
+Within shape totals = (slot : Slot) (pot : Pot) → pot_at totals slot ≡ Some pot → HasSlot shape slot
 
 -- the lesser of what may be faults
 abbrev pub least_with : Option Fault → Option Fault → Option Fault

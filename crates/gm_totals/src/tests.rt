@@ -1,7 +1,8 @@
 //! Totals of contributions made by hand, closed over a small store.
 
-ghost use Rattle.std.specs.Prelude.{IsTrue};
+ghost use Rattle.std.specs.Prelude.{IsTrue, OnOk};
 ghost use Rattle.gm_store.specs.Held.{HasSlot};
+ghost use Rattle.gm_totals.specs.Standing.{Within};
 
 use crate::{Closed, Totals};
 use gm_ast::tree::{Key, Stage, TotalKey};
@@ -62,18 +63,33 @@ fn is_held(slot: Slot) -> bool
     }
 }
 
-// Contributions closed over a store of three nodes.
-fn settled(alloc: Global, given: &[Contribution]) -> Result<Closed, NoMemory> {
-    let mut store = Store::new(alloc, 3);
-    store.add_scalar(TEN)?;
-    store.add_row(Value::At(None))?;
-    let mut totals = Totals::new(alloc);
+// Contributions to slots of the store of the tests, given one after another.
+fn give_all(totals: &mut Totals, given: &[Contribution]) -> Result<(), NoMemory>
+    requires { Within (record { scalars = 1; rows = 1; nodes = 3 }) totals.old }
+    ensures { OnOk result (Within (record { scalars = 1; rows = 1; nodes = 3 }) totals.new) }
+{
     for contribution in given {
         if !is_held(contribution.slot) {
             return Err(NoMemory);
         }
         totals.give(*contribution)?;
     }
+    Ok(())
+}
+
+// Contributions closed over the store of the tests, by totals of which others were emptied before.
+fn settled(
+    alloc: Global,
+    emptied: &[Contribution],
+    given: &[Contribution],
+) -> Result<Closed, NoMemory> {
+    let mut store = Store::new(alloc, 3);
+    store.add_scalar(TEN)?;
+    store.add_row(Value::At(None))?;
+    let mut totals = Totals::new(alloc);
+    give_all(&mut totals, emptied)?;
+    totals.clear();
+    give_all(&mut totals, given)?;
     totals.closed(alloc, &store)
 }
 
@@ -82,7 +98,7 @@ fn scalar_after(
     alloc: Global,
     given: &[Contribution],
 ) -> Result<(Option<Value>, Option<u32>), NoMemory> {
-    let closed = settled(alloc, given)?;
+    let closed = settled(alloc, &[], given)?;
     let value = match closed.writes.as_slice() {
         [
             Write {
@@ -233,7 +249,7 @@ fn slots_settle_apart(rt: HostRuntime) -> Result<(), Fail> {
         gift(2, Reduce::Max, parent(2), Value::At(None)),
         added(2, INT_MAX),
     ];
-    let closed = settled(rt.alloc(), &given)?;
+    let closed = settled(rt.alloc(), &[], &given)?;
     let want = [
         Write {
             slot: parent(2),
@@ -257,21 +273,17 @@ fn slots_settle_apart(rt: HostRuntime) -> Result<(), Fail> {
 // Totals that were emptied hold nothing of what was given before, also at the slots that had contributions.
 #[test]
 fn totals_are_emptied(rt: HostRuntime) -> Result<(), Fail> {
-    let mut store = Store::new(rt.alloc(), 3);
-    store.add_scalar(TEN)?;
-    store.add_row(Value::At(None))?;
-    let mut totals = Totals::new(rt.alloc());
-    assert!(rt; totals.is_empty());
-    totals.give(added(1, TEN))?;
-    totals.give(gift(1, Reduce::Max, parent(2), Value::At(Some(2))))?;
-    totals.give(gift(1, Reduce::Max, parent(1), Value::At(Some(2))))?;
-    assert!(rt; !totals.is_empty());
-    totals.clear();
-    assert!(rt; totals.is_empty());
+    let last = Value::At(Some(2));
+    let emptied = [
+        added(1, TEN),
+        gift(1, Reduce::Max, parent(2), last),
+        gift(1, Reduce::Max, parent(1), last),
+    ];
     let one = Value::At(Some(1));
-    totals.give(gift(2, Reduce::Max, parent(1), one))?;
-    totals.give(gift(2, Reduce::Max, parent(2), Value::At(None)))?;
-    let closed = totals.closed(rt.alloc(), &store)?;
+    let given = [
+        gift(2, Reduce::Max, parent(1), one),
+        gift(2, Reduce::Max, parent(2), Value::At(None)),
+    ];
     let want = [
         Write {
             slot: parent(1),
@@ -282,6 +294,18 @@ fn totals_are_emptied(rt: HostRuntime) -> Result<(), Fail> {
             value: Value::At(None),
         },
     ];
+    let closed = settled(rt.alloc(), &emptied, &given)?;
     assert!(rt; closed.writes.as_slice() == want.as_slice());
+    Ok(())
+}
+
+#[test]
+fn totals_are_empty_until_something_is_given(rt: HostRuntime) -> Result<(), Fail> {
+    let mut totals = Totals::new(rt.alloc());
+    assert!(rt; totals.is_empty());
+    totals.give(added(1, TEN))?;
+    assert!(rt; !totals.is_empty());
+    totals.clear();
+    assert!(rt; totals.is_empty());
     Ok(())
 }

@@ -1,11 +1,11 @@
-use Rattle.std.proofs.Common.{◌≡◌, ◌∙◌, ◌≤◌, ◌+◌, ◌<◌, ℕ, Bool, List, [], ◌∷◌, ◌++◌, drop, get_or, length, map, None, Option, take, refl, ap, sym, subst}
+use Rattle.std.proofs.Common.{◌≡◌, ◌∙◌, ◌≤◌, ◌+◌, ◌<◌, ℕ, Bool, List, [], ◌∷◌, drop, get_or, length, map, None, Option, take, refl, ap, sym, subst}
 use Rattle.std.proofs.lemmas.List.{take_all}
 use Rattle.gm_graph.specs.Graphs.{Step}
 use Rattle.gm_ast.specs.declared.tree.Stmt as S
 use Rattle.gm_ast.specs.Program as P
 use Rattle.gm_ast.specs.Tree.{expr_of, stmt_of}
 use Rattle.gm_source.specs.declared.faults.Fault.{Fault}
-use Rattle.gm_source.specs.Expressions.{View, steps_in, value}
+use Rattle.gm_source.specs.Expressions.{steps_in, value}
 use Rattle.gm_source.specs.Iterations as I
 use Rattle.gm_source.specs.Iterations.{Iteration, does, failed, begun, inner_done, turn_at, view_in}
 use Rattle.gm_source.specs.Stores.{Store}
@@ -16,14 +16,14 @@ use Rattle.gm_loops.specs.declared.ranges.Hop.{Hop}
 use Rattle.gm_loops.specs.declared.sights.Sight.{Sight}
 use Rattle.gm_loops.specs.Around.{loop_of, mode_of}
 use Rattle.gm_loops.specs.Bounds.{bound_of}
-use Rattle.gm_loops.specs.Goings.{Does, IsReady}
+use Rattle.gm_loops.specs.Goings.{Does}
 use Rattle.gm_loops.specs.Parts.{sooner}
 use Rattle.gm_loops.specs.Ranges.{step_of}
 use Rattle.gm_loops.specs.Scopes.{no_scope}
 use Rattle.gm_loops.specs.Sights.{view_of}
 use Rattle.gm_loops.specs.Turns.{Begins, DoesTurn, DoesTurns, Keeps, inner_turn, seen}
 use Rattle.gm_loops.proofs.Closing.{inner-done}
-use Rattle.gm_loops.proofs.Effects.{does-as, view-same}
+use Rattle.gm_loops.proofs.Effects.{does-as}
 use Rattle.gm_loops.proofs.Statements.{below-right, drop-end, drop-next, if-fault, if-no, if-yes}
 use Rattle.gm_loops.proofs.Trees.{stmt_of-Foreach, stmt_of-If}
 use Rattle.gm_loops.proofs.Turning.{has-fault, no-fault, ready-same, turns-at, turns-kept, turns-step, does-none, does-stop, does-then, turn-passed, turn-skipped, turns-anywhere, taken-more, turns-none, turns-once}

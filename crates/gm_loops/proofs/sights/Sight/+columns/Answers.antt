@@ -1,4 +1,4 @@
-use Rattle.std.proofs.Common.{◌≡◌, ℕ, rules}
+use Rattle.std.proofs.Common.{ℕ, rules}
 use Rattle.gm_ast.specs.Tree.{expr_of}
 use Rattle.gm_source.specs.Expressions.{View}
 use Rattle.gm_store.specs.Cells.{values_of}

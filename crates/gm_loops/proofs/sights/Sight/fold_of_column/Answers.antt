@@ -1,6 +1,5 @@
-use Rattle.std.proofs.Common.{◌≡◌, ◌∙◌, ◌≤◌, true, List, length, map, refl, ap, sym, subst, arith}
+use Rattle.std.proofs.Common.{◌≡◌, ◌∙◌, true, length, map, refl, ap, sym, subst, arith}
 use Rattle.std.proofs.lemmas.Option.{IfSome_then}
-use Rattle.gm_value.specs.declared.values.Value.{Value}
 use Rattle.gm_value.specs.Totals.{IsTotal}
 use Rattle.gm_ast.specs.Tree.{expr_of}
 use Rattle.gm_source.specs.Expressions.{View, closed, members_of, reduce_of}

@@ -4,7 +4,7 @@ use Rattle.gm_source.specs.declared.slots.Slot.{Slot}
 use Rattle.gm_store.specs.Held.{HasSlot, shape_of}
 use Rattle.gm_totals.specs.declared.pots.Pot.{Pot}
 use Rattle.gm_totals.specs.Standing.{ClosesSlot}
-use Rattle.gm_totals.proofs.Closing.{pot-of, slots-next, all-settled}
+use Rattle.gm_totals.proofs.Closing.{has-pot, slots-next, all-settled}
 use Rattle.gm_totals.proofs.totals.Totals.closed.Goals as goal
 
 pub close_slot-requires : goal.close_slot-requires
@@ -14,9 +14,8 @@ close_slot-requires c =
     let pair = c.loop-slot-item.result in
     let h : i < length totals.pots.items = subst (λ (l : List (Slot × Pot)). i < length l) c.deref-slot-items.ensures.value c.loop-slot-test.true in
     let is : pair ≡ get_or totals.pots.items i pair = c.loop-slot-item.is ∙ ap (λ (l : List (Slot × Pot)). get_or l i pair) c.deref-slot-items.ensures.value in
-    let at = pot-of totals i pair h in
-    subst (λ (p : Slot × Pot). HasSlot (shape_of c.args.store.now) p.0) (sym is)
-    (subst (HasSlot (shape_of c.args.store.now)) (at.1 pair.0) (c.requires i pair.0 at.0))
+    let found = has-pot totals.pots.items i pair h in
+    subst (λ (p : Slot × Pot). HasSlot (shape_of c.args.store.now) p.0) (sym is) (c.requires (get_or totals.pots.items i pair).0 found.0 found.1)
 
 pub loop-slot-preserved : goal.loop-slot-preserved
 loop-slot-preserved c =

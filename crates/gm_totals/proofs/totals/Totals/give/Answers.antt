@@ -1,13 +1,12 @@
 -- Totals with one more contribution.
 use Rattle.std.proofs.Common.{◌≡◌, ◌∙◌, ◌<◌, Some, length, sym, ap, subst, refl, arith}
-use Rattle.std.specs.Prelude.{All}
 use Rattle.gm_source.specs.declared.slots.Slot.{Slot}
 use Rattle.gm_store.specs.Held.{HasSlot}
 use Rattle.gm_totals.specs.declared.pots.Pot.{Pot}
 use Rattle.gm_totals.specs.declared.totals.Totals.{Totals}
 use Rattle.gm_totals.specs.Pots.{PotGains}
 use Rattle.gm_totals.specs.Standing.{IsPotOf}
-use Rattle.gm_totals.proofs.Giving.{same-slots, stands-changed}
+use Rattle.gm_totals.proofs.Giving.{within-changed, stands-changed}
 use Rattle.gm_totals.proofs.Placing.{get-key, length-keys}
 use Rattle.gm_totals.proofs.totals.Totals.give.Goals as goal
 
@@ -34,7 +33,7 @@ returns-in_ok-give-in-Some-clause-within c =
     let within : place < length old.pots.items = omega (arith, at.0, length-keys old.pots.items) in
     let key : pair.0 ≡ c.args.contribution.slot = ap (λ (p : Slot × Pot). p.0) c.index_mut.ensures.value ∙ sym (get-key old.pots.items place c.args.contribution.slot pair within) ∙ at.1 c.args.contribution.slot in
     let new : Totals = record old { pots = Rattle.std.specs.Vec.with_item old.pots place changed } in
-    λ shape has all. subst (All (HasSlot shape)) (sym (same-slots old new place changed refl (subst (λ s. IsPotOf old s place) (sym key) at))) all
+    λ shape has all. within-changed old new place changed refl shape (subst (HasSlot shape) (sym key) has) all
 
 pub returns-in_ok-add-in-None-clause-stands : goal.returns-in_ok-add-in-None-clause-stands
-returns-in_ok-add-in-None-clause-stands c = λ cs stands. c.in_ok-add-in-None.ensures.stands cs stands (c.in-None.ensures.none refl stands.placed)
+returns-in_ok-add-in-None-clause-stands c = λ cs stands. c.in_ok-add-in-None.ensures.stands cs stands (c.in-None.ensures.none refl (λ q. (stands q).placed))

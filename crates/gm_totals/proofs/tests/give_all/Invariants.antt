@@ -1,5 +1,5 @@
 use Rattle.gm_totals.specs.Standing.{Within}
-use Rattle.gm_totals.proofs.tests.settled.Given as goal
+use Rattle.gm_totals.proofs.tests.give_all.Given as goal
 
 -- the totals so far are of slots of the store
 abbrev pub invariant-loop-contribution : goal.invariant-loop-contribution
