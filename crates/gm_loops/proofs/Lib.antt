@@ -12,3 +12,4 @@ pub mod Keeping
 pub mod Looping
 pub mod Everywhere
 pub mod Deeds
+pub mod Taking
