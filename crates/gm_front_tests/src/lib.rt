@@ -1,0 +1,2 @@
+//! Tests of the front end: tokens, the grammar, types, races, the ways of reductions.
+#![tactic(auto)]

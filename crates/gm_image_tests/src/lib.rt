@@ -1,0 +1,2 @@
+//! Tests of vertex programs: their texts, their rules, the machine that runs them.
+#![tactic(auto)]
