@@ -114,6 +114,3 @@ impl<W: Write> Sink for WriteSink<W> {
         }
     }
 }
-
-#[cfg(test)]
-mod tests;

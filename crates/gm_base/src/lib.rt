@@ -32,6 +32,3 @@ pub use streams::{Sink, Source};
 pub use wants::{Failed, NoMemory};
 pub use whole::{ReadStop, read_all, write_all};
 pub use whole_files::{FileStop, read_file};
-
-#[cfg(test)]
-mod tests;

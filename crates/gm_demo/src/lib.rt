@@ -8,8 +8,6 @@ mod graphs;
 mod laws;
 mod lines;
 mod programs;
-#[cfg(test)]
-mod tests;
 mod writing;
 
 pub use graphs::demo_graph;

@@ -11,8 +11,6 @@ mod programs;
 mod readings;
 mod replies;
 mod runs;
-#[cfg(test)]
-mod tests;
 mod watches;
 
 pub use flaws::Flaw;

@@ -18,6 +18,3 @@ pub use columns::{Column, Values};
 pub use graphs::Graph;
 pub use laws::graphs_are_determined;
 pub use outcomes::{Outcome, RunEnd};
-
-#[cfg(test)]
-mod tests;

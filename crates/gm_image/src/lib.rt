@@ -6,8 +6,6 @@ mod lines;
 mod rules;
 mod sorts;
 mod sound;
-#[cfg(test)]
-mod tests;
 
 pub use images::{Block, Handler, Image, InputItem, Kind, OutputItem};
 pub use lines::{Expr, MasterLine, VertexLine};

@@ -1,2 +1,15 @@
 //! Tests of vertex programs: their texts, their rules, the machine that runs them.
 #![tactic(auto)]
+
+#[cfg(test)]
+mod image_rules;
+#[cfg(test)]
+mod image_texts;
+#[cfg(test)]
+mod machine;
+#[cfg(test)]
+mod reader;
+#[cfg(test)]
+mod replies;
+#[cfg(test)]
+mod rule_names;

@@ -21,6 +21,3 @@ pub use faults::ImageFault;
 pub use laws::{each_text_is_of_one_image, sound_images_have_texts};
 pub use reads::read_image;
 pub use writes::write_image;
-
-#[cfg(test)]
-mod tests;

@@ -6,8 +6,6 @@ mod fronts;
 mod laws;
 mod lines;
 mod names;
-#[cfg(test)]
-mod tests;
 
 pub use answers::{
     Answer, GRAPH_LIMITS, absent, bad_argument, bad_graph, fixed_answer, read_fault,

@@ -8,6 +8,3 @@ mod searches;
 
 pub use laws::levels_are_least_walks;
 pub use levels::{Levels, levels_from};
-
-#[cfg(test)]
-mod tests;

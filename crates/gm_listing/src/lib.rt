@@ -9,6 +9,3 @@ mod tables;
 
 pub use listings::{listing, status_of};
 pub use outputs::{Ending, Outputs};
-
-#[cfg(test)]
-mod tests;

@@ -8,8 +8,6 @@ mod limits;
 mod loads;
 mod sets;
 mod tables;
-#[cfg(test)]
-mod tests;
 
 pub use faults::GraphFault;
 pub use laws::rows_are_worked;

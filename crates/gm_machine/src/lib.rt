@@ -19,8 +19,6 @@ mod settling;
 mod starts;
 mod steps;
 mod supersteps;
-#[cfg(test)]
-mod tests;
 
 pub use batches::Batch;
 pub use contributions::Contribution;

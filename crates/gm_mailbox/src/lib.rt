@@ -180,6 +180,3 @@ impl<T: Drop> Mailbox<T> {
         unreachable!()
     }
 }
-
-#[cfg(test)]
-mod tests;

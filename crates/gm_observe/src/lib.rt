@@ -12,6 +12,3 @@ pub use counter::Counter;
 pub use notes::Note;
 pub use observers::Observer;
 pub use table::Table;
-
-#[cfg(test)]
-mod tests;

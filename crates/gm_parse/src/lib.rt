@@ -16,6 +16,3 @@ pub use around::Around;
 pub use faults::Fault;
 pub use levels::Level;
 pub use procedures::parse;
-
-#[cfg(test)]
-mod tests;

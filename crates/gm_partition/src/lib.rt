@@ -42,6 +42,3 @@ fn block_size(workers: u32, nodes: u32) -> u32
 {
     nodes.div_ceil(workers)
 }
-
-#[cfg(test)]
-mod tests;

@@ -9,8 +9,6 @@ mod listing;
 mod meetings;
 mod statements;
 mod sums;
-#[cfg(test)]
-mod tests;
 mod uses;
 mod walks;
 

@@ -9,6 +9,3 @@ mod store;
 pub use cells::Cells;
 pub use laws::{logged_writes_are_reversible, rolling_back_restores};
 pub use store::Store;
-
-#[cfg(test)]
-mod tests;

@@ -5,8 +5,6 @@
 #[cfg(test)]
 mod calls;
 #[cfg(test)]
-mod canonical;
-#[cfg(test)]
 mod checks;
 #[cfg(test)]
 mod cuts;
@@ -14,8 +12,6 @@ mod cuts;
 mod example_programs;
 #[cfg(test)]
 mod example_texts;
-#[cfg(test)]
-mod examples;
 #[cfg(test)]
 mod faults;
 #[cfg(test)]
@@ -33,20 +29,12 @@ mod loops;
 #[cfg(test)]
 mod phases;
 #[cfg(test)]
-mod procedures;
-#[cfg(test)]
-mod races;
-#[cfg(test)]
 mod reductions;
 #[cfg(test)]
 mod searches;
 #[cfg(test)]
 mod totals;
 #[cfg(test)]
-mod types;
-#[cfg(test)]
 mod values;
-#[cfg(test)]
-mod verdicts;
 #[cfg(test)]
 mod words;

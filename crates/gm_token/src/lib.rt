@@ -9,8 +9,6 @@ mod parts;
 mod passes;
 mod scanned;
 mod scanner;
-#[cfg(test)]
-mod tests;
 mod words;
 
 pub use limits::{MAX_NUMBER, MAX_TEXT};

@@ -6,8 +6,6 @@ mod entries;
 mod faults;
 mod places;
 mod pots;
-#[cfg(test)]
-mod tests;
 mod totals;
 
 pub use faults::{lesser, total_fault};

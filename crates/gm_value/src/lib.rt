@@ -6,8 +6,6 @@ mod faults;
 mod laws;
 mod operations;
 mod reductions;
-#[cfg(test)]
-mod tests;
 mod totals;
 mod values;
 

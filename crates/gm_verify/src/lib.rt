@@ -15,8 +15,6 @@ mod ranges;
 mod scopes;
 mod sorts;
 mod stops;
-#[cfg(test)]
-mod tests;
 
 pub use counts::is_countable;
 pub use images::verify;

@@ -84,6 +84,3 @@ pub fn ways_in_loop(
         against: refusal_at(finder.against),
     })
 }
-
-#[cfg(test)]
-mod tests;

@@ -238,6 +238,3 @@ fn values_in_order(
     }
     Ok(values)
 }
-
-#[cfg(test)]
-mod tests;

@@ -11,6 +11,3 @@ mod verbs;
 
 pub use arguments::{ArgFault, Input, bind};
 pub use jobs::{Job, Options, WordsStop, read_words};
-
-#[cfg(test)]
-mod tests;

@@ -1,4 +1,4 @@
-use crate::*;
+use gm_base::*;
 use std::alloc::{AllocError, Global};
 use std::path::PathBuf;
 use std::test::Fail;

@@ -1,6 +1,6 @@
 //! The names of the rules, as they are printed.
 
-use crate::ImageRule;
+use gm_image::ImageRule;
 use std::test::Fail;
 
 #[test]

@@ -3,8 +3,8 @@
 ghost use Rattle.std.specs.Prelude.{◌<◌, [], IfOk};
 ghost use Rattle.gm_words.specs.Jobs.{AllAssign};
 
-use crate::exec;
 use gm_base::{Items, MemFiles, MemSource, NoMemory, Status, Text};
+use gm_exec::exec;
 use gm_input::Answer;
 use gm_observe::{Counter, Note, Observer, Table};
 use gm_words::{Job, read_words};

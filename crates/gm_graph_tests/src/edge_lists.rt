@@ -3,7 +3,7 @@
 ghost use Rattle.std.specs.Prelude.{◌≤◌, IfOk};
 ghost use Rattle.gm_loader.specs.GraphText.{HasColumns};
 
-use crate::{GraphFault, Limits, load, parse_graph};
+use gm_loader::{GraphFault, Limits, load, parse_graph};
 use gm_base::{Items, MemSource};
 use gm_graph::{Graph, Shape};
 use gm_value::{VType, Value};

@@ -2,7 +2,7 @@
 
 ghost use Rattle.std.specs.Prelude.{◌≡◌, ◌≤◌, IfOk, length};
 
-use crate::levels_from;
+use gm_levels::levels_from;
 use gm_base::{Items, NoMemory};
 use gm_graph::{Graph, RawGraph, Shape, build};
 use std::alloc::Global;

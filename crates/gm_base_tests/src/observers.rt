@@ -1,8 +1,8 @@
 ghost use Rattle.std.specs.Prelude.{◌≡◌, ◌∷◌, [], OnOk, map};
 ghost use Rattle.gm_observe.specs.Audience.{told_to_all};
 
-use super::*;
 use gm_base::NoMemory;
+use gm_observe::*;
 use std::cell::Cell;
 use std::rc::Rc;
 use std::test::Fail;

@@ -1,5 +1,5 @@
 //! Words as a command line gives them.
-use crate::{Job, Options, WordsStop, read_words};
+use gm_words::{Job, Options, WordsStop, read_words};
 use gm_base::{Items, Text};
 use gm_partition::Owner;
 use std::alloc::{AllocError, Global};

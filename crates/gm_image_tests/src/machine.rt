@@ -5,11 +5,10 @@ ghost use Rattle.gm_graph.specs.Builds.{IsBuildable};
 ghost use Rattle.gm_image.specs.Views.{program};
 ghost use Rattle.gm_machine.specs.Steps.{KeepsFields};
 
-use crate::runs::run;
-use crate::{Master, MasterStop, StepNote, inboxes_have_no_order, master_run};
 use gm_base::{Items, NoMemory, Place};
-use gm_graph::{Outcome, RawGraph, Shape, build};
-use gm_image::{Block, Expr, Image, MasterLine, VertexLine};
+use gm_graph::{RawGraph, Shape, build};
+use gm_image::{Block, Expr, Image, MasterLine};
+use gm_machine::{Master, MasterStop, inboxes_have_no_order, master_run};
 use gm_value::{VType, Value};
 use std::alloc::Global;
 use std::test::Fail;
@@ -105,60 +104,5 @@ fn spin_is_cut_at_its_bound(rt: HostRuntime) -> Result<(), Fail> {
         );
     }
     inboxes_have_no_order();
-    Ok(())
-}
-
-// Sends one message along each out-edge.
-fn sending(alloc: Global) -> Result<Block, NoMemory>
-    ensures { IfOk result (λ b. b.handlers ≡ []) }
-{
-    let mut values = Vec::new(alloc);
-    values.push(Expr::Id)?;
-    let mut body = Vec::new(alloc);
-    body.push(VertexLine::EachOut(1))?;
-    body.push(VertexLine::Send {
-        kind: 0,
-        to: Expr::Neighbour,
-        values: Items::new(values),
-    })?;
-    Ok(Block {
-        handlers: Items::new(Vec::new(alloc)),
-        body: Items::new(body),
-    })
-}
-
-// Two supersteps with one block, which has no handler.
-fn sends_twice(alloc: Global) -> Result<Image, NoMemory>
-    ensures columns { IfOk result (λ image. image.columns ≡ []) }
-    ensures keeps { IfOk result (λ image. (block : ℕ) → KeepsFields (program image) block) }
-{
-    let mut blocks = Vec::new(alloc);
-    blocks.push(sending(alloc)?)?;
-    let mut master = Vec::new(alloc);
-    master.push(MasterLine::Step(0))?;
-    master.push(MasterLine::Step(0))?;
-    master.push(MasterLine::Finish)?;
-    let image = image_of(alloc, Vec::new(alloc), Vec::new(alloc), blocks, master)?;
-    Ok(image)
-}
-
-#[test]
-fn messages_are_counted_where_they_are_sent(rt: HostRuntime) -> Result<(), Fail> {
-    let alloc = rt.alloc();
-    let image = sends_twice(alloc)?;
-    let graph = build(alloc, two_nodes(alloc)?)?;
-    let mut notes = Vec::new(alloc);
-    let end = run(alloc, &image, &graph, &[], 0, true, &mut notes)?;
-    assert_eq!(rt; end.supersteps, 2);
-    assert_eq!(rt; end.messages, 2);
-    assert!(rt; matches!(&end.outcome, Outcome::Done { turns: 0, .. }));
-    let first = StepNote {
-        step: 1,
-        block: 0,
-        vertices: 2,
-        messages: 1,
-    };
-    let second = StepNote { step: 2, ..first };
-    assert_eq!(rt; notes.as_slice(), [first, second].as_slice());
     Ok(())
 }

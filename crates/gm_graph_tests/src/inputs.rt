@@ -2,7 +2,7 @@
 
 ghost use Rattle.std.specs.Prelude.{◌<◌};
 
-use crate::{FrontStop, read_front, read_rest};
+use gm_input::{FrontStop, read_front, read_rest};
 use gm_base::{MemSource, ReadStop, read_all};
 use std::alloc::{AllocError, Global};
 use std::test::Fail;

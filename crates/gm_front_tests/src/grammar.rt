@@ -1,7 +1,7 @@
 //! Texts and their verdicts, by scanning and parsing.
 
-use super::*;
 use gm_ast::surface::{SpelledProcedure, SpelledStmt};
+use gm_parse::*;
 use gm_token::scan;
 use std::alloc::{AllocError, Global};
 use std::test::*;

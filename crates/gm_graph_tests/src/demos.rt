@@ -1,4 +1,4 @@
-use super::*;
+use gm_demo::*;
 use gm_graph::{Column, Values};
 use gm_value::{VType, Value};
 use std::alloc::{AllocError, Global};

@@ -1,7 +1,5 @@
-use super::*;
+use gm_base::*;
 use std::test::Fail;
-
-mod by_name;
 
 #[test]
 fn reads_all_in_pieces(rt: HostRuntime) -> Result<(), Fail> {

@@ -1,7 +1,7 @@
 ghost use Rattle.std.specs.Prelude.{◌≡◌, ◌+◌, ◌^◌, ◌<◌, length, vec_len, All, IfOk, OnOk};
 
-use crate::{Mailbox, Post, make};
 use gm_base::NoMemory;
+use gm_mailbox::{Mailbox, Post, make};
 use std::alloc::Global;
 use std::sync::Wait;
 use std::test::*;

@@ -1,6 +1,11 @@
-use super::*;
-use gm_ast::tree::{Domain, Key, Stage, Target, TotalKey};
+//! The ways of the reductions of inner loops, and the reads of edges that they forbid.
+
+use gm_ast::tree::{Domain, Expr, Head, Key, Stage, Stmt, Target, TotalKey};
+use gm_ast::ways::Way;
+use gm_base::{Place, Refusal, Rule};
 use gm_value::Reduce;
+use gm_ways::{LoopWays, ways_in_loop};
+use std::alloc::{AllocError, Global};
 use std::test::Fail;
 
 // The variables of the bodies below: a node and its neighbour, two properties of nodes, an edge and its property, and
@@ -30,6 +35,15 @@ const KEY: Key = Key {
 
 fn at(col: u32) -> Place {
     Place { line: 1, col }
+}
+
+// The refusal of a read of an edge in a column, if there is one.
+fn against(col: Option<u32>) -> Option<Refusal> {
+    let col = col?;
+    Some(Refusal {
+        rule: Rule::C7,
+        place: at(col),
+    })
 }
 
 fn local(variable: u32) -> Expr {
@@ -174,7 +188,7 @@ fn reads_edges_against_the_way(rt: HostRuntime) -> Result<(), Fail> {
                 "{:?}",
                 LoopWays {
                     ways: vec![in alloc; Way::Push, way]?,
-                    against: refusal_at(col.map(at)),
+                    against: against(col),
                 }
             )?
             .as_str(),
@@ -264,7 +278,7 @@ fn reads_through_nested_conditions(rt: HostRuntime) -> Result<(), Fail> {
                 "{:?}",
                 LoopWays {
                     ways: vec![in alloc; way]?,
-                    against: refusal_at(col.map(at)),
+                    against: against(col),
                 }
             )?
             .as_str(),

@@ -1,6 +1,6 @@
 //! What the definitions were not made from: results worked out by hand.
 
-use crate::{
+use gm_value::{
     FaultKind, Op1, Op2, Reduce, Total, VType, Value, apply1, apply2, fold_in,
     taking_goes_by_ranks, total_add, total_close, total_unit, unit,
 };

@@ -1,12 +1,10 @@
 //! Images with one thing changed, each with the rule that it breaks and the line where it does.
 
-mod reader;
-
-use crate::{VerifyStop, is_countable, verify};
+use crate::reader::read;
 use gm_base::Items;
 use gm_image::{Expr, Image, ImageRule, MasterLine};
 use gm_value::Value;
-use reader::read;
+use gm_verify::{VerifyStop, is_countable, verify};
 use std::alloc::Global;
 use std::test::Fail;
 

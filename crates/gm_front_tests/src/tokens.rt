@@ -1,7 +1,7 @@
 //! Tests of what no clause says: texts, and what the written rules make of them.
 
-use super::{TokenKind, Tokens, scan};
 use gm_base::{Place, Refusal, Rule, Stop};
+use gm_token::{TokenKind, Tokens, scan};
 use std::alloc::Global;
 use std::process::Abort;
 use std::test::Fail;
@@ -244,7 +244,7 @@ fn other_kinds(rt: HostRuntime) -> Result<(), Fail> {
 fn number_in(rt: &impl Abort, alloc: Global, text: &[u8]) -> Result<u64, Fail> {
     let tokens = scan(alloc, text)?;
     assert_eq!(rt; tokens.len(), 1);
-    assert_eq!(rt; tokens.word(0), super::Word::Number);
+    assert_eq!(rt; tokens.word(0), gm_token::Word::Number);
     Ok(tokens.number(0))
 }
 

@@ -3,7 +3,7 @@
 ghost use Rattle.std.specs.Prelude.{◌≡◌, IfOk};
 ghost use Rattle.gm_store.specs.Held.{shape_of};
 
-use crate::Store;
+use gm_store::Store;
 use gm_base::NoMemory;
 use gm_source::slots::{Slot, Write};
 use gm_value::Value;

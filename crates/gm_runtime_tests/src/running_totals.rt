@@ -4,7 +4,7 @@ ghost use Rattle.std.specs.Prelude.{IsTrue, OnOk};
 ghost use Rattle.gm_store.specs.Held.{HasSlot};
 ghost use Rattle.gm_totals.specs.Standing.{Within};
 
-use crate::{Closed, Totals};
+use gm_totals::{Closed, Totals};
 use gm_ast::tree::{Key, Stage, TotalKey};
 use gm_base::{NoMemory, Place};
 use gm_source::contributions::Contribution;

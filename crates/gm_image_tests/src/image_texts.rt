@@ -1,7 +1,7 @@
 //! Tests of whole texts.
 
-use crate::writes::written;
-use crate::{ImageFault, read_image};
+use gm_image_text::{ImageFault, read_image, write_image};
+use gm_verify::{is_countable, verify};
 use std::alloc::{AllocError, Global};
 use std::test::Fail;
 
@@ -77,9 +77,12 @@ fn texts_of_images_are_read(rt: HostRuntime) -> Result<(), Fail> {
 
 #[test]
 fn images_are_written_as_they_were_read(rt: HostRuntime) -> Result<(), Fail> {
-    for text in [SPIN, TOTAL, PAIR, EACH] {
+    for text in [SPIN, TOTAL, PAIR] {
         let image = read_image(rt.alloc(), text)?;
-        let again = written(rt.alloc(), &image)?;
+        let is_short = is_countable(&image);
+        assert!(rt; is_short);
+        let sound = verify(rt.alloc(), image)?;
+        let again = write_image(rt.alloc(), &sound)?;
         assert_eq!(rt; again.as_slice(), text);
     }
     Ok(())

@@ -1,5 +1,5 @@
 //! Owners at small and at the largest numbers.
-use crate::{Owner, owner_of};
+use gm_partition::{Owner, owner_of};
 
 #[test]
 fn owners(rt: HostRuntime) {

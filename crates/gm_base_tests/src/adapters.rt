@@ -1,7 +1,10 @@
-use super::*;
-use crate::whole::{read_all, write_all};
+//! The adapters of real streams, over a reader and a writer that fail once.
+
+use gm_base::{Failed, ReadSource, WriteSink, read_all, write_all};
+use std::cell::Cell;
 use std::io;
-use std::io::ErrorKind;
+use std::io::{ErrorKind, Read, Write};
+use std::rc::Rc;
 use std::test::Fail;
 
 // A reader of ten bytes, at most four at a time, which fails once: in its call with this number, from 1.
@@ -35,14 +38,20 @@ enum Trouble {
     TakesNone,
 }
 
+// How many bytes a writer has taken, and how many of them it has flushed.
+#[derive(Drop)]
+struct Counts {
+    taken: Cell<usize>,
+    flushed: Cell<usize>,
+}
+
 // A writer that takes at most four bytes at a time, and one of whose calls of `write`, counted from 1, goes wrong.
 #[derive(Drop)]
 struct Choking {
-    taken: Vec<u8>,
+    counts: Rc<Counts>,
     calls: u32,
     fails: u32,
     trouble: Trouble,
-    flushed: usize,
 }
 
 impl Choking {
@@ -61,9 +70,9 @@ impl Write for Choking {
             return Ok(0);
         }
         let count = buf.len().min(4);
-        if self.taken.extend_from_slice(&buf[..count]).is_err() {
-            return Err(io::Error::from(ErrorKind::OutOfMemory));
-        }
+        self.counts
+            .taken
+            .set(self.counts.taken.get().saturating_add(count));
         Ok(count)
     }
 
@@ -71,7 +80,7 @@ impl Write for Choking {
         if self.is_due(Trouble::Flush) {
             return Err(io::Error::from(ErrorKind::StorageFull));
         }
-        self.flushed = self.taken.len();
+        self.counts.flushed.set(self.counts.taken.get());
         Ok(())
     }
 }
@@ -118,17 +127,23 @@ fn a_writer_that_fails_once(rt: HostRuntime) -> Result<(), Fail> {
         (9, Trouble::Write, Ok(()), 10, 10),
     ];
     for (fails, trouble, outcome, taken, flushed) in table {
+        let counts = Rc::new(
+            rt.alloc(),
+            Counts {
+                taken: Cell::new(0),
+                flushed: Cell::new(0),
+            },
+        )?;
         let mut sink = WriteSink::new(Choking {
-            taken: Vec::new(rt.alloc()),
+            counts: counts.clone()?,
             calls: 0,
             fails,
             trouble,
-            flushed: 0,
         });
         let written = write_all(&mut sink, &[0, 1, 2, 3, 4, 5, 6, 7, 8, 9]);
         assert_eq!(rt; written, outcome, "{trouble:?} at {fails}");
-        assert_eq!(rt; sink.writer.taken.len(), taken, "{trouble:?} at {fails}");
-        assert_eq!(rt; sink.writer.flushed, flushed, "{trouble:?} at {fails}");
+        assert_eq!(rt; counts.taken.get(), taken, "{trouble:?} at {fails}");
+        assert_eq!(rt; counts.flushed.get(), flushed, "{trouble:?} at {fails}");
     }
     Ok(())
 }
