@@ -1,8 +1,8 @@
 //! What the definitions were not made from: results worked out by hand.
 
 use gm_value::{
-    FaultKind, Op1, Op2, Reduce, Total, VType, Value, apply1, apply2, fold_in,
-    taking_goes_by_ranks, total_add, total_close, total_unit, unit,
+    FaultKind, Op1, Op2, Reduce, Total, VType, Value, apply1, apply2, fold_in, fold_tuple,
+    taking_goes_by_ranks, total_add, total_close, total_unit, tuples_have_no_order, unit,
 };
 use std::test::Fail;
 
@@ -119,4 +119,36 @@ fn picks_and_prints(rt: HostRuntime) -> Result<(), Fail> {
     }
     taking_goes_by_ranks::<u8, Value>();
     Ok(())
+}
+
+#[test]
+fn tuples_are_replaced(rt: HostRuntime) {
+    // the held number and node, the new ones, and whether these replace by Min and by Max
+    let table = [
+        ((7, None), (4, Some(3)), true, false),
+        ((4, Some(3)), (4, Some(1)), true, true),
+        ((4, Some(1)), (4, Some(3)), false, false),
+        ((4, Some(1)), (4, Some(1)), false, false),
+        ((4, Some(0)), (4, None), true, true),
+        ((4, None), (5, None), false, true),
+        ((-4, None), (-5, Some(9)), true, false),
+    ];
+    for (held, new, by_min, by_max) in table {
+        let first = [Value::I32(held.0), Value::At(held.1)];
+        let second = [Value::I32(new.0), Value::At(new.1)];
+        assert_eq!(rt;
+            fold_tuple(Reduce::Min, &first, &second),
+            by_min,
+            "{held:?} {new:?}"
+        );
+        assert_eq!(rt;
+            fold_tuple(Reduce::Max, &first, &second),
+            by_max,
+            "{held:?} {new:?}"
+        );
+    }
+    let flags = [Value::I64(1), Value::Flag(true)];
+    let lesser = [Value::I64(1), Value::Flag(false)];
+    assert!(rt; fold_tuple(Reduce::Max, &flags, &lesser));
+    tuples_have_no_order();
 }

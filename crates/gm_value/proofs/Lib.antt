@@ -5,4 +5,5 @@ pub mod NumberLaws
 pub mod TotalLaws
 pub mod TakingLaws
 pub mod RekeyingLaws
+pub mod TupleLaws
 mod Rows

@@ -8,6 +8,7 @@ use Rattle.gm_value.specs.declared.operations.Op2.TheVariants.{Add, Sub, Mul, Di
 use Rattle.gm_value.specs.declared.reductions.Reduce.TheVariants.{Sum, Product, Min, Max, And, Or}
 use Rattle.gm_value.specs.Operations.{result1, result2}
 use Rattle.gm_value.specs.Reductions.{close, reduces}
+use Rattle.gm_value.specs.Tuples.{replaces, best}
 use Rattle.gm_value.specs.Taking.{taken}
 
 -- ---- operations
@@ -129,6 +130,21 @@ nodes_have_no_least = refl
 
 nodes_have_a_greatest : reduces Max types.Node ≡ true
 nodes_have_a_greatest = refl
+
+-- ---- tuples: a number and a node, NIL being -1
+
+least_tuple : best Min (pos 7 ∷ negsuc 0 ∷ []) ((pos 4 ∷ pos 3 ∷ []) ∷ (pos 4 ∷ pos 1 ∷ []) ∷ (pos 5 ∷ pos 0 ∷ []) ∷ []) ≡ pos 4 ∷ pos 1 ∷ []
+least_tuple = refl
+
+-- the greatest first entry, and among those the least rest
+greatest_with_least_rest : best Max (pos 2 ∷ pos 9 ∷ []) ((pos 4 ∷ pos 3 ∷ []) ∷ (pos 4 ∷ pos 1 ∷ []) ∷ (pos 3 ∷ pos 0 ∷ []) ∷ []) ≡ pos 4 ∷ pos 1 ∷ []
+greatest_with_least_rest = refl
+
+nil_is_below_all_nodes : replaces Max (pos 4 ∷ pos 0 ∷ []) (pos 4 ∷ negsuc 0 ∷ []) ≡ true
+nil_is_below_all_nodes = refl
+
+an_equal_tuple_stays_out : replaces Min (pos 4 ∷ pos 0 ∷ []) (pos 4 ∷ pos 0 ∷ []) ≡ false
+an_equal_tuple_stays_out = refl
 
 -- ---- taking: a contribution's rank is its tens and its weight its ones, and the held weight may not pass 12
 

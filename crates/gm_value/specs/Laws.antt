@@ -13,6 +13,7 @@ use Rattle.gm_value.specs.Operations.{result1, result2, type1, type2}
 use Rattle.gm_value.specs.Bag.{SameBag}
 use Rattle.gm_value.specs.Reductions.{combined, unit_of, total, close, picks}
 use Rattle.gm_value.specs.Totals.{IsTotal, HasType, HasRoom}
+use Rattle.gm_value.specs.Tuples.{kept, best}
 use Rattle.gm_value.specs.Taking.{of_rank, then_take, taken, before, from_on, TakesBags, AreBelow, rank_by, KeepsOrder}
 
 -- an operation on a value gives a value of its result's type
@@ -121,3 +122,11 @@ TakingToAnyBound C V = (rank : C → ℕ) (close : V → List C → Option V) (l
 abbrev pub TakingByNewRanks : (C V : Type 0) → Type 0
 TakingByNewRanks C V = (rank new : C → ℕ) (close : V → List C → Option V) (p f : ℕ → ℕ) (cs : List C) → KeepsOrder rank new p f cs →
     (held : V) (bound : ℕ) → taken new close (f bound) held cs ≡ rank_by p (taken rank close bound held cs)
+
+-- which tuple is kept of the held one and all contributed ones does not depend on their order
+abbrev pub BestTakesBags : Type 0
+BestTakesBags = (r : Reduce) (held : List ℤ) (tuples other : List (List ℤ)) → SameBag tuples other → best r held tuples ≡ best r held other
+
+-- of tuples of one entry the reduction of the entries is kept
+abbrev pub KeepsReduced : Reduce → Type 0
+KeepsReduced r = (x y : ℤ) → kept r (x ∷ []) (y ∷ []) ≡ combined r x y ∷ []

@@ -5,4 +5,5 @@ pub mod Bag
 pub mod Reductions
 pub mod Totals
 pub mod Taking
+pub mod Tuples
 pub mod Laws

@@ -2,12 +2,14 @@
 //! contract is a law, and it does nothing when it is called.
 
 ghost use Rattle.gm_value.specs.declared.reductions.Reduce.{Reduce};
+ghost use Rattle.gm_value.specs.declared.reductions.Reduce.TheVariants.{Min, Max};
 ghost use Rattle.gm_value.specs.Laws.{KeepsType1, KeepsType2, ClosingKeepsType};
 ghost use Rattle.gm_value.specs.Laws.{QuotientAndRemainder, RemainderIsSmall, RemainderHasSign};
 ghost use Rattle.gm_value.specs.Laws.{IsAssociative, IsCommutative, HasUnit, StaysInRange};
 ghost use Rattle.gm_value.specs.Laws.{TotalTakesBags, ClosingTakesBags, ClosingNothing, SumOfOne, ProductOfOne};
 ghost use Rattle.gm_value.specs.Laws.{TakingTakesRanks, TakingTakesBags, TakingNothing, TakingInParts, TakingUpTo, TakingToAnyBound, TakingByNewRanks};
 ghost use Rattle.gm_value.specs.Laws.{FewHaveRoom, TotalStandsForBags, TotalIsOne};
+ghost use Rattle.gm_value.specs.Laws.{BestTakesBags, KeepsReduced};
 
 /// Operations give values of their result's type, and closings values of the held value's type.
 pub fn operations_keep_types()
@@ -59,4 +61,12 @@ pub fn taking_goes_by_ranks<C, V>()
     ensures up_to { TakingUpTo C V }
     ensures bound { TakingToAnyBound C V }
     ensures rekeyed { TakingByNewRanks C V }
+{}
+
+/// Which tuple an argument reduction keeps does not depend on the order of the contributed ones; with one entry it is
+/// the ordinary reduction.
+pub fn tuples_have_no_order()
+    ensures bags { BestTakesBags }
+    ensures min { KeepsReduced Min }
+    ensures max { KeepsReduced Max }
 {}

@@ -7,14 +7,16 @@ mod laws;
 mod operations;
 mod reductions;
 mod totals;
+mod tuples;
 mod values;
 
 pub use faults::FaultKind;
 pub use laws::{
     bags_have_no_order, divisions_cut_toward_zero, operations_keep_types, reductions_are_monoids,
-    taking_goes_by_ranks, totals_have_room,
+    taking_goes_by_ranks, totals_have_room, tuples_have_no_order,
 };
 pub use operations::{Op1, Op2, apply1, apply2};
 pub use reductions::{Reduce, fold_in, unit};
 pub use totals::{Total, total_add, total_close, total_unit};
+pub use tuples::fold_tuple;
 pub use values::{VType, Value};
