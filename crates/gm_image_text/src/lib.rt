@@ -1,5 +1,5 @@
-//! The text of images: a sound image becomes its text, and a text the image that it spells, or the number of the
-//! first line with which it stops being the beginning of an image's text.
+//! The text of images: a sound image becomes its text. A text becomes the image that it spells, or the number of the
+//! first line that no image's text has at this point.
 #![tactic(auto)]
 
 mod expressions;

@@ -1,11 +1,44 @@
-//! A mailbox: a queue through which threads hand batches to its owner. What arrives of each sender is what
-//! it sent, in its order, whole and once. Between two senders there is no order.
+//! A mailbox: a queue without a lock, through which threads hand batches to its owner. What arrives of each sender
+//! is what it sent, in its order, whole and once. Between two senders there is no order. It is the only thing that
+//! workers will share between two barriers.
 //!
-//! A thread sends by a pass of its own, a [`Post`]. [`make`] gives a mailbox and its pass 0, which the owner
-//! keeps. From it [`Mailbox::split`] makes the passes of the other senders, with the numbers 1, 2 and so on.
-//! The mailbox is shared by reference while the threads send. In the end [`Mailbox::join_back`] takes each
-//! pass back into pass 0, and [`Mailbox::collect`] answers what was sent. [`Mailbox::early`] takes a batch
-//! before that.
+//! A thread sends by a pass of its own, a [`Post`]. [`make`] gives a mailbox and its pass 0, which the owner keeps.
+//! From it [`Mailbox::split`] makes the passes of the other senders, with the numbers 1, 2 and so on. The mailbox
+//! is shared by reference while the threads send. In the end [`Mailbox::join_back`] takes each pass back into pass
+//! 0, and [`Mailbox::collect`] answers what was sent. [`Mailbox::early`] takes a batch before that. When the
+//! program runs, a pass is a number and nothing more: the lists of what it has sent and taken exist in the proofs
+//! alone.
+//!
+//! # The rule
+//!
+//! It is a statement about the queue and all passes, and it holds between any two steps of any threads:
+//!
+//! - What was taken, followed by what the queue holds, is all that was ever sent. The part of it with the number p
+//!   is what pass p has sent, in order. A number that was not given out does not occur.
+//! - Each pass that lives has the number of its place in the order in which they were made, so no two have one
+//!   number.
+//! - Pass 0 knows what was taken and how many passes were split off. Each number from 1 up to that count is the
+//!   number of one pass, which is still out or has come back. Of each that came back pass 0 has what it sent.
+//!
+//! Five kinds of step change something: making the mailbox, splitting off a pass, a push at the back, a pop at the
+//! front, and taking a pass back. Each keeps the rule from any state that meets it. Nothing is assumed about which
+//! thread steps next, so what follows holds under every schedule.
+//!
+//! When the owner finds the queue empty, the rule tells it that all that it has sent itself is taken; and where it
+//! has as many passes back as it split off, that what was taken is a merge: a list in which the batches of each
+//! number are what that pass sent, in order, and no other number occurs. This is what `collect` promises. It need
+//! not check which passes came back: counting them is enough, since no number comes back twice.
+//!
+//! # What the rule does not say
+//!
+//! Who sends first; any order between two senders; that a call returns; how long a batch stays in the queue; that
+//! two threads ever run at once, or that the sends happen while the workers compute; that there is memory. A send
+//! may hand its batch back. `collect` may run out of memory; the batches that it had taken are then lost, and the
+//! run is given up. After a pass was dropped and not joined back, `collect` may not be called any more.
+//!
+//! A call does not wait on an empty queue: it answers. A send that another one overtakes tries again after a short
+//! pause. Where a call has to wait for another thread's step it backs off, and then gives up its turn in every
+//! further round, so no core spins while others want it.
 #![tactic(auto)]
 
 ghost use Rattle.std.specs.Prelude.{◌≡◌, ◌+◌, ◌-◌, ◌^◌, ◌<◌, ◌≤◌, [], ◌∷◌, ◌++◌, length, All, IfSome, IfNone, IfOk, IfErr, OnOk, OnErr, IsOkAnd};

@@ -1,5 +1,7 @@
-//! Values, their types, and the operations and reductions on them, with exact checked arithmetic: a result
-//! out of its type's range is a fault, and nothing wraps. No call takes memory.
+//! Values, their types, and the operations and reductions on them, with exact checked arithmetic: a result out of
+//! its type's range is a fault, and nothing wraps. Running totals keep sums and products of any order exactly until
+//! they are closed. The laws of bags, and of taking contributions by rank, are contracts of functions with empty
+//! bodies. No call takes memory.
 #![tactic(auto)]
 
 mod faults;

@@ -1,4 +1,4 @@
-//! What the words of a command line ask for.
+//! Command lines: words become a job, or are no valid command line; words `NAME=VALUE` become the values of inputs.
 #![tactic(auto)]
 
 mod arguments;
