@@ -4,6 +4,7 @@ pub mod Notes
 pub mod Groups
 pub mod WithValues
 pub mod Shapes
+pub mod Boxes
 pub mod Stops
 pub mod Blocks
 pub mod Declaring

@@ -9,6 +9,7 @@ ghost use Rattle.gm_ast.specs.Statements.{search_of, loops_of, loop_of};
 ghost use Rattle.gm_ast.specs.SurfaceTree as SurfaceTree;
 ghost use Rattle.gm_ast.specs.SurfaceTree.{name_of};
 ghost use Rattle.gm_ast.specs.Tree.{expr_of, stmt_of};
+ghost use Rattle.gm_types.specs.Boxes.{unboxed, both_unboxed};
 ghost use Rattle.gm_types.specs.Shapes.{under_key};
 
 use crate::reductions::head_with;
@@ -25,6 +26,41 @@ pub struct Half {
     pub body: Option<Stmt>,
 }
 
+// Two parts where both are there, the second in a box. Where one is missing, the other is dropped here.
+fn both_boxed<A: Drop, B: Drop>(
+    alloc: Global,
+    first: Option<A>,
+    second: Option<B>,
+) -> Result<Option<(A, Box<B>)>, AllocError>
+    ensures { IfOk result (λ r. option_map unboxed r ≡ both_of first second) }
+{
+    match first {
+        None => Ok(None),
+        Some(first) => match second {
+            None => Ok(None),
+            Some(second) => {
+                let second = Box::new(alloc, second)?;
+                Ok(Some((first, second)))
+            }
+        },
+    }
+}
+
+// Two filters with the bodies under them where all are there, the bodies in boxes.
+fn halves_boxed<A: Drop, B: Drop>(
+    alloc: Global,
+    filter: Option<A>,
+    body: Option<B>,
+    back_filter: Option<A>,
+    back: Option<B>,
+) -> Result<Option<((A, Box<B>), (A, Box<B>))>, AllocError>
+    ensures { IfOk result (λ r. option_map both_unboxed r ≡ both_of (both_of filter body) (both_of back_filter back)) }
+{
+    let front = both_boxed(alloc, filter, body)?;
+    let back = both_boxed(alloc, back_filter, back)?;
+    Ok(front.zip(back))
+}
+
 pub fn loops_of(word: LoopWord) -> u32
     ensures { result ≡ loops_of word }
 {
@@ -38,12 +74,9 @@ pub fn loops_of(word: LoopWord) -> u32
 pub fn enclosed(stmt: Option<Stmt>, iterator: Option<u32>) -> Option<Stmt>
     ensures { option_map stmt_of result ≡ part_by (both_of (option_map stmt_of stmt) iterator) (λ p. Ok p.0) }
 {
-    match stmt {
+    match stmt.zip(iterator) {
         None => None,
-        Some(stmt) => match iterator {
-            None => None,
-            Some(_) => Some(stmt),
-        },
+        Some((stmt, _)) => Some(stmt),
     }
 }
 
@@ -71,34 +104,28 @@ pub fn loop_with(
 ) -> Result<Option<Stmt>, AllocError>
     ensures { IfOk result (λ r. option_map stmt_of r ≡ part_by (both_of owner (both_of (Some iterator) (both_of (option_map expr_of filter) (option_map stmt_of body)))) (λ p. Ok (loop_of word key place (head_with (SurfaceTree.head_of head.now) p.0 p.1.0) p.1.1.0 p.1.1.1))) }
 {
-    match owner {
+    let parts = both_boxed(alloc, filter, body)?;
+    match owner.zip(parts) {
         None => Ok(None),
-        Some(owner) => match filter {
-            None => Ok(None),
-            Some(filter) => match body {
-                None => Ok(None),
-                Some(body) => {
-                    let head = head_with(head, owner, iterator);
-                    let body = Box::new(alloc, body)?;
-                    Ok(Some(match word {
-                        LoopWord::Foreach => Stmt::Foreach {
-                            key,
-                            place,
-                            head,
-                            filter,
-                            body,
-                        },
-                        LoopWord::For => Stmt::For {
-                            key,
-                            place,
-                            head,
-                            filter,
-                            body,
-                        },
-                    }))
-                }
-            },
-        },
+        Some((owner, (filter, body))) => {
+            let head = head_with(head, owner, iterator);
+            Ok(Some(match word {
+                LoopWord::Foreach => Stmt::Foreach {
+                    key,
+                    place,
+                    head,
+                    filter,
+                    body,
+                },
+                LoopWord::For => Stmt::For {
+                    key,
+                    place,
+                    head,
+                    filter,
+                    body,
+                },
+            }))
+        }
     }
 }
 
@@ -138,20 +165,14 @@ pub fn while_with(
 ) -> Result<Option<Stmt>, AllocError>
     ensures { IfOk result (λ r. option_map stmt_of r ≡ part_by (both_of (option_map expr_of test) (option_map stmt_of body)) (λ p. Ok (Program.While key place p.0 p.1))) }
 {
-    match test {
+    match both_boxed(alloc, test, body)? {
         None => Ok(None),
-        Some(test) => match body {
-            None => Ok(None),
-            Some(body) => {
-                let body = Box::new(alloc, body)?;
-                Ok(Some(Stmt::While {
-                    key,
-                    place,
-                    test,
-                    body,
-                }))
-            }
-        },
+        Some((test, body)) => Ok(Some(Stmt::While {
+            key,
+            place,
+            test,
+            body,
+        })),
     }
 }
 
@@ -165,20 +186,14 @@ pub fn do_with(
 ) -> Result<Option<Stmt>, AllocError>
     ensures { IfOk result (λ r. option_map stmt_of r ≡ part_by (both_of (option_map stmt_of body) (option_map expr_of test)) (λ p. Ok (Program.Do key place p.0 p.1))) }
 {
-    match body {
+    match both_boxed(alloc, test, body)? {
         None => Ok(None),
-        Some(body) => match test {
-            None => Ok(None),
-            Some(test) => {
-                let body = Box::new(alloc, body)?;
-                Ok(Some(Stmt::Do {
-                    key,
-                    place,
-                    body,
-                    test,
-                }))
-            }
-        },
+        Some((test, body)) => Ok(Some(Stmt::Do {
+            key,
+            place,
+            body,
+            test,
+        })),
     }
 }
 
@@ -208,27 +223,16 @@ pub fn bfs_with(
 ) -> Result<Option<Stmt>, AllocError>
     ensures { IfOk result (λ r. option_map stmt_of r ≡ part_by (both_of (both_of graph start) (both_of (Some iterator) (both_of (option_map expr_of filter) (option_map stmt_of body)))) (λ p. Ok (Program.InBfs key place (search_of (name_of root.now) p.0 p.1.0) p.1.1.0 p.1.1.1))) }
 {
-    match graph {
+    let parts = both_boxed(alloc, filter, body)?;
+    match graph.zip(start).zip(parts) {
         None => Ok(None),
-        Some(graph) => match start {
-            None => Ok(None),
-            Some(start) => match filter {
-                None => Ok(None),
-                Some(filter) => match body {
-                    None => Ok(None),
-                    Some(body) => {
-                        let body = Box::new(alloc, body)?;
-                        Ok(Some(Stmt::InBfs {
-                            key,
-                            place,
-                            search: search_with(root, graph, start, iterator),
-                            filter,
-                            body,
-                        }))
-                    }
-                },
-            },
-        },
+        Some(((graph, start), (filter, body))) => Ok(Some(Stmt::InBfs {
+            key,
+            place,
+            search: search_with(root, graph, start, iterator),
+            filter,
+            body,
+        })),
     }
 }
 
@@ -244,65 +248,19 @@ fn halves_with(
 ) -> Result<Option<Stmt>, AllocError>
     ensures { IfOk result (λ r. option_map stmt_of r ≡ option_map (λ p. Program.InBfsBoth key place search p.0.0 p.0.1 back_key p.1.0 p.1.1) (both_of (both_of (option_map expr_of front.filter) (option_map stmt_of front.body)) (both_of (option_map expr_of back.filter) (option_map stmt_of back.body)))) }
 {
-    let Half { filter, body } = front;
-    let Half {
-        filter: back_filter,
-        body: back,
-    } = back;
-    match filter {
+    match halves_boxed(alloc, front.filter, front.body, back.filter, back.body)? {
         None => Ok(None),
-        Some(filter) => match body {
-            None => Ok(None),
-            Some(body) => match back_filter {
-                None => Ok(None),
-                Some(back_filter) => match back {
-                    None => Ok(None),
-                    Some(outer) => {
-                        let stmt = bfs_both(
-                            alloc,
-                            key,
-                            place,
-                            search,
-                            filter,
-                            body,
-                            back_key,
-                            back_filter,
-                            outer,
-                        )?;
-                        Ok(Some(stmt))
-                    }
-                },
-            },
-        },
+        Some(((filter, body), (back_filter, back))) => Ok(Some(Stmt::InBfsBoth {
+            key,
+            place,
+            search,
+            filter,
+            body,
+            back_key,
+            back_filter,
+            back,
+        })),
     }
-}
-
-// A search with a part after InReverse, whose parts have types.
-fn bfs_both(
-    alloc: Global,
-    key: Key,
-    place: Place,
-    search: Search,
-    filter: Expr,
-    body: Stmt,
-    back_key: Key,
-    back_filter: Expr,
-    back: Stmt,
-) -> Result<Stmt, AllocError>
-    ensures { IfOk result (λ r. stmt_of r ≡ Program.InBfsBoth key place search (expr_of filter) (stmt_of body) back_key (expr_of back_filter) (stmt_of back)) }
-{
-    let body = Box::new(alloc, body)?;
-    let back = Box::new(alloc, back)?;
-    Ok(Stmt::InBfsBoth {
-        key,
-        place,
-        search,
-        filter,
-        body,
-        back_key,
-        back_filter,
-        back,
-    })
 }
 
 // A search with a part after InReverse, whose parts may have no types.

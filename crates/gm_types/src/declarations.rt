@@ -3,13 +3,14 @@
 ghost use Rattle.std.specs.Prelude.{◌≡◌, Some, IfOk, OnOk, length, map, option_map};
 ghost use Rattle.gm_base.specs.Rules.{least_from, broken_at};
 ghost use Rattle.gm_ast.specs.Judged.{ok_of, errs_of, both_of, part_by, broken_by};
+ghost use Rattle.gm_ast.specs.Names.{known_with};
 ghost use Rattle.gm_ast.specs.Program as Program;
 ghost use Rattle.gm_ast.specs.Statements.{declared_all, with_names, plain_declarations, declarations_as, declared_plainly, bare, edge_asked, edge_declared, edge_owner, initial_broken, declared_value, declared_typed, following};
 ghost use Rattle.gm_ast.specs.Surface as Surface;
 ghost use Rattle.gm_ast.specs.SurfaceTree.{name_of, type_of, expr_of as spelled_of};
 ghost use Rattle.gm_ast.specs.Tree.{expr_of, stmt_of};
 ghost use Rattle.gm_types.specs.Parts.{part_of};
-ghost use Rattle.gm_types.specs.Views.{env_of, Gives, Judges};
+ghost use Rattle.gm_types.specs.Views.{env_of, known_in, Gives, Judges};
 ghost use Rattle.gm_types.specs.WithValues.{edge_of, value_of, declared_by};
 
 use crate::leaves::{is_node, query_of};
@@ -300,6 +301,16 @@ impl<'a> Checker<'a> {
         Ok(Declared { index, stmt })
     }
 
+    // Makes a name known, and gives back what was made before. Where memory is short, that is dropped here.
+    fn bind<T: Drop>(&mut self, name: &'a Name, binding: Binding, made: T) -> Result<T, AllocError>
+        ensures made { IfOk result (λ r. r ≡ made) }
+        ensures known { OnOk result (known_in self.new.scope.names.entries ≡ known_with (known_in self.old.scope.names.entries) (name_of name.now).text binding) }
+        ensures rest { OnOk result (self.new ≡ record self.old { scope = self.new.scope }) }
+    {
+        self.scope.add(name, binding)?;
+        Ok(made)
+    }
+
     // A declaration with a value, in which the name is not known yet.
     pub fn declare_with(
         &mut self,
@@ -320,7 +331,6 @@ impl<'a> Checker<'a> {
             index: declared.index,
             variable,
         };
-        self.scope.add(name, binding)?;
-        Ok(declared.stmt)
+        self.bind(name, binding, declared.stmt)
     }
 }

@@ -438,12 +438,9 @@ pub fn infix(
     ensures part { IfOk result (λ r. option_map part_of r ≡ part_by (both_of (option_map part_of a) (option_map part_of b)) (infix_part place op)) }
     ensures least { OnOk result (least.new ≡ least_from least.old (broken_by (both_of (option_map part_of a) (option_map part_of b)) (infix_part place op))) }
 {
-    match a {
+    match a.zip(b) {
         None => Ok(None),
-        Some(a) => match b {
-            None => Ok(None),
-            Some(b) => infix_of(alloc, place, op, a, b, least),
-        },
+        Some((a, b)) => infix_of(alloc, place, op, a, b, least),
     }
 }
 
@@ -459,15 +456,9 @@ pub fn choice(
     ensures part { IfOk result (λ r. option_map part_of r ≡ part_by (both_of (option_map expr_of test) (both_of (option_map part_of a) (option_map part_of b))) (choice_part place)) }
     ensures least { OnOk result (least.new ≡ least_from least.old (broken_by (both_of (option_map expr_of test) (both_of (option_map part_of a) (option_map part_of b))) (choice_part place))) }
 {
-    match test {
+    match test.zip(a.zip(b)) {
         None => Ok(None),
-        Some(test) => match a {
-            None => Ok(None),
-            Some(a) => match b {
-                None => Ok(None),
-                Some(b) => choice_of(alloc, place, test, a, b, least),
-            },
-        },
+        Some((test, (a, b))) => choice_of(alloc, place, test, a, b, least),
     }
 }
 

@@ -228,17 +228,11 @@ pub fn reduction(
     ensures part { IfOk result (λ r. option_map part_of r ≡ part_by (both_of owner (both_of (Some iterator) (both_of (option_map expr_of filter) (option_map part_of body)))) (reduction_rule reducer start (SurfaceTree.head_of head.now))) }
     ensures least { OnOk result (least.new ≡ least_from least.old (broken_by (both_of owner (both_of (Some iterator) (both_of (option_map expr_of filter) (option_map part_of body)))) (reduction_rule reducer start (SurfaceTree.head_of head.now)))) }
 {
-    match owner {
+    match owner.zip(filter.zip(body)) {
         None => Ok(None),
-        Some(owner) => match filter {
-            None => Ok(None),
-            Some(filter) => match body {
-                None => Ok(None),
-                Some(body) => {
-                    let head = head_with(head, owner, iterator);
-                    reduction_of(alloc, reducer, start, head, filter, body, least)
-                }
-            },
-        },
+        Some((owner, (filter, body))) => {
+            let head = head_with(head, owner, iterator);
+            reduction_of(alloc, reducer, start, head, filter, body, least)
+        }
     }
 }
