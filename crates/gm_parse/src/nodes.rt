@@ -1,6 +1,6 @@
 //! Making the parts of a tree that stand in boxes.
 
-ghost use Rattle.std.specs.Prelude.{◌≡◌, IfOk, [], ◌∷◌};
+ghost use Rattle.std.specs.Prelude.{◌≡◌, IfOk, [], ◌∷◌, box_value};
 ghost use Rattle.gm_ast.specs.Surface.{sequence};
 ghost use Rattle.gm_ast.specs.Surface as trees;
 ghost use Rattle.gm_ast.specs.SurfaceTree.{name_of, head_of, expr_of, test_of, optional_of, stmt_of, target_of};
@@ -14,6 +14,23 @@ use gm_base::Place;
 use gm_value::Reduce;
 use std::alloc::{AllocError, Global};
 use std::boxed::Box;
+
+// A part beside two others in boxes. On the way out for want of memory all three are dropped here, so that the callers
+// have no tree left to drop.
+fn with_both_boxed<P: Drop, A: Drop, B: Drop>(
+    alloc: Global,
+    part: P,
+    first: A,
+    second: B,
+) -> Result<(P, Box<A>, Box<B>), AllocError>
+    ensures part { IfOk result (λ r. r.0 ≡ part) }
+    ensures first { IfOk result (λ r. box_value r.1 ≡ first) }
+    ensures second { IfOk result (λ r. box_value r.2 ≡ second) }
+{
+    let first = Box::new(alloc, first)?;
+    let second = Box::new(alloc, second)?;
+    Ok((part, first, second))
+}
 
 /// An expression in parentheses.
 pub fn paren(alloc: Global, place: Place, inner: SpelledExpr) -> Result<SpelledExpr, AllocError>
@@ -184,8 +201,7 @@ pub fn if_else(
 ) -> Result<SpelledStmt, AllocError>
     ensures { IfOk result (λ s. stmt_of s ≡ trees.If place (expr_of test) (stmt_of yes) (stmt_of no)) }
 {
-    let yes = Box::new(alloc, yes)?;
-    let no = Box::new(alloc, no)?;
+    let (test, yes, no) = with_both_boxed(alloc, test, yes, no)?;
     Ok(SpelledStmt::If {
         place,
         test,
@@ -267,8 +283,10 @@ pub fn search_both(
 ) -> Result<SpelledStmt, AllocError>
     ensures { IfOk result (λ s. stmt_of s ≡ trees.InBfsBoth place (name_of front.iterator) (name_of front.graph) (name_of front.root) (test_of front.filter) (sequence (map stmt_of body.items)) reverse (test_of back_filter) (sequence (map stmt_of back.items))) }
 {
-    let body = Box::new(alloc, SpelledStmt::Block(body))?;
-    let back = Box::new(alloc, SpelledStmt::Block(back))?;
+    let parts = (front, back_filter);
+    let body = SpelledStmt::Block(body);
+    let (parts, body, back) = with_both_boxed(alloc, parts, body, SpelledStmt::Block(back))?;
+    let (front, back_filter) = parts;
     let Front {
         iterator,
         graph,
