@@ -1,9 +1,12 @@
 pub mod LineSteps
 pub mod Outside
 pub mod LeastLaws
+pub mod BagLemmas
 pub mod OrderLaws
 pub mod SoundHandlers
 pub mod SoundFolds
+pub mod SoundPuts
+pub mod CombiningLemmas
 pub mod Samples
 mod Rows
 pub mod Messages
@@ -15,7 +18,9 @@ pub mod Handlers
 pub mod VertexSteps
 pub mod OneStep
 pub mod InboxSteps
-pub mod Legs
+pub mod MasterLemmas
+pub mod StateLemmas
+pub mod StateBounds
 pub mod Copies
 pub mod FieldRows
 pub mod Widths

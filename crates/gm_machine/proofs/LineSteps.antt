@@ -5,8 +5,8 @@ use Rattle.gm_graph.specs.Graphs.{Step, nodes_of, edges_of}
 use Rattle.gm_machine.specs.declared.faults.Fault.{Fault}
 use Rattle.gm_image.specs.Program.{Line}
 use Rattle.gm_machine.specs.Faults.{lesser}
-use Rattle.gm_machine.specs.Vertex.{Scene, Work, After, lines_after, turns_after}
-use Rattle.gm_machine.specs.Sights.{after_lines}
+use Rattle.gm_machine.specs.Vertex.{VertexContext, VertexState, After, lines_after, turns_after}
+use Rattle.gm_machine.specs.VertexViews.{after_lines}
 
 -- what was found, and then what is left
 abbrev pub after_these : {A : Type 0} → List A → Result (List A) Fault → Result (List A) Fault
@@ -31,12 +31,12 @@ drop-got (y ∷ xs) zero x e = let is : y ≡ x = cc in ap (λ z. z ∷ xs) is
 drop-got (y ∷ xs) (suc k) x e = drop-got xs k x e
 
 -- one more turn
-pub turns-more : (s : Scene) (ls : List Line) (es : List Step) (k : ℕ) (e : Step) (w w' : Work) (f one f' : Option Fault) (all : After) →
+pub turns-more : (s : VertexContext) (ls : List Line) (es : List Step) (k : ℕ) (e : Step) (w w' : VertexState) (f one f' : Option Fault) (all : After) →
     slice_get es k ≡ Some e → after_lines w' one ≡ lines_after (record s { near = e }) ls 0 w → f' ≡ lesser f one →
     turns_after s ls (drop k es) w f ≡ all → turns_after s ls (drop (k + 1) es) w' f' ≡ all
 turns-more s ls es k e w w' f one f' all got ran fault so_far =
     ap (λ n. turns_after s ls (drop n es) w' f') (add-one k)
     ∙ ap (λ g. turns_after s ls (drop (suc k) es) w' g) fault
-    ∙ ap (λ a. turns_after s ls (drop (suc k) es) a.work (lesser f a.fault)) ran
+    ∙ ap (λ a. turns_after s ls (drop (suc k) es) a.state (lesser f a.fault)) ran
     ∙ sym (ap (λ xs. turns_after s ls xs w f) (drop-got es k e got))
     ∙ so_far

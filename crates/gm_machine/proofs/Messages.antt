@@ -3,7 +3,7 @@ use Rattle.std.proofs.Common.{◌≡◌, ◌<◌, ◌≤◌, ◌+◌, ◌-◌, �
 use Rattle.std.specs.Prelude.{All, slice_range}
 use Rattle.std.proofs.lemmas.List.{take-append-le, drop-append-le, drop_at, take_all, length-drop, map-append}
 use Rattle.gm_value.specs.declared.values.Value.{Value}
-use Rattle.gm_machine.specs.declared.batches.Head.{Head}
+use Rattle.gm_machine.specs.declared.batches.MessageHeader.{MessageHeader}
 use Rattle.gm_machine.specs.Vertex.{Message}
 use Rattle.gm_machine.specs.Batches.{message_of, IsWithin}
 
@@ -13,17 +13,17 @@ range-kept values more start end a b =
     let room : end - start ≤ length (drop start values) = omega (arith, length-drop start values) in
     ap (take (end - start)) (drop-append-le start values more s) ∙ take-append-le (end - start) (drop start values) more room
 
-message-kept : (values more : List Value) (head : Head) → IsWithin values head → message_of (values ++ more) head ≡ message_of values head
-message-kept values more head within =
-    let made : List Value → Message = λ vs. record { to = head.to; kind = head.kind; values = vs } in
-    ap made (range-kept values more head.start head.end within.ordered within.within)
+message-kept : (values more : List Value) (header : MessageHeader) → IsWithin values header → message_of (values ++ more) header ≡ message_of values header
+message-kept values more header within =
+    let made : List Value → Message = λ vs. record { to = header.to; kind = header.kind; values = vs } in
+    ap made (range-kept values more header.start header.end within.ordered within.within)
 
-pub messages-kept : (values more : List Value) (heads : List Head) → All (IsWithin values) heads → map (message_of (values ++ more)) heads ≡ map (message_of values) heads
+pub messages-kept : (values more : List Value) (headers : List MessageHeader) → All (IsWithin values) headers → map (message_of (values ++ more)) headers ≡ map (message_of values) headers
 messages-kept values more [] within = refl
-messages-kept values more (h ∷ heads) within =
-    let first : 0 < length (h ∷ heads) = omega arith in
-    ap (λ m. m ∷ map (message_of (values ++ more)) heads) (message-kept values more h (within 0 h first))
-    ∙ ap (λ ms. message_of values h ∷ ms) (messages-kept values more heads (λ k d l. let k' : suc k < length (h ∷ heads) = omega arith in within (suc k) d k'))
+messages-kept values more (h ∷ headers) within =
+    let first : 0 < length (h ∷ headers) = omega arith in
+    ap (λ m. m ∷ map (message_of (values ++ more)) headers) (message-kept values more h (within 0 h first))
+    ∙ ap (λ ms. message_of values h ∷ ms) (messages-kept values more headers (λ k d l. let k' : suc k < length (h ∷ headers) = omega arith in within (suc k) d k'))
 
 -- the message of the values that were added last
 message-last : (values more : List Value) (to kind start end : ℕ) → start ≡ length values → end ≡ length values + length more →
@@ -33,21 +33,21 @@ message-last values more to kind start end from is =
     let room : length more ≤ end - start = omega arith in
     ap made (ap (take (end - start)) (drop_at values more start (sym from)) ∙ take_all (end - start) more room)
 
--- heads and values with one more message
-pub added : (values more after : List Value) (heads new : List Head) (old : List Message) (to kind start end : ℕ) → All (IsWithin values) heads →
-    map (message_of values) heads ≡ old → after ≡ values ++ more → new ≡ heads ++ record { to = to; kind = kind; start = start; end = end } ∷ [] →
+-- headers and values with one more message
+pub added : (values more after : List Value) (headers new : List MessageHeader) (old : List Message) (to kind start end : ℕ) → All (IsWithin values) headers →
+    map (message_of values) headers ≡ old → after ≡ values ++ more → new ≡ headers ++ record { to = to; kind = kind; start = start; end = end } ∷ [] →
     start ≡ length values → end ≡ length values + length more →
     map (message_of after) new ≡ old ++ record { to = to; kind = kind; values = more } ∷ []
-added values more after heads new old to kind start end within view after_is new_is from is =
-    let last : Head = record { to = to; kind = kind; start = start; end = end } in
+added values more after headers new old to kind start end within view after_is new_is from is =
+    let last : MessageHeader = record { to = to; kind = kind; start = start; end = end } in
     ap (λ vs. map (message_of vs) new) after_is
     ∙ ap (map (message_of (values ++ more))) new_is
-    ∙ map-append (message_of (values ++ more)) heads (last ∷ [])
-    ∙ ap (λ ms. ms ++ message_of (values ++ more) last ∷ []) (messages-kept values more heads within ∙ view)
+    ∙ map-append (message_of (values ++ more)) headers (last ∷ [])
+    ∙ ap (λ ms. ms ++ message_of (values ++ more) last ∷ []) (messages-kept values more headers within ∙ view)
     ∙ ap (λ m. old ++ m ∷ []) (message-last values more to kind start end from is)
 
 -- values alone change no message
-pub not-added : (values more after : List Value) (heads new : List Head) (old : List Message) → All (IsWithin values) heads →
-    map (message_of values) heads ≡ old → after ≡ values ++ more → new ≡ heads → map (message_of after) new ≡ old
-not-added values more after heads new old within view after_is new_is =
-    ap (λ vs. map (message_of vs) new) after_is ∙ ap (map (message_of (values ++ more))) new_is ∙ messages-kept values more heads within ∙ view
+pub not-added : (values more after : List Value) (headers new : List MessageHeader) (old : List Message) → All (IsWithin values) headers →
+    map (message_of values) headers ≡ old → after ≡ values ++ more → new ≡ headers → map (message_of after) new ≡ old
+not-added values more after headers new old within view after_is new_is =
+    ap (λ vs. map (message_of vs) new) after_is ∙ ap (map (message_of (values ++ more))) new_is ∙ messages-kept values more headers within ∙ view

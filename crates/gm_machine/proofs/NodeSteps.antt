@@ -5,7 +5,7 @@ use Rattle.std.specs.List.{enumerate_from, flat_map}
 use Rattle.std.proofs.lemmas.List.Elements.{All-same, All-filter}
 use Rattle.std.proofs.lemmas.List.{take_more_set, drop-set-lt, drop_more, drop_all, take_all, append-nil}
 use Rattle.gm_value.specs.declared.values.Value.{Value}
-use Rattle.gm_machine.specs.declared.batches.Head.{Head}
+use Rattle.gm_machine.specs.declared.batches.MessageHeader.{MessageHeader}
 use Rattle.gm_machine.specs.declared.faults.Fault.{Fault}
 use Rattle.gm_machine.specs.declared.contributions.Contribution.{Contribution}
 use Rattle.gm_graph.specs.Graphs.{NumberedGraph}
@@ -16,65 +16,65 @@ use Rattle.gm_machine.specs.Batches.{message_of, IsWithin}
 use Rattle.gm_machine.specs.Faults.{lesser, least_from}
 use Rattle.gm_machine.specs.Inboxes.{to_node, AreStarts, AreGrouped}
 use Rattle.gm_machine.proofs.InboxSteps.{starts-ordered}
-use Rattle.gm_machine.specs.Machine.{Nodes, Stepped, inbox, scene_at, block_at, step_of, all_steps, superstep}
-use Rattle.gm_machine.specs.Sights.{todo_of}
+use Rattle.gm_machine.specs.Machine.{Nodes, Stepped, inbox, context_at, block_at, step_of, all_steps, superstep}
+use Rattle.gm_machine.specs.VertexViews.{code_of}
 use Rattle.gm_machine.specs.Taking.{settled}
 use Rattle.gm_machine.specs.Supersteps.{Together, node_after, together}
 use Rattle.gm_machine.specs.Vertex.{Message, After, vertex_after}
 
--- the messages of the heads to a node are its inbox
-pub inbox-heads : (values : List Value) (heads : List Head) (node : ℕ) → map (message_of values) (to_node node heads) ≡ inbox (map (message_of values) heads) node
-inbox-heads values [] node = refl
-inbox-heads values (h ∷ heads) node = one (nat_eq h.to node) (inbox-heads values heads node)
+-- the messages of the headers to a node are its inbox
+pub inbox-headers : (values : List Value) (headers : List MessageHeader) (node : ℕ) → map (message_of values) (to_node node headers) ≡ inbox (map (message_of values) headers) node
+inbox-headers values [] node = refl
+inbox-headers values (h ∷ headers) node = one (nat_eq h.to node) (inbox-headers values headers node)
   where
-    one : (b : Bool) → map (message_of values) (to_node node heads) ≡ inbox (map (message_of values) heads) node →
-        map (message_of values) (cond b (h ∷ to_node node heads) (to_node node heads))
-        ≡ cond b (message_of values h ∷ inbox (map (message_of values) heads) node) (inbox (map (message_of values) heads) node)
+    one : (b : Bool) → map (message_of values) (to_node node headers) ≡ inbox (map (message_of values) headers) node →
+        map (message_of values) (cond b (h ∷ to_node node headers) (to_node node headers))
+        ≡ cond b (message_of values h ∷ inbox (map (message_of values) headers) node) (inbox (map (message_of values) headers) node)
     one true same = ap (λ ms. message_of values h ∷ ms) same
     one false same = same
 
--- what a node's inbox asks of sorted heads and starts, as they are read, and which heads it has
-pub inbox-room : (nodes node : ℕ) (heads sorted sorted' : List Head) (starts starts' : List ℕ) → sorted' ≡ sorted → starts' ≡ starts → AreStarts nodes heads starts →
+-- what a node's inbox asks of sorted headers and starts, as they are read, and which headers it has
+pub inbox-room : (nodes node : ℕ) (headers sorted sorted' : List MessageHeader) (starts starts' : List ℕ) → sorted' ≡ sorted → starts' ≡ starts → AreStarts nodes headers starts →
     length sorted ≡ get_or starts nodes 0 → node < nodes →
     (node + 1 < length starts') × (get_or starts' node 0 ≤ get_or starts' (node + 1) 0) × (get_or starts' (node + 1) 0 ≤ length sorted')
-inbox-room nodes node heads sorted sorted' starts starts' sorted_is starts_is are size below =
+inbox-room nodes node headers sorted sorted' starts starts' sorted_is starts_is are size below =
     let up : node + 1 ≤ nodes = omega arith in
     let last : nodes ≤ nodes = omega arith in
     let low : get_or starts' node 0 ≡ get_or starts node 0 = ap (λ xs. get_or xs node 0) starts_is in
     let high : get_or starts' (node + 1) 0 ≡ get_or starts (node + 1) 0 = ap (λ xs. get_or xs (node + 1) 0) starts_is in (
       omega (arith, are.long, ap length starts_is),
       omega (arith, low, high, are.each node below),
-      omega (arith, high, starts-ordered nodes heads starts are (node + 1) nodes up last, size, ap length sorted_is),
+      omega (arith, high, starts-ordered nodes headers starts are (node + 1) nodes up last, size, ap length sorted_is),
     )
 
-pub inbox-is : (nodes node : ℕ) (heads sorted sorted' slice : List Head) (starts starts' : List ℕ) → sorted' ≡ sorted → starts' ≡ starts → AreGrouped nodes heads starts sorted →
-    node < nodes → slice ≡ slice_range sorted' (get_or starts' node 0) (get_or starts' (node + 1) 0) → slice ≡ to_node node heads
-inbox-is nodes node heads sorted sorted' slice starts starts' sorted_is starts_is grouped below is =
+pub inbox-is : (nodes node : ℕ) (headers sorted sorted' slice : List MessageHeader) (starts starts' : List ℕ) → sorted' ≡ sorted → starts' ≡ starts → AreGrouped nodes headers starts sorted →
+    node < nodes → slice ≡ slice_range sorted' (get_or starts' node 0) (get_or starts' (node + 1) 0) → slice ≡ to_node node headers
+inbox-is nodes node headers sorted sorted' slice starts starts' sorted_is starts_is grouped below is =
     is
     ∙ ap (λ hs. slice_range hs (get_or starts' node 0) (get_or starts' (node + 1) 0)) sorted_is
     ∙ ap (λ xs. slice_range sorted (get_or xs node 0) (get_or xs (node + 1) 0)) starts_is
     ∙ grouped node below
 
--- the step of a node with the heads of its messages is its step in the superstep
-pub node-steps : (r : Round) (heads slice : List Head) (node : ℕ) (fields : List Value) → slice ≡ to_node node heads →
-    node_after r slice node fields ≡ step_of (program r.image.now) r.graph.now (todo_of r.todo) r.globals.now (map (message_of r.values.now) heads) (node, fields)
-node-steps r heads slice node fields is =
-    ap (λ ms. vertex_after (program r.image.now) (todo_of r.todo) (scene_at r.graph.now r.globals.now node) ms fields)
-    (ap (map (message_of r.values.now)) is ∙ inbox-heads r.values.now heads node)
+-- the step of a node with the headers of its messages is its step in the superstep
+pub node-steps : (r : Round) (headers slice : List MessageHeader) (node : ℕ) (fields : List Value) → slice ≡ to_node node headers →
+    node_after r slice node fields ≡ step_of (program r.image.now) r.graph.now (code_of r.code) r.globals.now (map (message_of r.values.now) headers) (node, fields)
+node-steps r headers slice node fields is =
+    ap (λ ms. vertex_after (program r.image.now) (code_of r.code) (context_at r.graph.now r.globals.now node) ms fields)
+    (ap (map (message_of r.values.now)) is ∙ inbox-headers r.values.now headers node)
 
--- they stand within the values as all heads do
-pub inbox-within : (values : List Value) (heads slice : List Head) (node : ℕ) → slice ≡ to_node node heads → All (IsWithin values) heads → All (IsWithin values) slice
-inbox-within values heads slice node is within =
-    All-same (IsWithin values) slice (to_node node heads) is (All-filter (λ h. nat_eq h.to node) (IsWithin values) heads within)
+-- they stand within the values as all headers do
+pub inbox-within : (values : List Value) (headers slice : List MessageHeader) (node : ℕ) → slice ≡ to_node node headers → All (IsWithin values) headers → All (IsWithin values) slice
+inbox-within values headers slice node is within =
+    All-same (IsWithin values) slice (to_node node headers) is (All-filter (λ h. nat_eq h.to node) (IsWithin values) headers within)
 
 abbrev pub fields_in : List After → List (List Value)
-fields_in all = map (λ a. a.work.fields) all
+fields_in all = map (λ a. a.state.fields) all
 
 abbrev pub messages_in : List After → List Message
-messages_in all = flat_map (λ a. a.work.messages) all
+messages_in all = flat_map (λ a. a.state.messages) all
 
 abbrev pub puts_in : List After → List Contribution
-puts_in all = flat_map (λ a. a.work.puts) all
+puts_in all = flat_map (λ a. a.state.puts) all
 
 abbrev pub faults_in : List After → List (Option Fault)
 faults_in all = map (λ a. a.fault) all
@@ -92,34 +92,34 @@ module _ (step : (ℕ × List Value) → After) where
     pub fault_is : least_from fault (faults_in (steps_from i (drop i now))) ≡ least_from None (faults_in (steps_from 0 old))
 
   pub stepped-more : (i : ℕ) (old now new : List (List Value)) (messages messages' : List Message) (puts puts' : List Contribution) (fault fault' : Option Fault) → i < length now →
-      new ≡ set now i (step (i, get_or now i [])).work.fields →
-      messages' ≡ messages ++ (step (i, get_or now i [])).work.messages →
-      puts' ≡ puts ++ (step (i, get_or now i [])).work.puts →
+      new ≡ set now i (step (i, get_or now i [])).state.fields →
+      messages' ≡ messages ++ (step (i, get_or now i [])).state.messages →
+      puts' ≡ puts ++ (step (i, get_or now i [])).state.puts →
       fault' ≡ lesser fault (step (i, get_or now i [])).fault →
       IsSteppedTo i old now messages puts fault → IsSteppedTo (i + 1) old new messages' puts' fault'
   stepped-more i old now new messages messages' puts puts' fault fault' within new_is messages_is puts_is fault_is before =
       let a : After = step (i, get_or now i []) in
       let l : i < i + 1 = omega arith in
       let rest : drop i now ≡ get_or now i [] ∷ drop (i + 1) now = drop_more now i [] within in
-      let kept : drop (i + 1) new ≡ drop (i + 1) now = ap (drop (i + 1)) new_is ∙ drop-set-lt (i + 1) now i a.work.fields l in
+      let kept : drop (i + 1) new ≡ drop (i + 1) now = ap (drop (i + 1)) new_is ∙ drop-set-lt (i + 1) now i a.state.fields l in
       let left : List After = steps_from (i + 1) (drop (i + 1) now) in
       record {
         fields_are =
             ap (λ fs. take (i + 1) new ++ fields_in (steps_from (i + 1) fs)) kept
-            ∙ ap (λ fs. fs ++ fields_in left) (ap (take (i + 1)) new_is ∙ take_more_set now i a.work.fields within)
-            ∙ append_assoc (take i now) (a.work.fields ∷ []) (fields_in left)
+            ∙ ap (λ fs. fs ++ fields_in left) (ap (take (i + 1)) new_is ∙ take_more_set now i a.state.fields within)
+            ∙ append_assoc (take i now) (a.state.fields ∷ []) (fields_in left)
             ∙ ap (λ fs. take i now ++ fields_in (steps_from i fs)) (sym rest)
             ∙ before.fields_are;
         messages_are =
             ap (λ fs. messages' ++ messages_in (steps_from (i + 1) fs)) kept
             ∙ ap (λ ms. ms ++ messages_in left) messages_is
-            ∙ append_assoc messages a.work.messages (messages_in left)
+            ∙ append_assoc messages a.state.messages (messages_in left)
             ∙ ap (λ fs. messages ++ messages_in (steps_from i fs)) (sym rest)
             ∙ before.messages_are;
         puts_are =
             ap (λ fs. puts' ++ puts_in (steps_from (i + 1) fs)) kept
             ∙ ap (λ ps. ps ++ puts_in left) puts_is
-            ∙ append_assoc puts a.work.puts (puts_in left)
+            ∙ append_assoc puts a.state.puts (puts_in left)
             ∙ ap (λ fs. puts ++ puts_in (steps_from i fs)) (sym rest)
             ∙ before.puts_are;
         fault_is =

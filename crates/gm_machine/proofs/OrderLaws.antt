@@ -6,9 +6,9 @@ use Rattle.std.proofs.lemmas.List.{append-nil}
 use Rattle.gm_value.specs.declared.values.Value.{Value}
 use Rattle.gm_value.specs.declared.reductions.Reduce.{Reduce}
 use Rattle.gm_value.specs.Numbers.{zero_of}
-use Rattle.gm_value.specs.Bag.{SameBag, same_nil, same_cons, same_swap, same_trans}
+use Rattle.gm_value.specs.Bag.{SameBag}
 use Rattle.gm_value.specs.Taking.{taken, TakesBags}
-use Rattle.gm_value.proofs.BagLaws.{SameBag-refl, SameBag-sym, SameBag-middle, SameBag-append_left, SameBag-append_right, SameBag-filter, SameBag-map}
+use Rattle.gm_value.proofs.BagLaws.{SameBag-append_right, SameBag-filter, SameBag-map}
 use Rattle.gm_value.proofs.MonoidLaws.{close-permuted}
 use Rattle.gm_value.proofs.TakingLaws.{taken-bags, taken-nothing}
 use Rattle.gm_image.specs.Program.{Program, Block, Handler, Line, Target, SetField, Fold, SetRegister, Put, Send, Skip, Each}
@@ -17,28 +17,29 @@ use Rattle.gm_machine.specs.declared.contributions.Contribution.{Contribution}
 use Rattle.gm_machine.specs.Faults.{lesser, least_from, then_go}
 use Rattle.gm_machine.specs.Expressions.{View, value, values}
 use Rattle.gm_machine.specs.Taking.{to_slot, answer_of, closed, overflow_at, all_taken, slot_after, value_or, fault_of, value_after, fault_after, settled, Settled}
-use Rattle.gm_machine.specs.Vertex.{Message, Scene, Work, After, view, gives, line_ends, leaves, line_after, go_by, goes_on, lines_after, ended, handler_lines, lines_of, handler_run, gathered, begun, body_after, vertex_after}
-use Rattle.gm_machine.specs.Sights.{after_behind}
+use Rattle.gm_machine.specs.Vertex.{Message, VertexContext, VertexState, After, view, gives, line_ends, leaves, line_after, go_by, goes_on, lines_after, ended, handler_lines, lines_of, handler_run, gathered, begun, body_after, vertex_after}
+use Rattle.gm_machine.specs.VertexViews.{after_behind}
 use Rattle.gm_machine.specs.Settling.{place_of}
 use Rattle.gm_machine.specs.Laws.{AreReducedBy, LineFoldsBy, LinesFoldBy, HandlersFoldBy, SameStep}
 use Rattle.gm_machine.proofs.Behind.{body-behind}
 use Rattle.gm_machine.proofs.LeastLaws.{least-permuted}
+use Rattle.gm_machine.proofs.BagLemmas.{flat_map-permuted}
 
 -- contributions that are reduced by the reduction of their slot
-abbrev AreBy : (ℕ → Reduce) → List Contribution → Type 0
+abbrev pub AreBy : (ℕ → Reduce) → List Contribution → Type 0
 AreBy reduction [] = Unit {0}
 AreBy reduction (c ∷ cs) = (c.reduce ≡ reduction c.slot) × AreBy reduction cs
 
-AreBy-append : (reduction : ℕ → Reduce) (cs ds : List Contribution) → AreBy reduction cs → AreBy reduction ds → AreBy reduction (cs ++ ds)
+pub AreBy-append : (reduction : ℕ → Reduce) (cs ds : List Contribution) → AreBy reduction cs → AreBy reduction ds → AreBy reduction (cs ++ ds)
 AreBy-append reduction [] ds a b = b
 AreBy-append reduction (c ∷ cs) ds a b = (a.0, AreBy-append reduction cs ds a.1 b)
 
 -- what one line gives
-abbrev IfGiven : (ℕ → Reduce) → Result (List Contribution) Fault → Type 0
+abbrev pub IfGiven : (ℕ → Reduce) → Result (List Contribution) Fault → Type 0
 IfGiven reduction (Ok given) = AreBy reduction given
 IfGiven reduction (Err f) = Unit {0}
 
-gives-by : (reduction : ℕ → Reduce) (w : View) (r : Reduce) (place : ℕ) (ts : List Target) → AreReducedBy reduction r ts → IfGiven reduction (gives w r place ts)
+pub gives-by : (reduction : ℕ → Reduce) (w : View) (r : Reduce) (place : ℕ) (ts : List Target) → AreReducedBy reduction r ts → IfGiven reduction (gives w r place ts)
 gives-by reduction w r place [] by = tt
 gives-by reduction w r place (t ∷ ts) by = first (gives-by reduction w r place ts by.1) (value w t.term) where
   rest : (v : Value) (given : Result (List Contribution) Fault) → IfGiven reduction given →
@@ -51,14 +52,14 @@ gives-by reduction w r place (t ∷ ts) by = first (gives-by reduction w r place
   first all (Err f) = tt
 
 -- an end of a line whose folds are by their reductions
-ends-by : (reduction : ℕ → Reduce) {A : Type 0} (w : Work) (r : Result A Fault) (go : A → After) → AreBy reduction w.folds → ((x : A) → AreBy reduction (go x).work.folds) → AreBy reduction (line_ends w r go).work.folds
+ends-by : (reduction : ℕ → Reduce) {A : Type 0} (w : VertexState) (r : Result A Fault) (go : A → After) → AreBy reduction w.folds → ((x : A) → AreBy reduction (go x).state.folds) → AreBy reduction (line_ends w r go).state.folds
 ends-by reduction w (Ok x) go is each = each x
 ends-by reduction w (Err f) go is each = is
 
-line-by : (reduction : ℕ → Reduce) (s : Scene) (l : Line) (w : Work) → LineFoldsBy reduction l → AreBy reduction w.folds → AreBy reduction (line_after s l w).work.folds
+pub line-by : (reduction : ℕ → Reduce) (s : VertexContext) (l : Line) (w : VertexState) → LineFoldsBy reduction l → AreBy reduction w.folds → AreBy reduction (line_after s l w).state.folds
 line-by reduction s (SetField f a) w by is = ends-by reduction w (value (view s w) a) _ is (λ x. is)
 line-by reduction s (Fold r place ts) w by is = given (gives (view s w) r place ts) (gives-by reduction (view s w) r place ts by) where
-  given : (g : Result (List Contribution) Fault) → IfGiven reduction g → AreBy reduction (line_ends w g (λ cs. leaves (record w { folds = w.folds ++ cs }))).work.folds
+  given : (g : Result (List Contribution) Fault) → IfGiven reduction g → AreBy reduction (line_ends w g (λ cs. leaves (record w { folds = w.folds ++ cs }))).state.folds
   given (Ok cs) all = AreBy-append reduction w.folds cs is all
   given (Err f) all = is
 line-by reduction s (SetRegister r a) w by is = ends-by reduction w (value (view s w) a) _ is (λ x. is)
@@ -67,19 +68,19 @@ line-by reduction s (Send kind to ts) w by is = ends-by reduction w (value (view
 line-by reduction s (Skip n a) w by is = ends-by reduction w (value (view s w) a) _ is (λ x. is)
 line-by reduction s (Each d n) w by is = is
 
-lines-by : (reduction : ℕ → Reduce) (s : Scene) (ls : List Line) (k : ℕ) (w : Work) → LinesFoldBy reduction ls → AreBy reduction w.folds → AreBy reduction (lines_after s ls k w).work.folds
+pub lines-by : (reduction : ℕ → Reduce) (s : VertexContext) (ls : List Line) (k : ℕ) (w : VertexState) → LinesFoldBy reduction ls → AreBy reduction w.folds → AreBy reduction (lines_after s ls k w).state.folds
 lines-by reduction s [] k w by is = is
 lines-by reduction s (l ∷ ls) (suc k) w by is = lines-by reduction s ls k w by.1 is
 lines-by reduction s (l ∷ ls) zero w by is =
     let a : After = line_after s l w in
     goes a.fault (λ k u h. lines-by reduction s ls k u by.1 h)
   where
-    goes : (f : Option Fault) → ((k : ℕ) (u : Work) → AreBy reduction u.folds → AreBy reduction (lines_after s ls k u).work.folds) →
-        AreBy reduction (go_by f (line_after s l w) (λ k u. lines_after s ls k u)).work.folds
-    goes None rest = rest (line_after s l w).skip (line_after s l w).work (line-by reduction s l w by.0 is)
+    goes : (f : Option Fault) → ((k : ℕ) (u : VertexState) → AreBy reduction u.folds → AreBy reduction (lines_after s ls k u).state.folds) →
+        AreBy reduction (go_by f (line_after s l w) (λ k u. lines_after s ls k u)).state.folds
+    goes None rest = rest (line_after s l w).skip (line_after s l w).state (line-by reduction s l w by.0 is)
     goes (Some f) rest = line-by reduction s l w by.0 is
 
-handler-by : (reduction : ℕ → Reduce) (hs : List Handler) (kind : ℕ) → HandlersFoldBy reduction hs → LinesFoldBy reduction (handler_lines hs kind)
+pub handler-by : (reduction : ℕ → Reduce) (hs : List Handler) (kind : ℕ) → HandlersFoldBy reduction hs → LinesFoldBy reduction (handler_lines hs kind)
 handler-by reduction [] kind by = tt
 handler-by reduction (h ∷ hs) kind by = one (nat_eq h.kind kind) (handler-by reduction hs kind by.1) where
   one : (b : Bool) → LinesFoldBy reduction (handler_lines hs kind) → LinesFoldBy reduction (lines_of (cond b (Some h) (find (λ g. nat_eq g.kind kind) hs)))
@@ -87,20 +88,20 @@ handler-by reduction (h ∷ hs) kind by = one (nat_eq h.kind kind) (handler-by r
   one false rest = rest
 
 -- a closing depends on its contributions as a bag alone
-closed-bags : (r : Reduce) → TakesBags (closed r)
+pub closed-bags : (r : Reduce) → TakesBags (closed r)
 closed-bags r held some other same = ap answer_of (close-permuted r held (SameBag-map (λ c. c.value) same))
 
 -- what runs fold
-runs-by : (reduction : ℕ → Reduce) (run : Message → After) (ms : List Message) → ((m : Message) → AreBy reduction (run m).work.folds) → AreBy reduction (flat_map (λ a. a.work.folds) (map run ms))
+pub runs-by : (reduction : ℕ → Reduce) (run : Message → After) (ms : List Message) → ((m : Message) → AreBy reduction (run m).state.folds) → AreBy reduction (flat_map (λ a. a.state.folds) (map run ms))
 runs-by reduction run [] each = tt
-runs-by reduction run (m ∷ ms) each = AreBy-append reduction (run m).work.folds (flat_map (λ a. a.work.folds) (map run ms)) (each m) (runs-by reduction run ms each)
+runs-by reduction run (m ∷ ms) each = AreBy-append reduction (run m).state.folds (flat_map (λ a. a.state.folds) (map run ms)) (each m) (runs-by reduction run ms each)
 
 -- contributions that are all reduced by one reduction
-abbrev AreAll : Reduce → List Contribution → Type 0
+abbrev pub AreAll : Reduce → List Contribution → Type 0
 AreAll r [] = Unit {0}
 AreAll r (c ∷ cs) = (c.reduce ≡ r) × AreAll r cs
 
-slot-all : (reduction : ℕ → Reduce) (slot : ℕ) (cs : List Contribution) → AreBy reduction cs → AreAll (reduction slot) (to_slot slot cs)
+pub slot-all : (reduction : ℕ → Reduce) (slot : ℕ) (cs : List Contribution) → AreBy reduction cs → AreAll (reduction slot) (to_slot slot cs)
 slot-all reduction slot [] by = tt
 slot-all reduction slot (c ∷ cs) by =
     ⊎_elim
@@ -108,23 +109,23 @@ slot-all reduction slot (c ∷ cs) by =
     (λ (differs : c.slot ≡ slot → ⊥). subst (λ b. AreAll (reduction slot) (cond b (c ∷ to_slot slot cs) (to_slot slot cs))) (sym (ne_eqb c.slot slot differs)) (slot-all reduction slot cs by.1))
     (cases_eq c.slot slot)
 
-taken-all : (r : Reduce) (places : ℕ) (held : Value) (cs : List Contribution) → AreAll r cs → all_taken places held cs ≡ overflow_at (taken place_of (closed r) places held cs)
+pub taken-all : (r : Reduce) (places : ℕ) (held : Value) (cs : List Contribution) → AreAll r cs → all_taken places held cs ≡ overflow_at (taken place_of (closed r) places held cs)
 taken-all r places held [] all = ap overflow_at (sym (taken-nothing place_of (closed r) places held))
 taken-all r places held (c ∷ cs) all = ap (λ q. overflow_at (taken place_of (closed q) places held (c ∷ cs))) all.0
 
 -- what a slot holds after its contributions does not depend on their order
-slot-permuted : (reduction : ℕ → Reduce) (places slot : ℕ) (held : Value) {cs ds : List Contribution} → AreBy reduction cs → AreBy reduction ds → SameBag cs ds →
+pub slot-permuted : (reduction : ℕ → Reduce) (places slot : ℕ) (held : Value) {cs ds : List Contribution} → AreBy reduction cs → AreBy reduction ds → SameBag cs ds →
     slot_after places cs slot held ≡ slot_after places ds slot held
 slot-permuted reduction places slot held {cs} {ds} by also same =
     taken-all (reduction slot) places held (to_slot slot cs) (slot-all reduction slot cs by)
     ∙ ap overflow_at (taken-bags place_of (closed (reduction slot)) (closed-bags (reduction slot)) places held (to_slot slot cs) (to_slot slot ds) (SameBag-filter (λ c. nat_eq c.slot slot) same))
     ∙ sym (taken-all (reduction slot) places held (to_slot slot ds) (slot-all reduction slot ds also))
 
-map-each : {A B : Type 0} (f g : A → B) (xs : List A) → ((x : A) → f x ≡ g x) → map f xs ≡ map g xs
+pub map-each : {A B : Type 0} (f g : A → B) (xs : List A) → ((x : A) → f x ≡ g x) → map f xs ≡ map g xs
 map-each f g [] same = refl
 map-each f g (x ∷ xs) same = ap (λ y. y ∷ map f xs) (same x) ∙ ap (λ ys. g x ∷ ys) (map-each f g xs same)
 
-settled-permuted : (reduction : ℕ → Reduce) (places : ℕ) (held : List Value) {cs ds : List Contribution} → AreBy reduction cs → AreBy reduction ds → SameBag cs ds →
+pub settled-permuted : (reduction : ℕ → Reduce) (places : ℕ) (held : List Value) {cs ds : List Contribution} → AreBy reduction cs → AreBy reduction ds → SameBag cs ds →
     settled places cs held ≡ settled places ds held
 settled-permuted reduction places held {cs} {ds} by also same =
     let made : List Value → List (Option Fault) → Settled = λ vs fs. record { values = vs; fault = least_from None fs } in
@@ -133,37 +134,26 @@ settled-permuted reduction places held {cs} {ds} by also same =
     ∙ ap (made (map (value_after places ds) (enumerate_from 0 held)))
     (map-each (fault_after places cs) (fault_after places ds) (enumerate_from 0 held) (λ at. ap fault_of (slot-permuted reduction places at.0 at.1 by also same)))
 
--- a list goes past a list
-lists_past : {A : Type 0} (xs ys zs : List A) → SameBag (xs ++ (ys ++ zs)) (ys ++ (xs ++ zs))
-lists_past [] ys zs = SameBag-refl (ys ++ zs)
-lists_past (x ∷ xs) ys zs = same_trans (same_cons x (lists_past xs ys zs)) (SameBag-sym (SameBag-middle ys x (xs ++ zs)))
-
-flat_map-permuted : {A B : Type 0} (f : A → List B) {xs ys : List A} → SameBag xs ys → SameBag (flat_map f xs) (flat_map f ys)
-flat_map-permuted f same_nil = same_nil
-flat_map-permuted f (same_cons x s) = SameBag-append_left (f x) (flat_map-permuted f s)
-flat_map-permuted f (same_swap x y xs) = lists_past (f x) (f y) (flat_map f xs)
-flat_map-permuted f (same_trans s t) = same_trans (flat_map-permuted f s) (flat_map-permuted f t)
-
--- a work without folds
-abbrev idle : List Value → List Value → List Message → List Contribution → Work
+-- a state without folds
+abbrev pub idle : List Value → List Value → List Message → List Contribution → VertexState
 idle fields registers ms ps = record { fields = fields; registers = registers; messages = ms; puts = ps; folds = [] }
 
 -- a body comes to the same behind messages and contributions in another order
-body-permuted : (places : ℕ) (s : Scene) (ls : List Line) (fields registers : List Value) (ms ns : List Message) (ps qs : List Contribution) → SameBag ms ns → SameBag ps qs →
+body-permuted : (places : ℕ) (s : VertexContext) (ls : List Line) (fields registers : List Value) (ms ns : List Message) (ps qs : List Contribution) → SameBag ms ns → SameBag ps qs →
     SameStep (body_after places s ls 0 (idle fields registers ms ps)) (body_after places s ls 0 (idle fields registers ns qs))
 body-permuted places s ls fields registers ms ns ps qs same_ms same_ps =
     let x : After = body_after places s ls 0 (idle fields registers [] []) in
     let e : body_after places s ls 0 (idle fields registers ms ps) ≡ after_behind ms ps [] x = at ms ps in
     let e' : body_after places s ls 0 (idle fields registers ns qs) ≡ after_behind ns qs [] x = at ns qs in
     record {
-      fields = ap (λ a. a.work.fields) e ∙ sym (ap (λ a. a.work.fields) e');
+      fields = ap (λ a. a.state.fields) e ∙ sym (ap (λ a. a.state.fields) e');
       fault = ap (λ a. a.fault) e ∙ sym (ap (λ a. a.fault) e');
       puts =
-          subst (λ l. SameBag l (body_after places s ls 0 (idle fields registers ns qs)).work.puts) (sym (ap (λ a. a.work.puts) e))
-          (subst (λ l. SameBag (ps ++ x.work.puts) l) (sym (ap (λ a. a.work.puts) e')) (SameBag-append_right x.work.puts same_ps));
+          subst (λ l. SameBag l (body_after places s ls 0 (idle fields registers ns qs)).state.puts) (sym (ap (λ a. a.state.puts) e))
+          (subst (λ l. SameBag (ps ++ x.state.puts) l) (sym (ap (λ a. a.state.puts) e')) (SameBag-append_right x.state.puts same_ps));
       messages =
-          subst (λ l. SameBag l (body_after places s ls 0 (idle fields registers ns qs)).work.messages) (sym (ap (λ a. a.work.messages) e))
-          (subst (λ l. SameBag (ms ++ x.work.messages) l) (sym (ap (λ a. a.work.messages) e')) (SameBag-append_right x.work.messages same_ms));
+          subst (λ l. SameBag l (body_after places s ls 0 (idle fields registers ns qs)).state.messages) (sym (ap (λ a. a.state.messages) e))
+          (subst (λ l. SameBag (ms ++ x.state.messages) l) (sym (ap (λ a. a.state.messages) e')) (SameBag-append_right x.state.messages same_ms));
     }
   where
     at : (xs : List Message) (ys : List Contribution) → body_after places s ls 0 (idle fields registers xs ys) ≡ after_behind xs ys [] (body_after places s ls 0 (idle fields registers [] []))
@@ -173,25 +163,25 @@ body-permuted places s ls fields registers ms ns ps qs same_ms same_ps =
         ∙ body-behind xs ys places s ls 0 (idle fields registers [] [])
 
 -- the end of the handlers, and what follows
-goes-permuted : (places : ℕ) (s : Scene) (ls : List Line) (fields registers : List Value) (ms ns : List Message) (ps qs : List Contribution) (f : Option Fault) → SameBag ms ns → SameBag ps qs →
+pub goes-permuted : (places : ℕ) (s : VertexContext) (ls : List Line) (fields registers : List Value) (ms ns : List Message) (ps qs : List Contribution) (f : Option Fault) → SameBag ms ns → SameBag ps qs →
     SameStep
     (goes_on (ended (idle fields registers ms ps) f 0) (λ k w. body_after places s ls 0 w))
     (goes_on (ended (idle fields registers ns qs) f 0) (λ k w. body_after places s ls 0 w))
 goes-permuted places s ls fields registers ms ns ps qs None same_ms same_ps = body-permuted places s ls fields registers ms ns ps qs same_ms same_ps
 goes-permuted places s ls fields registers ms ns ps qs (Some f) same_ms same_ps = record { fields = refl; fault = refl; puts = same_ps; messages = same_ms }
 
-pub vertex-permuted : (p : Program) (b : Block) (s : Scene) (inbox other : List Message) (fields : List Value) (reduction : ℕ → Reduce) →
+pub vertex-permuted : (p : Program) (b : Block) (s : VertexContext) (inbox other : List Message) (fields : List Value) (reduction : ℕ → Reduce) →
     HandlersFoldBy reduction b.handlers → SameBag inbox other →
     SameStep (vertex_after p b s inbox fields) (vertex_after p b s other fields)
 vertex-permuted p b s inbox other fields reduction by same =
-    let start : Work = begun p.registers fields in
+    let start : VertexState = begun p.registers fields in
     let run : Message → After = handler_run s b.handlers start in
     let runs : SameBag (map run inbox) (map run other) = SameBag-map run same in
-    let some : Work = (gathered start (map run inbox)).work in
-    let more : Work = (gathered start (map run other)).work in
-    let folds_by : (m : Message) → AreBy reduction (run m).work.folds = λ m. lines-by reduction (record s { message = m.values }) (handler_lines b.handlers m.kind) 0 start (handler-by reduction b.handlers m.kind by) tt in
+    let some : VertexState = (gathered start (map run inbox)).state in
+    let more : VertexState = (gathered start (map run other)).state in
+    let folds_by : (m : Message) → AreBy reduction (run m).state.folds = λ m. lines-by reduction (record s { message = m.values }) (handler_lines b.handlers m.kind) 0 start (handler-by reduction b.handlers m.kind by) tt in
     let settles : settled (length p.places) some.folds fields ≡ settled (length p.places) more.folds fields =
-    settled-permuted reduction (length p.places) fields (runs-by reduction run inbox folds_by) (runs-by reduction run other folds_by) (flat_map-permuted (λ a. a.work.folds) runs) in
+    settled-permuted reduction (length p.places) fields (runs-by reduction run inbox folds_by) (runs-by reduction run other folds_by) (flat_map-permuted (λ a. a.state.folds) runs) in
     let faults : least_from None (map (λ a. a.fault) (map run inbox)) ≡ least_from None (map (λ a. a.fault) (map run other)) = least-permuted (SameBag-map (λ a. a.fault) runs) in
     let first : Settled = settled (length p.places) some.folds fields in
     let second : Settled = settled (length p.places) more.folds fields in
@@ -199,5 +189,5 @@ vertex-permuted p b s inbox other fields reduction by same =
     subst (λ a. SameStep a (vertex_after p b s other fields))
     (sym (ap (λ t. ends_as some.messages some.puts t (least_from None (map (λ a. a.fault) (map run inbox)))) settles ∙ ap (ends_as some.messages some.puts second) faults))
     (goes-permuted (length p.places) s b.body second.values (map zero_of p.registers) some.messages more.messages some.puts more.puts (lesser (least_from None (map (λ a. a.fault) (map run other))) second.fault)
-    (flat_map-permuted (λ a. a.work.messages) runs)
-    (flat_map-permuted (λ a. a.work.puts) runs))
+    (flat_map-permuted (λ a. a.state.messages) runs)
+    (flat_map-permuted (λ a. a.state.puts) runs))

@@ -11,7 +11,8 @@ use Rattle.gm_graph.specs.Graphs.{NumberedGraph}
 use Rattle.gm_machine.specs.declared.notes.StepNote.{StepNote}
 use Rattle.gm_machine.specs.Notes.{noted}
 use Rattle.gm_machine.specs.Vertex.{Message}
-use Rattle.gm_machine.specs.Machine.{machine, after, Ready}
+use Rattle.gm_machine.specs.Machine.{machine, Stops, Steps, Ended, Faulted}
+use Rattle.gm_machine.specs.States.{State, after, most_supersteps}
 use Rattle.gm_machine.proofs.Samples.{spin_to, total, pair, pair_merged, total_of, push, weigh, ints, edge, graph_of, weighed}
 
 abbrev ends : Outcome → ℕ → ℕ → RunEnd
@@ -42,13 +43,44 @@ abbrev message : ℕ → ℕ → Message
 message to n = record { to = to; kind = 0; values = I32 (pos n) ∷ [] }
 
 -- before the second step they wait
-total_waits : after total two_nodes [] 1000000 1 ≡ Ready 1 2 (record { globals = []; turns = 0 }) (record {
-  fields = ints (pos 5 ∷ pos 0 ∷ []) ∷ ints (pos 7 ∷ pos 0 ∷ []) ∷ [];
-  sent = message 1 5 ∷ message 1 5 ∷ message 1 7 ∷ [];
-  supersteps = 1;
-  messages = 3;
-})
+abbrev total_between : State
+total_between = record {
+  next = Steps 1000000 1 2 (record { globals = []; turns = 0 });
+  nodes = record {
+    fields = ints (pos 5 ∷ pos 0 ∷ []) ∷ ints (pos 7 ∷ pos 0 ∷ []) ∷ [];
+    sent = message 1 5 ∷ message 1 5 ∷ message 1 7 ∷ [];
+    supersteps = 1;
+    messages = 3;
+  };
+}
+
+total_waits : after total two_nodes [] 1000000 1 ≡ total_between
 total_waits = refl
+
+-- after the second step nothing waits, and nothing changes any more
+abbrev total_over : State
+total_over = record {
+  next = Stops (Ended (record { globals = []; turns = 0 }));
+  nodes = record {
+    fields = ints (pos 5 ∷ pos 0 ∷ []) ∷ ints (pos 7 ∷ pos 17 ∷ []) ∷ [];
+    sent = [];
+    supersteps = 2;
+    messages = 3;
+  };
+}
+
+total_is_over : after total two_nodes [] 1000000 2 ≡ total_over
+total_is_over = refl
+
+total_stays_over : after total two_nodes [] 1000000 9 ≡ total_over
+total_stays_over = refl
+
+-- two steps and no loop: at most two supersteps in each turn; a loop without a step takes none
+total_is_bounded : most_supersteps total 3 ≡ 8
+total_is_bounded = refl
+
+spin_is_bounded : most_supersteps (spin_to 6) 5 ≡ 0
+spin_is_bounded = refl
 
 -- both steps are noted, and so is one that faults
 abbrev note : ℕ → ℕ → ℕ → ℕ → StepNote
@@ -62,6 +94,11 @@ spin_has_no_step = refl
 
 fault_is_noted : noted (total_of Sum) (graph_of (0 ∷ 1 ∷ []) (pos 2147483647 ∷ pos 1 ∷ []) []) [] 9 ≡ note 1 0 2 0 ∷ []
 fault_is_noted = refl
+
+-- a superstep that faults is the last one
+fault_stops : (after (total_of Sum) (graph_of (0 ∷ 1 ∷ []) (pos 2147483647 ∷ pos 1 ∷ []) []) [] 9 1).next
+    ≡ Stops (Faulted (record { place = 0; kind = Overflow }) (record { globals = ints (pos 0 ∷ []); turns = 0 }))
+fault_stops = refl
 
 -- two steps, and the same with one
 abbrev one_edge : NumberedGraph

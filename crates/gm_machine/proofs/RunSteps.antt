@@ -9,7 +9,7 @@ use Rattle.gm_machine.specs.declared.faults.Fault.{Fault}
 use Rattle.gm_machine.specs.declared.notes.StepNote.{StepNote}
 use Rattle.gm_machine.specs.Machine.{Control, Nodes, Stepped, Stop, Faulted, Stops, Steps, pause, run_from, ends, run_step, superstep, step_ends, start_control, start_nodes}
 use Rattle.gm_machine.specs.Notes.{note_of, noted_step, if_watched}
-use Rattle.gm_machine.proofs.Legs.{resume, run_first}
+use Rattle.gm_machine.proofs.MasterLemmas.{resume, run_first}
 
 -- A run for any kind of answer that depends on the nodes.
 module _ {R : Type 0} (p : Program) (g : NumberedGraph) (stop : Stop → Nodes → R) (step : ℕ → ℕ → ℕ → Control → (Control → Nodes → R) → Nodes → R) where

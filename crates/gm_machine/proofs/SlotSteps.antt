@@ -7,7 +7,7 @@ use Rattle.gm_machine.specs.declared.faults.Fault.{Fault}
 use Rattle.gm_machine.specs.declared.contributions.Contribution.{Contribution}
 use Rattle.gm_machine.specs.Faults.{lesser, least_from}
 use Rattle.gm_machine.specs.Taking.{value_after, fault_after, settled, Settled}
-use Rattle.gm_machine.specs.Vertex.{Work, After, ended, folded}
+use Rattle.gm_machine.specs.Vertex.{VertexState, After, ended, folded}
 
 -- the first i slots are settled: the others still hold what they held, and the faults of theirs are left
 pub record IsSettledTo (places : ℕ) (cs : List Contribution) (i : ℕ) (held values : List Value) (fault : Option Fault) : Type 0 where
@@ -71,8 +71,8 @@ lesser-none None = refl
 lesser-none (Some f) = refl
 
 -- no folds are taken
-pub folded-nothing : (places : ℕ) (w : Work) (fault : Option Fault) (skip : ℕ) → w.folds ≡ [] →
-    folded places (record { work = w; fault = fault; skip = skip }) ≡ ended w fault skip
+pub folded-nothing : (places : ℕ) (w : VertexState) (fault : Option Fault) (skip : ℕ) → w.folds ≡ [] →
+    folded places (record { state = w; fault = fault; skip = skip }) ≡ ended w fault skip
 folded-nothing places w fault skip none =
     let taken_to : Settled → After = λ t. ended (record w { folds = []; fields = t.values }) (lesser fault t.fault) skip in
     ap (λ cs. taken_to (settled places cs w.fields)) none

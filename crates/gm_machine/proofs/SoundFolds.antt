@@ -19,14 +19,14 @@ use Rattle.gm_machine.specs.Laws.{AreReducedBy, LineFoldsBy, LinesFoldBy, Handle
 use Rattle.gm_machine.proofs.SoundHandlers.{all_front, all_back, all_first, all_rest, all_at, blocks_pass}
 
 -- the reduction of the first of some reductions that has a slot
-abbrev reduce_or : Option Reduction → Reduce
+abbrev pub reduce_or : Option Reduction → Reduce
 reduce_or None = reduce.Sum
 reduce_or (Some r) = r.reduce
 
 abbrev pub reduction_in : List Line → ℕ → Reduce
 reduction_in all slot = reduce_or (find (has_slot slot) (flat_map folds_of all))
 
-same_reduce-is : (a b : Reduce) → same_reduce a b ≡ true → a ≡ b
+pub same_reduce-is : (a b : Reduce) → same_reduce a b ≡ true → a ≡ b
 same_reduce-is reduce.Sum reduce.Sum e = refl
 same_reduce-is reduce.Product reduce.Product e = refl
 same_reduce-is reduce.Min reduce.Min e = refl
@@ -36,7 +36,7 @@ same_reduce-is reduce.Or reduce.Or e = refl
 same_reduce-is a b e = cc
 
 -- a line's reduction of a slot is the first one's, whatever stands before and behind the line
-first-one : (r : Reduction) (slot : ℕ) (before later : List Reduction) → has_slot slot r ≡ true → same_as_first r (find (has_slot slot) before) ≡ true →
+pub first-one : (r : Reduction) (slot : ℕ) (before later : List Reduction) → has_slot slot r ≡ true → same_as_first r (find (has_slot slot) before) ≡ true →
     r.reduce ≡ reduce_or (find (has_slot slot) (before ++ r ∷ later))
 first-one r slot before later has first =
     by (find (has_slot slot) before) first ∙ ap reduce_or (sym (find-append (has_slot slot) before (r ∷ later)))
@@ -49,17 +49,17 @@ first-one r slot before later has first =
     by (Some f) e = sym (same_reduce-is f.reduce r.reduce (and_parts (same_reduce f.reduce r.reduce) (same_numbers f.slots r.slots) e).0)
 
 -- a slot is among its own
-among-here : (slot : ℕ) (slots : List ℕ) → is_among slot (slot ∷ slots) ≡ true
+pub among-here : (slot : ℕ) (slots : List ℕ) → is_among slot (slot ∷ slots) ≡ true
 among-here slot slots = ap (λ b. b || list_any (λ m. m == slot) slots) (eq-eqb slot slot refl)
 
-among-later : (slot other : ℕ) (slots : List ℕ) → is_among slot slots ≡ true → is_among slot (other ∷ slots) ≡ true
+pub among-later : (slot other : ℕ) (slots : List ℕ) → is_among slot slots ≡ true → is_among slot (other ∷ slots) ≡ true
 among-later slot other slots h = later (other == slot) where
   later : (b : Bool) → b || list_any (λ m. m == slot) slots ≡ true
   later true = refl
   later false = h
 
 -- all slots of a line's reduction
-targets-by : (r : Reduction) (before later : List Reduction) (ts : List Target) → ((slot : ℕ) → is_among slot (slots_of ts) ≡ true → has_slot slot r ≡ true) →
+pub targets-by : (r : Reduction) (before later : List Reduction) (ts : List Target) → ((slot : ℕ) → is_among slot (slots_of ts) ≡ true → has_slot slot r ≡ true) →
     list_all (λ i. same_as_first r (find (has_slot i) before)) (slots_of ts) ≡ true →
     AreReducedBy (λ slot. reduce_or (find (has_slot slot) (before ++ r ∷ later))) r.reduce ts
 targets-by r before later [] has firsts = tt

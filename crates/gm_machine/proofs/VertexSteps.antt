@@ -7,18 +7,18 @@ use Rattle.gm_machine.specs.declared.faults.Fault.{Fault}
 use Rattle.gm_machine.specs.declared.contributions.Contribution.{Contribution}
 use Rattle.gm_machine.specs.declared.lines.LineEnd.{LineEnd}
 use Rattle.gm_machine.specs.declared.lines.LineEnd.TheVariants.{Next, Faulted}
-use Rattle.gm_machine.specs.Vertex.{Message, Scene, Work, After, go_by, folded, body_after, begun, handler_run, gathered, handled, vertex_after}
-use Rattle.gm_machine.specs.Sights.{after_behind, after_line, after_lines}
+use Rattle.gm_machine.specs.Vertex.{Message, VertexContext, VertexState, After, go_by, folded, body_after, begun, handler_run, gathered, handled, vertex_after}
+use Rattle.gm_machine.specs.VertexViews.{after_behind, after_line, after_lines}
 use Rattle.gm_machine.proofs.Behind.{folded-behind, body-behind}
 
-module _ (p : Program) (b : Block) (s : Scene) (inbox : List Message) (fields : List Value) (ms : List Message) (ps : List Contribution) where
+module _ (p : Program) (b : Block) (s : VertexContext) (inbox : List Message) (fields : List Value) (ms : List Message) (ps : List Contribution) where
   -- what the handlers come to, by a block's handlers and an image's registers
   abbrev pub handled_by : List Handler → List VType → After
   handled_by handlers types = gathered (begun types fields) (map (handler_run s handlers (begun types fields)) inbox)
 
   -- the end of the handlers' lines and folds
   handled-end : (places : ℕ) (handlers : List Handler) (types : List VType) → places ≡ length p.places → handlers ≡ b.handlers → types ≡ p.registers →
-      (w1 w2 : Work) (fault : Option Fault) (end : LineEnd) →
+      (w1 w2 : VertexState) (fault : Option Fault) (end : LineEnd) →
       after_lines w1 fault ≡ after_behind ms ps [] (handled_by handlers types) →
       after_line w2 end ≡ folded places (after_lines w1 fault) →
       after_line w2 end ≡ after_behind ms ps [] (handled (length p.places) p.registers s b.handlers inbox fields)
@@ -31,7 +31,7 @@ module _ (p : Program) (b : Block) (s : Scene) (inbox : List Message) (fields : 
 
   -- a fault of the handlers is the vertex's
   pub vertex-faulted : (places : ℕ) (handlers : List Handler) (types : List VType) → places ≡ length p.places → handlers ≡ b.handlers → types ≡ p.registers →
-      (w1 w2 : Work) (fault : Option Fault) (end : LineEnd) (f : Fault) →
+      (w1 w2 : VertexState) (fault : Option Fault) (end : LineEnd) (f : Fault) →
       after_lines w1 fault ≡ after_behind ms ps [] (handled_by handlers types) →
       after_line w2 end ≡ folded places (after_lines w1 fault) →
       end ≡ Faulted f →
@@ -44,7 +44,7 @@ module _ (p : Program) (b : Block) (s : Scene) (inbox : List Message) (fields : 
 
   -- else the body follows
   pub vertex-goes : (places : ℕ) (handlers : List Handler) (types : List VType) (body : List Line) → places ≡ length p.places → handlers ≡ b.handlers → types ≡ p.registers → body ≡ b.body →
-      (w1 w2 w3 : Work) (fault f : Option Fault) (end : LineEnd) (k : ℕ) →
+      (w1 w2 w3 : VertexState) (fault f : Option Fault) (end : LineEnd) (k : ℕ) →
       after_lines w1 fault ≡ after_behind ms ps [] (handled_by handlers types) →
       after_line w2 end ≡ folded places (after_lines w1 fault) →
       end ≡ Next k →
@@ -57,6 +57,6 @@ module _ (p : Program) (b : Block) (s : Scene) (inbox : List Message) (fields : 
       went
       ∙ ap (λ n. body_after n s body 0 w2) places_are
       ∙ ap (λ ls. body_after (length p.places) s ls 0 w2) body_is
-      ∙ ap (λ a. body_after (length p.places) s b.body 0 a.work) e
-      ∙ body-behind ms ps (length p.places) s b.body 0 h.work
+      ∙ ap (λ a. body_after (length p.places) s b.body 0 a.state) e
+      ∙ body-behind ms ps (length p.places) s b.body 0 h.state
       ∙ ap (λ o. after_behind ms ps [] (go_by o h (λ j w. body_after (length p.places) s b.body 0 w))) (ap (λ a. a.fault) e)

@@ -5,12 +5,14 @@ pub mod Vertex
 pub mod Batches
 pub mod Inboxes
 pub mod Cells
-pub mod Sights
+pub mod VertexViews
 pub mod Settling
 pub mod Machine
+pub mod States
 pub mod Fields
 pub mod Steps
 pub mod Laws
+pub mod Combining
 pub mod Masters
 pub mod Supersteps
 pub mod Ends

@@ -17,7 +17,7 @@ use Rattle.gm_machine.specs.declared.faults.Fault.{Fault}
 use Rattle.gm_machine.specs.Faults.{lesser, least_fault}
 use Rattle.gm_machine.specs.Expressions.{View, value, value_at}
 use Rattle.gm_machine.specs.Taking.{settled}
-use Rattle.gm_machine.specs.Vertex.{Message, Scene, After, vertex_after}
+use Rattle.gm_machine.specs.Vertex.{Message, VertexContext, After, vertex_after}
 
 -- what the master list changes: the globals, and the turns that were counted
 pub record Control : Type 0 where
@@ -40,8 +40,8 @@ abbrev pub nowhere : Step
 nowhere = record { node = 0; edge = 0 }
 
 -- what a vertex sees outside of handlers and eachs
-abbrev pub scene_at : NumberedGraph → List Value → ℕ → Scene
-scene_at g globals node = record { graph = g; globals = globals; node = node; message = []; near = nowhere }
+abbrev pub context_at : NumberedGraph → List Value → ℕ → VertexContext
+context_at g globals node = record { graph = g; globals = globals; node = node; message = []; near = nowhere }
 
 -- a block that does nothing
 abbrev pub no_block : Block
@@ -52,7 +52,7 @@ block_at p q = slice_index_or p.blocks q no_block
 
 -- the step of a node with its fields
 abbrev pub step_of : Program → NumberedGraph → Block → List Value → List Message → (ℕ × List Value) → After
-step_of p g b globals sent at = vertex_after p b (scene_at g globals at.0) (inbox sent at.0) at.1
+step_of p g b globals sent at = vertex_after p b (context_at g globals at.0) (inbox sent at.0) at.1
 
 -- the steps of all nodes on the same globals
 abbrev pub all_steps : Program → NumberedGraph → Block → List Value → List Message → List (List Value) → List After
@@ -67,11 +67,11 @@ pub record Stepped : Type 0 where
 -- a superstep whose vertices did this: what they put is taken onto the globals
 abbrev pub stepped : ℕ → List Value → Nodes → List After → Stepped
 stepped places globals s all =
-    let sent = flat_map (λ a. a.work.messages) all in
-    let put = settled places (flat_map (λ a. a.work.puts) all) globals in
+    let sent = flat_map (λ a. a.state.messages) all in
+    let put = settled places (flat_map (λ a. a.state.puts) all) globals in
     record {
       nodes = record {
-        fields = map (λ a. a.work.fields) all;
+        fields = map (λ a. a.state.fields) all;
         sent = sent;
         supersteps = s.supersteps + 1;
         messages = s.messages + length sent;
@@ -173,14 +173,14 @@ module _ {R : Type 0} (p : Program) (g : NumberedGraph) (stop : Stop → R) (ste
   run_from n j c = from_line p g stop (step n) (λ j' c'. turn_at n j' c') j c
 
 -- how a part of the master list's run ends: at its end, at a superstep and the line below it, or where a turn begins
-pub data Leg : Type 0 where
-  AtEnd : (stop : Stop) → Leg
-  AtStep : (block line : ℕ) (c : Control) → Leg
-  AtTurn : (line : ℕ) (c : Control) → Leg
+pub data MasterSegment : Type 0 where
+  AtEnd : (stop : Stop) → MasterSegment
+  AtStep : (block line : ℕ) (c : Control) → MasterSegment
+  AtTurn : (line : ℕ) (c : Control) → MasterSegment
 
 -- the master list from a line on, as far as the next superstep or turn
-abbrev pub leg : Program → NumberedGraph → ℕ → Control → Leg
-leg p g j c = from_line p g AtEnd (λ q line c' go. AtStep q line c') AtTurn j c
+abbrev pub segment : Program → NumberedGraph → ℕ → Control → MasterSegment
+segment p g j c = from_line p g AtEnd (λ q line c' go. AtStep q line c') AtTurn j c
 
 -- how the master list's run pauses: at its end, or at a superstep, with so many turns left
 pub data Pause : Type 0 where
@@ -279,21 +279,3 @@ run_step p g left q line c go s =
 -- the whole run with a bound on its turns
 abbrev pub machine : Program → NumberedGraph → List Value → ℕ → RunEnd
 machine p g args n = run_from p g (ends p) (run_step p g) n 0 (start_control p args) (start_nodes p g)
-
--- the state between two supersteps: what is next, and the globals, turns and nodes; or how the run ended
-pub data Barrier : Type 0 where
-  Ready : (block line : ℕ) (c : Control) (s : Nodes) → Barrier
-  Over : (end : RunEnd) → Barrier
-
--- a superstep of a run that stops after k supersteps
-abbrev pub barrier_step : Program → NumberedGraph → ℕ → ℕ → ℕ → ℕ → Control → (Control → Nodes → Barrier) → Nodes → Barrier
-barrier_step p g k left q line c go s =
-    let t = superstep p g q c.globals s in
-    let c' : Control = record c { globals = t.globals } in
-    if nat_eq s.supersteps k then Ready q line c s
-    else step_ends t.fault (λ f. Over (ends p (Faulted f c') t.nodes)) (go c' t.nodes)
-
--- the state after k supersteps
-abbrev pub after : Program → NumberedGraph → List Value → ℕ → ℕ → Barrier
-after p g args n k =
-    run_from p g (λ stop s. Over (ends p stop s)) (barrier_step p g k) n 0 (start_control p args) (start_nodes p g)

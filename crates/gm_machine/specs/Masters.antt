@@ -3,15 +3,15 @@ use Rattle.std.specs.Prelude.{ℕ, ◌+◌, ◌-◌, ◌*◌, ◌<◌, ⊤, List
 use Rattle.gm_value.specs.declared.values.Value.{Value}
 use Rattle.gm_graph.specs.Graphs.{NumberedGraph}
 use Rattle.gm_image.specs.declared.images.Image.{Image}
-use Rattle.gm_machine.specs.declared.masters.Leg as L
-use Rattle.gm_machine.specs.declared.masters.Leg.TheVariants as legs
+use Rattle.gm_machine.specs.declared.masters.MasterSegment as L
+use Rattle.gm_machine.specs.declared.masters.MasterSegment.TheVariants as segments
 use Rattle.gm_machine.specs.declared.masters.Lead as D
 use Rattle.gm_machine.specs.declared.masters.Lead.TheVariants as leads
 use Rattle.gm_machine.specs.declared.masters.Master.{Master}
 use Rattle.gm_machine.specs.declared.masters.MasterStop.{MasterStop}
 use Rattle.gm_machine.specs.declared.masters.MasterStop.TheVariants as stops
-use Rattle.gm_machine.specs.Sights.{HasColumns}
-use Rattle.gm_machine.specs.Machine.{Control, Pause, Stops, Steps, Leg, AtEnd, AtStep, AtTurn, Lead, On, ToStep, ToTurn, ToStop, Ended, Faulted, Cut}
+use Rattle.gm_machine.specs.VertexViews.{HasColumns}
+use Rattle.gm_machine.specs.Machine.{Control, Pause, Stops, Steps, MasterSegment, AtEnd, AtStep, AtTurn, Lead, On, ToStep, ToTurn, ToStop, Ended, Faulted, Cut}
 
 -- a graph has the edge columns that an image declares
 abbrev pub FitsGraph : Image → NumberedGraph → Type 0
@@ -24,11 +24,11 @@ abbrev pub control_of : Master → Control
 control_of m = control m.globals.items m.turns
 
 -- how a part of a run ends, with the globals and the turns that it leaves
-abbrev pub leg_of : L.Leg → Control → Leg
-leg_of legs.Ended c = AtEnd (Ended c)
-leg_of (legs.Faulted f) c = AtEnd (Faulted f c)
-leg_of (legs.Step q line) c = AtStep q line c
-leg_of (legs.Turn line) c = AtTurn line c
+abbrev pub segment_of : L.MasterSegment → Control → MasterSegment
+segment_of segments.Ended c = AtEnd (Ended c)
+segment_of (segments.Faulted f) c = AtEnd (Faulted f c)
+segment_of (segments.Step q line) c = AtStep q line c
+segment_of (segments.Turn line) c = AtTurn line c
 
 -- where a line leads, with the globals and the turns that it leaves
 abbrev pub lead_of : D.Lead → Control → Lead

@@ -4,7 +4,7 @@ use Rattle.gm_value.specs.declared.values.Value.{Value}
 use Rattle.gm_graph.specs.Graphs.{NumberedGraph}
 use Rattle.gm_image.specs.Program.{Program}
 use Rattle.gm_machine.specs.Vertex.{Message, After, never_sets, handler_lines, vertex_after}
-use Rattle.gm_machine.specs.Machine.{scene_at, block_at}
+use Rattle.gm_machine.specs.Machine.{context_at, block_at}
 
 -- no handler of a block sets a field
 abbrev pub KeepsFields : Program → ℕ → Type 0
@@ -12,4 +12,4 @@ KeepsFields p q = (kind : ℕ) → never_sets (handler_lines (block_at p q).hand
 
 -- the step of a node with its fields and its inbox
 abbrev pub step_after : Program → ℕ → List Value → NumberedGraph → ℕ → List Message → List Value → After
-step_after p q globals g node inbox fields = vertex_after p (block_at p q) (scene_at g globals node) inbox fields
+step_after p q globals g node inbox fields = vertex_after p (block_at p q) (context_at g globals node) inbox fields

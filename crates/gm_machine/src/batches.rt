@@ -10,7 +10,7 @@ use std::marker::Model;
 
 // A message to a node: its kind, and where its values stand.
 #[derive(Clone, Copy)]
-pub(crate) struct Head {
+pub(crate) struct MessageHeader {
     pub(crate) to: u32,
     pub(crate) kind: u32,
     pub(crate) start: usize,
@@ -20,7 +20,7 @@ pub(crate) struct Head {
 /// A list of messages, in the order of sending. A message goes to a node, has a kind, and values.
 #[derive(Drop)]
 pub struct Batch {
-    pub(crate) heads: Vec<Head>,
+    pub(crate) headers: Vec<MessageHeader>,
     pub(crate) values: Vec<Value>,
 }
 
@@ -33,9 +33,9 @@ impl Model for Batch {
     ghost use Rattle.std.specs.Prelude.{map, All};
     ghost use Rattle.gm_machine.specs.Batches.{message_of, IsWithin};
 
-    ghost view = { λ b. map (message_of b.values.items) b.heads.items };
+    ghost view = { λ b. map (message_of b.values.items) b.headers.items };
 
-    ghost invariant = { λ b. All (IsWithin b.values.items) b.heads.items };
+    ghost invariant = { λ b. All (IsWithin b.values.items) b.headers.items };
 }
 
 impl Batch {
@@ -44,7 +44,7 @@ impl Batch {
         ensures { result ≡ [] }
     {
         Batch {
-            heads: Vec::new(alloc),
+            headers: Vec::new(alloc),
             values: Vec::new(alloc),
         }
     }
@@ -57,7 +57,7 @@ impl Batch {
         let start = self.values.len();
         self.values.extend_from_slice(values)?;
         let end = self.values.len();
-        self.heads.push(Head {
+        self.headers.push(MessageHeader {
             to,
             kind,
             start,
@@ -70,7 +70,7 @@ impl Batch {
     pub fn messages(&self) -> usize
         ensures { result ≡ length self.now }
     {
-        self.heads.len()
+        self.headers.len()
     }
 
     /// The node to which a message goes. The index counts from 0.
@@ -78,7 +78,7 @@ impl Batch {
         requires { i < length self.now }
         ensures { result ≡ (slice_index_or self.now i (record { to = result; kind = 0; values = [] })).to }
     {
-        self.heads[i].to
+        self.headers[i].to
     }
 
     /// The kind of a message.
@@ -86,7 +86,7 @@ impl Batch {
         requires { i < length self.now }
         ensures { result ≡ (slice_index_or self.now i (record { to = 0; kind = result; values = [] })).kind }
     {
-        self.heads[i].kind
+        self.headers[i].kind
     }
 
     /// The values of a message.
@@ -94,7 +94,7 @@ impl Batch {
         requires { i < length self.now }
         ensures { result.now ≡ (slice_index_or self.now i (record { to = 0; kind = 0; values = result.now })).values }
     {
-        let head = self.heads[i];
-        &self.values[head.start..head.end]
+        let header = self.headers[i];
+        &self.values[header.start..header.end]
     }
 }

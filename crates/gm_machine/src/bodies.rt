@@ -5,14 +5,14 @@ ghost use Rattle.gm_value.specs.Numbers.{zero_of};
 ghost use Rattle.gm_graph.specs.Graphs.{HasNode};
 ghost use Rattle.gm_image.specs.Views.{program, handler, line};
 ghost use Rattle.gm_machine.specs.Batches.{IsWithin, message_of};
-ghost use Rattle.gm_machine.specs.Sights.{HasColumns, scene_of, todo_of, work_of, after_line, after_lines, after_behind, direction};
+ghost use Rattle.gm_machine.specs.VertexViews.{HasColumns, context_of, code_of, state_of, after_line, after_lines, after_behind, direction};
 ghost use Rattle.gm_machine.specs.Machine.{block_at};
-ghost use Rattle.gm_machine.specs.Vertex.{Work as AntWork, never_sets, ended, folded, each_after, line_after, lines_after, body_line_after, body_after, begun, handler_lines, handler_run, gathered, vertex_after};
+ghost use Rattle.gm_machine.specs.Vertex.{VertexState as AntState, never_sets, ended, folded, each_after, line_after, lines_after, body_line_after, body_after, begun, handler_lines, handler_run, gathered, vertex_after};
 
-use crate::batches::Head;
-use crate::expressions::Scene;
+use crate::batches::MessageHeader;
+use crate::expressions::VertexContext;
 use crate::faults::{Fault, lesser};
-use crate::lines::{LineEnd, Work, reset, run_line, run_lines, run_turns};
+use crate::lines::{LineEnd, VertexState, reset, run_line, run_lines, run_turns};
 use crate::settling::settle;
 use gm_base::NoMemory;
 use gm_image::{Handler, Image, VertexLine};
@@ -20,22 +20,22 @@ use gm_value::{VType, Value};
 
 /// What a vertex does in a superstep: the handlers of its messages, and then the body.
 #[derive(Clone, Copy)]
-pub(crate) struct Todo<'a> {
+pub(crate) struct BlockCode<'a> {
     pub(crate) handlers: &'a [Handler],
     pub(crate) body: &'a [VertexLine],
 }
 
 /// What a block of an image says. One that the image does not have says nothing.
-pub(crate) fn block_at(image: &Image, block: u32) -> Todo<'_>
-    ensures { todo_of result ≡ block_at (program image.now) block }
+pub(crate) fn block_at(image: &Image, block: u32) -> BlockCode<'_>
+    ensures { code_of result ≡ block_at (program image.now) block }
 {
     let blocks = image.blocks.as_slice();
     match blocks.get(block as usize) {
-        Some(todo) => Todo {
-            handlers: todo.handlers.as_slice(),
-            body: todo.body.as_slice(),
+        Some(code) => BlockCode {
+            handlers: code.handlers.as_slice(),
+            body: code.body.as_slice(),
         },
-        None => Todo {
+        None => BlockCode {
             handlers: &[],
             body: &[],
         },
@@ -44,7 +44,7 @@ pub(crate) fn block_at(image: &Image, block: u32) -> Todo<'_>
 
 // The end of lines that left a fault or so many lines to skip.
 fn ended(fault: Option<Fault>, skip: u32) -> LineEnd
-    ensures { (w : AntWork) → after_line w result ≡ ended w fault skip }
+    ensures { (w : AntState) → after_line w result ≡ ended w fault skip }
 {
     match fault {
         None => LineEnd::Next(skip),
@@ -57,16 +57,16 @@ fn take_folds(
     places: usize,
     fault: Option<Fault>,
     skip: u32,
-    work: &mut Work,
+    state: &mut VertexState,
 ) -> Result<LineEnd, NoMemory>
-    ensures { IfOk result (λ end. after_line (work_of work.new) end
-        ≡ folded places (record { work = work_of work.old; fault = fault; skip = skip })) }
+    ensures { IfOk result (λ end. after_line (state_of state.new) end
+        ≡ folded places (record { state = state_of state.old; fault = fault; skip = skip })) }
 {
-    if work.folds.is_empty() {
+    if state.folds.is_empty() {
         return Ok(ended(fault, skip));
     }
-    let taken = settle(places, &work.folds, &mut work.fields)?;
-    work.folds.clear();
+    let taken = settle(places, &state.folds, &mut state.fields)?;
+    state.folds.clear();
     Ok(ended(lesser(fault, taken), skip))
 }
 
@@ -76,17 +76,17 @@ fn run_each(
     out: bool,
     n: u32,
     rest: &[VertexLine],
-    scene: &Scene,
-    work: &mut Work,
+    context: &VertexContext,
+    state: &mut VertexState,
 ) -> Result<LineEnd, NoMemory>
-    requires columns { HasColumns scene.now.graph.now scene.now.columns }
-    requires node { HasNode scene.now.graph.now scene.now.node }
-    ensures { IfOk result (λ end. after_line (work_of work.new) end
-        ≡ folded places (each_after (scene_of scene.now) (direction out) n (map line rest.now) (work_of work.old))) }
+    requires columns { HasColumns context.now.graph.now context.now.columns }
+    requires node { HasNode context.now.graph.now context.now.node }
+    ensures { IfOk result (λ end. after_line (state_of state.new) end
+        ≡ folded places (each_after (context_of context.now) (direction out) n (map line rest.now) (state_of state.old))) }
 {
     let end = (n as usize).min(rest.len());
-    let fault = run_turns(out, &rest[..end], scene, work)?;
-    let taken = take_folds(places, fault, n, work)?;
+    let fault = run_turns(out, &rest[..end], context, state)?;
+    let taken = take_folds(places, fault, n, state)?;
     Ok(taken)
 }
 
@@ -94,16 +94,16 @@ fn run_each(
 fn run_fold(
     places: usize,
     l: &VertexLine,
-    scene: &Scene,
-    work: &mut Work,
+    context: &VertexContext,
+    state: &mut VertexState,
 ) -> Result<LineEnd, NoMemory>
-    requires { HasColumns scene.now.graph.now scene.now.columns }
-    ensures { IfOk result (λ end. after_line (work_of work.new) end
-        ≡ folded places (line_after (scene_of scene.now) (line l.now) (work_of work.old))) }
+    requires { HasColumns context.now.graph.now context.now.columns }
+    ensures { IfOk result (λ end. after_line (state_of state.new) end
+        ≡ folded places (line_after (context_of context.now) (line l.now) (state_of state.old))) }
 {
-    match run_line(l, scene, work)? {
-        LineEnd::Next(skip) => take_folds(places, None, skip, work),
-        LineEnd::Faulted(f) => take_folds(places, Some(f), 0, work),
+    match run_line(l, context, state)? {
+        LineEnd::Next(skip) => take_folds(places, None, skip, state),
+        LineEnd::Faulted(f) => take_folds(places, Some(f), 0, state),
     }
 }
 
@@ -112,23 +112,23 @@ fn run_body_line(
     places: usize,
     l: &VertexLine,
     rest: &[VertexLine],
-    scene: &Scene,
-    work: &mut Work,
+    context: &VertexContext,
+    state: &mut VertexState,
 ) -> Result<LineEnd, NoMemory>
-    requires columns { HasColumns scene.now.graph.now scene.now.columns }
-    requires node { HasNode scene.now.graph.now scene.now.node }
-    ensures { IfOk result (λ end. after_line (work_of work.new) end
-        ≡ body_line_after places (scene_of scene.now) (line l.now) (map line rest.now) (work_of work.old)) }
+    requires columns { HasColumns context.now.graph.now context.now.columns }
+    requires node { HasNode context.now.graph.now context.now.node }
+    ensures { IfOk result (λ end. after_line (state_of state.new) end
+        ≡ body_line_after places (context_of context.now) (line l.now) (map line rest.now) (state_of state.old)) }
 {
     match l {
-        VertexLine::EachOut(n) => run_each(places, true, *n, rest, scene, work),
-        VertexLine::EachIn(n) => run_each(places, false, *n, rest, scene, work),
-        VertexLine::Fold { .. } => run_fold(places, l, scene, work),
-        VertexLine::SetField(..) => run_line(l, scene, work),
-        VertexLine::SetRegister(..) => run_line(l, scene, work),
-        VertexLine::Put { .. } => run_line(l, scene, work),
-        VertexLine::Send { .. } => run_line(l, scene, work),
-        VertexLine::Skip(..) => run_line(l, scene, work),
+        VertexLine::EachOut(n) => run_each(places, true, *n, rest, context, state),
+        VertexLine::EachIn(n) => run_each(places, false, *n, rest, context, state),
+        VertexLine::Fold { .. } => run_fold(places, l, context, state),
+        VertexLine::SetField(..) => run_line(l, context, state),
+        VertexLine::SetRegister(..) => run_line(l, context, state),
+        VertexLine::Put { .. } => run_line(l, context, state),
+        VertexLine::Send { .. } => run_line(l, context, state),
+        VertexLine::Skip(..) => run_line(l, context, state),
     }
 }
 
@@ -136,20 +136,20 @@ fn run_body_line(
 fn run_body(
     places: usize,
     body: &[VertexLine],
-    scene: &Scene,
-    work: &mut Work,
+    context: &VertexContext,
+    state: &mut VertexState,
 ) -> Result<Option<Fault>, NoMemory>
-    requires columns { HasColumns scene.now.graph.now scene.now.columns }
-    requires node { HasNode scene.now.graph.now scene.now.node }
-    ensures { IfOk result (λ f. after_lines (work_of work.new) f
-        ≡ body_after places (scene_of scene.now) (map line body.now) 0 (work_of work.old)) }
+    requires columns { HasColumns context.now.graph.now context.now.columns }
+    requires node { HasNode context.now.graph.now context.now.node }
+    ensures { IfOk result (λ f. after_lines (state_of state.new) f
+        ≡ body_after places (context_of context.now) (map line body.now) 0 (state_of state.old)) }
 {
     let mut skip = 0;
     for (i, l) in body.iter().enumerate() {
         if skip > 0 {
             skip -= 1;
         } else {
-            match run_body_line(places, l, &body[i + 1..], scene, work)? {
+            match run_body_line(places, l, &body[i + 1..], context, state)? {
                 LineEnd::Next(k) => skip = k,
                 LineEnd::Faulted(f) => return Ok(Some(f)),
             }
@@ -176,18 +176,21 @@ fn run_handler(
     registers: &[VType],
     kind: u32,
     message: &[Value],
-    scene: &Scene,
-    work: &mut Work,
+    context: &VertexContext,
+    state: &mut VertexState,
 ) -> Result<Option<Fault>, NoMemory>
-    requires { HasColumns scene.now.graph.now scene.now.columns }
-    ensures { IfOk result (λ f. after_lines (work_of work.new) f
-        ≡ lines_after (record (scene_of scene.now) { message = message.now }) (handler_lines (map handler handlers.now) kind) 0
-        (record (work_of work.old) { registers = map zero_of registers.now })) }
+    requires { HasColumns context.now.graph.now context.now.columns }
+    ensures { IfOk result (λ f. after_lines (state_of state.new) f
+        ≡ lines_after (record (context_of context.now) { message = message.now }) (handler_lines (map handler handlers.now) kind) 0
+        (record (state_of state.old) { registers = map zero_of registers.now })) }
 {
-    reset(&mut work.registers, registers)?;
+    reset(&mut state.registers, registers)?;
     let lines = lines_for(handlers, kind);
-    let here = Scene { message, ..*scene };
-    let fault = run_lines(lines, &here, work)?;
+    let here = VertexContext {
+        message,
+        ..*context
+    };
+    let fault = run_lines(lines, &here, state)?;
     Ok(fault)
 }
 
@@ -196,28 +199,28 @@ fn run_handler(
 fn run_handlers(
     handlers: &[Handler],
     registers: &[VType],
-    heads: &[Head],
+    headers: &[MessageHeader],
     values: &[Value],
-    scene: &Scene,
-    work: &mut Work,
+    context: &VertexContext,
+    state: &mut VertexState,
 ) -> Result<Option<Fault>, NoMemory>
-    requires columns { HasColumns scene.now.graph.now scene.now.columns }
+    requires columns { HasColumns context.now.graph.now context.now.columns }
     requires keeps { (kind : ℕ) → never_sets (handler_lines (map handler handlers.now) kind) ≡ true }
-    requires within { All (IsWithin values.now) heads.now }
-    requires no_folds { work.old.folds.items ≡ [] }
-    ensures { IfOk result (λ f. after_lines (work_of work.new) f
-        ≡ after_behind work.old.messages work.old.puts.items []
-        (gathered (begun registers.now work.old.fields.items)
-        (map (handler_run (scene_of scene.now) (map handler handlers.now) (begun registers.now work.old.fields.items))
-        (map (message_of values.now) heads.now)))) }
+    requires within { All (IsWithin values.now) headers.now }
+    requires no_folds { state.old.folds.items ≡ [] }
+    ensures { IfOk result (λ f. after_lines (state_of state.new) f
+        ≡ after_behind state.old.messages state.old.puts.items []
+        (gathered (begun registers.now state.old.fields.items)
+        (map (handler_run (context_of context.now) (map handler handlers.now) (begun registers.now state.old.fields.items))
+        (map (message_of values.now) headers.now)))) }
 {
     let mut fault = None;
-    for head in heads {
-        let message = &values[head.start..head.end];
-        let one = run_handler(handlers, registers, head.kind, message, scene, work)?;
+    for header in headers {
+        let message = &values[header.start..header.end];
+        let one = run_handler(handlers, registers, header.kind, message, context, state)?;
         fault = lesser(fault, one);
     }
-    reset(&mut work.registers, registers)?;
+    reset(&mut state.registers, registers)?;
     Ok(fault)
 }
 
@@ -225,29 +228,29 @@ fn run_handlers(
 /// puts comes behind what was sent and put before.
 pub(crate) fn run_vertex(
     image: &Image,
-    todo: Todo,
-    heads: &[Head],
+    code: BlockCode,
+    headers: &[MessageHeader],
     values: &[Value],
-    scene: &Scene,
-    work: &mut Work,
+    context: &VertexContext,
+    state: &mut VertexState,
 ) -> Result<Option<Fault>, NoMemory>
-    requires columns { HasColumns scene.now.graph.now scene.now.columns }
-    requires node { HasNode scene.now.graph.now scene.now.node }
-    requires keeps { (kind : ℕ) → never_sets (handler_lines (todo_of todo).handlers kind) ≡ true }
-    requires within { All (IsWithin values.now) heads.now }
-    ensures { IfOk result (λ f. after_lines (work_of work.new) f
-        ≡ after_behind work.old.messages work.old.puts.items []
-        (vertex_after (program image.now) (todo_of todo.entry) (scene_of scene.now) (map (message_of values.now) heads.now) work.old.fields.items)) }
+    requires columns { HasColumns context.now.graph.now context.now.columns }
+    requires node { HasNode context.now.graph.now context.now.node }
+    requires keeps { (kind : ℕ) → never_sets (handler_lines (code_of code).handlers kind) ≡ true }
+    requires within { All (IsWithin values.now) headers.now }
+    ensures { IfOk result (λ f. after_lines (state_of state.new) f
+        ≡ after_behind state.old.messages state.old.puts.items []
+        (vertex_after (program image.now) (code_of code.entry) (context_of context.now) (map (message_of values.now) headers.now) state.old.fields.items)) }
 {
     let places = image.places.len();
     let registers = image.registers.as_slice();
-    work.folds.clear();
-    let handled = run_handlers(todo.handlers, registers, heads, values, scene, work)?;
-    let end = take_folds(places, handled, 0, work)?;
+    state.folds.clear();
+    let handled = run_handlers(code.handlers, registers, headers, values, context, state)?;
+    let end = take_folds(places, handled, 0, state)?;
     match end {
         LineEnd::Faulted(f) => Ok(Some(f)),
         LineEnd::Next(_) => {
-            let fault = run_body(places, todo.body, scene, work)?;
+            let fault = run_body(places, code.body, context, state)?;
             Ok(fault)
         }
     }

@@ -10,7 +10,7 @@ ghost use Rattle.gm_image.specs.Term.{NodeAt, Live, And, Or, Choose};
 ghost use Rattle.gm_machine.specs.Faults.{at_place};
 ghost use Rattle.gm_machine.specs.Expressions.{value, value_at, edge_value_at, node_with, live, unary_value, binary_value};
 ghost use Rattle.gm_machine.specs.Vertex.{view_with};
-ghost use Rattle.gm_machine.specs.Sights.{HasColumns, scene_of};
+ghost use Rattle.gm_machine.specs.VertexViews.{HasColumns, context_of};
 
 use crate::faults::Fault;
 use gm_graph::Graph;
@@ -20,7 +20,7 @@ use gm_value::{FaultKind, Op1, Op2, Value, apply1, apply2};
 /// What an expression sees and a vertex does not change: a graph with so many edge columns, globals, a node, in a
 /// handler the values of the message, and in an each the neighbour and the edge.
 #[derive(Clone, Copy)]
-pub(crate) struct Scene<'a> {
+pub(crate) struct VertexContext<'a> {
     pub(crate) graph: &'a Graph,
     pub(crate) columns: usize,
     pub(crate) globals: &'a [Value],
@@ -158,8 +158,8 @@ fn applied(op: Op2, place: u32, x: Value, y: Value) -> Result<Value, Fault>
 /// The value of an expression that is one of the leaves in which most expressions end. It is answered where it is asked
 /// for, without a call.
 #[inline(always)]
-fn leaf(e: &Expr, s: &Scene, fields: &[Value], registers: &[Value]) -> Option<Value>
-    ensures { IfSome result (λ v. value (view_with (scene_of s.now) fields.now registers.now) (term e.now) ≡ Ok v) }
+fn leaf(e: &Expr, s: &VertexContext, fields: &[Value], registers: &[Value]) -> Option<Value>
+    ensures { IfSome result (λ v. value (view_with (context_of s.now) fields.now registers.now) (term e.now) ≡ Ok v) }
 {
     match e {
         Expr::Const(v) => Some(*v),
@@ -178,12 +178,12 @@ fn unary(
     op: Op1,
     place: u32,
     a: &Expr,
-    s: &Scene,
+    s: &VertexContext,
     fields: &[Value],
     registers: &[Value],
 ) -> Result<Value, Fault>
     requires { HasColumns s.now.graph.now s.now.columns }
-    ensures { result ≡ unary_value op place (value (view_with (scene_of s.now) fields.now registers.now) (term a.now)) }
+    ensures { result ≡ unary_value op place (value (view_with (context_of s.now) fields.now registers.now) (term a.now)) }
 {
     match evaluate(a, s, fields, registers) {
         Ok(x) => at_place(place, apply1(op, x)),
@@ -198,13 +198,13 @@ fn binary(
     place: u32,
     a: &Expr,
     b: &Expr,
-    s: &Scene,
+    s: &VertexContext,
     fields: &[Value],
     registers: &[Value],
 ) -> Result<Value, Fault>
     requires { HasColumns s.now.graph.now s.now.columns }
-    ensures { result ≡ binary_value op place (value (view_with (scene_of s.now) fields.now registers.now) (term a.now))
-        (value (view_with (scene_of s.now) fields.now registers.now) (term b.now)) }
+    ensures { result ≡ binary_value op place (value (view_with (context_of s.now) fields.now registers.now) (term a.now))
+        (value (view_with (context_of s.now) fields.now registers.now) (term b.now)) }
 {
     if let (Some(x), Some(y)) = (leaf(a, s, fields, registers), leaf(b, s, fields, registers)) {
         return applied(op, place, x, y);
@@ -221,9 +221,14 @@ fn binary(
 
 // The node with the index that an expression gives.
 #[cycle(evaluation)]
-fn node_at(a: &Expr, s: &Scene, fields: &[Value], registers: &[Value]) -> Result<Value, Fault>
+fn node_at(
+    a: &Expr,
+    s: &VertexContext,
+    fields: &[Value],
+    registers: &[Value],
+) -> Result<Value, Fault>
     requires { HasColumns s.now.graph.now s.now.columns }
-    ensures { result ≡ value (view_with (scene_of s.now) fields.now registers.now) (NodeAt (term a.now)) }
+    ensures { result ≡ value (view_with (context_of s.now) fields.now registers.now) (NodeAt (term a.now)) }
 {
     match evaluate(a, s, fields, registers) {
         Ok(v) => Ok(node_with(s.graph, v)),
@@ -236,12 +241,12 @@ fn node_at(a: &Expr, s: &Scene, fields: &[Value], registers: &[Value]) -> Result
 fn live_at(
     place: u32,
     a: &Expr,
-    s: &Scene,
+    s: &VertexContext,
     fields: &[Value],
     registers: &[Value],
 ) -> Result<Value, Fault>
     requires { HasColumns s.now.graph.now s.now.columns }
-    ensures { result ≡ value (view_with (scene_of s.now) fields.now registers.now) (Live place (term a.now)) }
+    ensures { result ≡ value (view_with (context_of s.now) fields.now registers.now) (Live place (term a.now)) }
 {
     match evaluate(a, s, fields, registers) {
         Ok(v) => live(place, v),
@@ -254,12 +259,12 @@ fn live_at(
 fn both(
     a: &Expr,
     b: &Expr,
-    s: &Scene,
+    s: &VertexContext,
     fields: &[Value],
     registers: &[Value],
 ) -> Result<Value, Fault>
     requires { HasColumns s.now.graph.now s.now.columns }
-    ensures { result ≡ value (view_with (scene_of s.now) fields.now registers.now) (And (term a.now) (term b.now)) }
+    ensures { result ≡ value (view_with (context_of s.now) fields.now registers.now) (And (term a.now) (term b.now)) }
 {
     match evaluate(a, s, fields, registers) {
         Ok(x) if holds(x) => evaluate(b, s, fields, registers),
@@ -271,12 +276,12 @@ fn both(
 fn either(
     a: &Expr,
     b: &Expr,
-    s: &Scene,
+    s: &VertexContext,
     fields: &[Value],
     registers: &[Value],
 ) -> Result<Value, Fault>
     requires { HasColumns s.now.graph.now s.now.columns }
-    ensures { result ≡ value (view_with (scene_of s.now) fields.now registers.now) (Or (term a.now) (term b.now)) }
+    ensures { result ≡ value (view_with (context_of s.now) fields.now registers.now) (Or (term a.now) (term b.now)) }
 {
     match evaluate(a, s, fields, registers) {
         Ok(x) if !holds(x) => evaluate(b, s, fields, registers),
@@ -290,12 +295,12 @@ fn choose(
     c: &Expr,
     a: &Expr,
     b: &Expr,
-    s: &Scene,
+    s: &VertexContext,
     fields: &[Value],
     registers: &[Value],
 ) -> Result<Value, Fault>
     requires { HasColumns s.now.graph.now s.now.columns }
-    ensures { result ≡ value (view_with (scene_of s.now) fields.now registers.now) (Choose (term c.now) (term a.now) (term b.now)) }
+    ensures { result ≡ value (view_with (context_of s.now) fields.now registers.now) (Choose (term c.now) (term a.now) (term b.now)) }
 {
     match evaluate(c, s, fields, registers) {
         Ok(x) if holds(x) => evaluate(a, s, fields, registers),
@@ -307,9 +312,14 @@ fn choose(
 // The value of an expression by its shape. It stands apart from the leaves, which are answered where they are asked for.
 #[cycle(evaluation)]
 #[inline(never)]
-fn by_shape(e: &Expr, s: &Scene, fields: &[Value], registers: &[Value]) -> Result<Value, Fault>
+fn by_shape(
+    e: &Expr,
+    s: &VertexContext,
+    fields: &[Value],
+    registers: &[Value],
+) -> Result<Value, Fault>
     requires { HasColumns s.now.graph.now s.now.columns }
-    ensures { result ≡ value (view_with (scene_of s.now) fields.now registers.now) (term e.now) }
+    ensures { result ≡ value (view_with (context_of s.now) fields.now registers.now) (term e.now) }
 {
     match e {
         Expr::Const(v) => Ok(*v),
@@ -353,12 +363,12 @@ fn by_shape(e: &Expr, s: &Scene, fields: &[Value], registers: &[Value]) -> Resul
 #[inline(always)]
 pub(crate) fn evaluate(
     e: &Expr,
-    s: &Scene,
+    s: &VertexContext,
     fields: &[Value],
     registers: &[Value],
 ) -> Result<Value, Fault>
     requires { HasColumns s.now.graph.now s.now.columns }
-    ensures { result ≡ value (view_with (scene_of s.now) fields.now registers.now) (term e.now) }
+    ensures { result ≡ value (view_with (context_of s.now) fields.now registers.now) (term e.now) }
 {
     match leaf(e, s, fields, registers) {
         Some(v) => Ok(v),

@@ -23,7 +23,9 @@ mod supersteps;
 pub use batches::Batch;
 pub use contributions::Contribution;
 pub use faults::Fault;
-pub use laws::inboxes_have_no_order;
+pub use laws::{
+    inboxes_have_no_order, puts_have_no_order, states_reach_the_end, totals_stand_for_messages,
+};
 pub use masters::{Master, MasterStop, master_run};
 pub use notes::StepNote;
 pub use runs::{run_noted, run_one};

@@ -6,12 +6,12 @@ ghost use Rattle.gm_graph.specs.Graphs.{HasNode};
 ghost use Rattle.gm_image.specs.Views.{term, line, target};
 ghost use Rattle.gm_image.specs.Program.{SetField, Fold, SetRegister, Put, Send, Skip};
 ghost use Rattle.gm_machine.specs.Expressions.{value, values};
-ghost use Rattle.gm_machine.specs.Sights.{HasColumns, scene_of, work_of, after_line, after_lines, direction, answered};
+ghost use Rattle.gm_machine.specs.VertexViews.{HasColumns, context_of, state_of, after_line, after_lines, direction, answered};
 ghost use Rattle.gm_machine.specs.Vertex.{view, view_with, line_ends, leaves, gives, messages_to, line_after, lines_after, turns_after, steps};
 
 use crate::batches::Batch;
 use crate::contributions::Contribution;
-use crate::expressions::{Scene, evaluate, holds};
+use crate::expressions::{VertexContext, evaluate, holds};
 use crate::faults::{Fault, lesser};
 use gm_base::NoMemory;
 use gm_graph::Graph;
@@ -21,7 +21,7 @@ use gm_value::{Reduce, VType, Value};
 /// What a vertex changes: its fields and registers, what it has sent and put, and the folds that are not yet taken.
 /// The rows `found` and `given` are room for the values of one line.
 #[derive(Drop)]
-pub(crate) struct Work {
+pub(crate) struct VertexState {
     pub(crate) fields: Vec<Value>,
     pub(crate) registers: Vec<Value>,
     pub(crate) messages: Batch,
@@ -41,13 +41,13 @@ pub(crate) enum LineEnd {
 // Puts the values of expressions into a row, left to right, up to the first fault.
 fn evaluate_all(
     terms: &[Expr],
-    s: &Scene,
+    s: &VertexContext,
     fields: &[Value],
     registers: &[Value],
     found: &mut Vec<Value>,
 ) -> Result<Option<Fault>, NoMemory>
     requires { HasColumns s.now.graph.now s.now.columns }
-    ensures { IfOk result (λ f. answered f found.new.items ≡ values (view_with (scene_of s.now) fields.now registers.now) (map term terms.now)) }
+    ensures { IfOk result (λ f. answered f found.new.items ≡ values (view_with (context_of s.now) fields.now registers.now) (map term terms.now)) }
 {
     found.clear();
     for e in terms {
@@ -64,14 +64,14 @@ fn evaluate_targets(
     reduce: Reduce,
     place: u32,
     targets: &[(u32, Expr)],
-    s: &Scene,
+    s: &VertexContext,
     fields: &[Value],
     registers: &[Value],
     given: &mut Vec<Contribution>,
 ) -> Result<Option<Fault>, NoMemory>
     requires { HasColumns s.now.graph.now s.now.columns }
     ensures { IfOk result (λ f. answered f given.new.items
-        ≡ gives (view_with (scene_of s.now) fields.now registers.now) reduce place (map target targets.now)) }
+        ≡ gives (view_with (context_of s.now) fields.now registers.now) reduce place (map target targets.now)) }
 {
     given.clear();
     for t in targets {
@@ -98,26 +98,31 @@ pub(crate) fn write(values: &mut Vec<Value>, i: u32, v: Value)
     }
 }
 
-fn set_field(field: u32, a: &Expr, scene: &Scene, work: &mut Work) -> LineEnd
-    requires { HasColumns scene.now.graph.now scene.now.columns }
-    ensures { after_line (work_of work.new) result ≡ line_after (scene_of scene.now) (SetField field (term a.now)) (work_of work.old) }
+fn set_field(field: u32, a: &Expr, context: &VertexContext, state: &mut VertexState) -> LineEnd
+    requires { HasColumns context.now.graph.now context.now.columns }
+    ensures { after_line (state_of state.new) result ≡ line_after (context_of context.now) (SetField field (term a.now)) (state_of state.old) }
 {
-    match evaluate(a, scene, &work.fields, &work.registers) {
+    match evaluate(a, context, &state.fields, &state.registers) {
         Ok(v) => {
-            write(&mut work.fields, field, v);
+            write(&mut state.fields, field, v);
             LineEnd::Next(0)
         }
         Err(f) => LineEnd::Faulted(f),
     }
 }
 
-fn set_register(register: u32, a: &Expr, scene: &Scene, work: &mut Work) -> LineEnd
-    requires { HasColumns scene.now.graph.now scene.now.columns }
-    ensures { after_line (work_of work.new) result ≡ line_after (scene_of scene.now) (SetRegister register (term a.now)) (work_of work.old) }
+fn set_register(
+    register: u32,
+    a: &Expr,
+    context: &VertexContext,
+    state: &mut VertexState,
+) -> LineEnd
+    requires { HasColumns context.now.graph.now context.now.columns }
+    ensures { after_line (state_of state.new) result ≡ line_after (context_of context.now) (SetRegister register (term a.now)) (state_of state.old) }
 {
-    match evaluate(a, scene, &work.fields, &work.registers) {
+    match evaluate(a, context, &state.fields, &state.registers) {
         Ok(v) => {
-            write(&mut work.registers, register, v);
+            write(&mut state.registers, register, v);
             LineEnd::Next(0)
         }
         Err(f) => LineEnd::Faulted(f),
@@ -129,16 +134,16 @@ fn fold_one(
     reduce: Reduce,
     place: u32,
     t: &(u32, Expr),
-    scene: &Scene,
-    work: &mut Work,
+    context: &VertexContext,
+    state: &mut VertexState,
 ) -> Result<LineEnd, NoMemory>
-    requires { HasColumns scene.now.graph.now scene.now.columns }
-    ensures { IfOk result (λ end. after_line (work_of work.new) end
-        ≡ line_after (scene_of scene.now) (Fold reduce place (target t.now ∷ [])) (work_of work.old)) }
+    requires { HasColumns context.now.graph.now context.now.columns }
+    ensures { IfOk result (λ end. after_line (state_of state.new) end
+        ≡ line_after (context_of context.now) (Fold reduce place (target t.now ∷ [])) (state_of state.old)) }
 {
-    match evaluate(&t.1, scene, &work.fields, &work.registers) {
+    match evaluate(&t.1, context, &state.fields, &state.registers) {
         Ok(value) => {
-            work.folds.push(Contribution {
+            state.folds.push(Contribution {
                 place,
                 reduce,
                 slot: t.0,
@@ -154,27 +159,27 @@ fn fold(
     reduce: Reduce,
     place: u32,
     targets: &[(u32, Expr)],
-    scene: &Scene,
-    work: &mut Work,
+    context: &VertexContext,
+    state: &mut VertexState,
 ) -> Result<LineEnd, NoMemory>
-    requires { HasColumns scene.now.graph.now scene.now.columns }
-    ensures { IfOk result (λ end. after_line (work_of work.new) end
-        ≡ line_after (scene_of scene.now) (Fold reduce place (map target targets.now)) (work_of work.old)) }
+    requires { HasColumns context.now.graph.now context.now.columns }
+    ensures { IfOk result (λ end. after_line (state_of state.new) end
+        ≡ line_after (context_of context.now) (Fold reduce place (map target targets.now)) (state_of state.old)) }
 {
     if let [only] = targets {
-        return fold_one(reduce, place, only, scene, work);
+        return fold_one(reduce, place, only, context, state);
     }
     match evaluate_targets(
         reduce,
         place,
         targets,
-        scene,
-        &work.fields,
-        &work.registers,
-        &mut work.given,
+        context,
+        &state.fields,
+        &state.registers,
+        &mut state.given,
     )? {
         None => {
-            work.folds.extend_from_slice(&work.given)?;
+            state.folds.extend_from_slice(&state.given)?;
             Ok(LineEnd::Next(0))
         }
         Some(f) => Ok(LineEnd::Faulted(f)),
@@ -186,16 +191,16 @@ fn put_one(
     reduce: Reduce,
     place: u32,
     t: &(u32, Expr),
-    scene: &Scene,
-    work: &mut Work,
+    context: &VertexContext,
+    state: &mut VertexState,
 ) -> Result<LineEnd, NoMemory>
-    requires { HasColumns scene.now.graph.now scene.now.columns }
-    ensures { IfOk result (λ end. after_line (work_of work.new) end
-        ≡ line_after (scene_of scene.now) (Put reduce place (target t.now ∷ [])) (work_of work.old)) }
+    requires { HasColumns context.now.graph.now context.now.columns }
+    ensures { IfOk result (λ end. after_line (state_of state.new) end
+        ≡ line_after (context_of context.now) (Put reduce place (target t.now ∷ [])) (state_of state.old)) }
 {
-    match evaluate(&t.1, scene, &work.fields, &work.registers) {
+    match evaluate(&t.1, context, &state.fields, &state.registers) {
         Ok(value) => {
-            work.puts.push(Contribution {
+            state.puts.push(Contribution {
                 place,
                 reduce,
                 slot: t.0,
@@ -211,27 +216,27 @@ fn put(
     reduce: Reduce,
     place: u32,
     targets: &[(u32, Expr)],
-    scene: &Scene,
-    work: &mut Work,
+    context: &VertexContext,
+    state: &mut VertexState,
 ) -> Result<LineEnd, NoMemory>
-    requires { HasColumns scene.now.graph.now scene.now.columns }
-    ensures { IfOk result (λ end. after_line (work_of work.new) end
-        ≡ line_after (scene_of scene.now) (Put reduce place (map target targets.now)) (work_of work.old)) }
+    requires { HasColumns context.now.graph.now context.now.columns }
+    ensures { IfOk result (λ end. after_line (state_of state.new) end
+        ≡ line_after (context_of context.now) (Put reduce place (map target targets.now)) (state_of state.old)) }
 {
     if let [only] = targets {
-        return put_one(reduce, place, only, scene, work);
+        return put_one(reduce, place, only, context, state);
     }
     match evaluate_targets(
         reduce,
         place,
         targets,
-        scene,
-        &work.fields,
-        &work.registers,
-        &mut work.given,
+        context,
+        &state.fields,
+        &state.registers,
+        &mut state.given,
     )? {
         None => {
-            work.puts.extend_from_slice(&work.given)?;
+            state.puts.extend_from_slice(&state.given)?;
             Ok(LineEnd::Next(0))
         }
         Some(f) => Ok(LineEnd::Faulted(f)),
@@ -253,17 +258,17 @@ fn send_one(
     target: Value,
     kind: u32,
     a: &Expr,
-    scene: &Scene,
-    work: &mut Work,
+    context: &VertexContext,
+    state: &mut VertexState,
 ) -> Result<LineEnd, NoMemory>
-    requires { HasColumns scene.now.graph.now scene.now.columns }
-    ensures { IfOk result (λ end. after_line (work_of work.new) end
-        ≡ line_ends (work_of work.old) (value (view (scene_of scene.now) (work_of work.old)) (term a.now)) (λ v.
-        leaves (record (work_of work.old) { messages = work.old.messages ++ messages_to target kind (v ∷ []) }))) }
+    requires { HasColumns context.now.graph.now context.now.columns }
+    ensures { IfOk result (λ end. after_line (state_of state.new) end
+        ≡ line_ends (state_of state.old) (value (view (context_of context.now) (state_of state.old)) (term a.now)) (λ v.
+        leaves (record (state_of state.old) { messages = state.old.messages ++ messages_to target kind (v ∷ []) }))) }
 {
-    match evaluate(a, scene, &work.fields, &work.registers) {
+    match evaluate(a, context, &state.fields, &state.registers) {
         Ok(v) => {
-            send_to(target, kind, &[v], &mut work.messages)?;
+            send_to(target, kind, &[v], &mut state.messages)?;
             Ok(LineEnd::Next(0))
         }
         Err(f) => Ok(LineEnd::Faulted(f)),
@@ -274,65 +279,69 @@ fn send(
     kind: u32,
     to: &Expr,
     values: &[Expr],
-    scene: &Scene,
-    work: &mut Work,
+    context: &VertexContext,
+    state: &mut VertexState,
 ) -> Result<LineEnd, NoMemory>
-    requires { HasColumns scene.now.graph.now scene.now.columns }
-    ensures { IfOk result (λ end. after_line (work_of work.new) end
-        ≡ line_after (scene_of scene.now) (Send kind (term to.now) (map term values.now)) (work_of work.old)) }
+    requires { HasColumns context.now.graph.now context.now.columns }
+    ensures { IfOk result (λ end. after_line (state_of state.new) end
+        ≡ line_after (context_of context.now) (Send kind (term to.now) (map term values.now)) (state_of state.old)) }
 {
-    let target = match evaluate(to, scene, &work.fields, &work.registers) {
+    let target = match evaluate(to, context, &state.fields, &state.registers) {
         Ok(target) => target,
         Err(f) => return Ok(LineEnd::Faulted(f)),
     };
     if let [only] = values {
-        return send_one(target, kind, only, scene, work);
+        return send_one(target, kind, only, context, state);
     }
     match evaluate_all(
         values,
-        scene,
-        &work.fields,
-        &work.registers,
-        &mut work.found,
+        context,
+        &state.fields,
+        &state.registers,
+        &mut state.found,
     )? {
         None => {
-            send_to(target, kind, &work.found, &mut work.messages)?;
+            send_to(target, kind, &state.found, &mut state.messages)?;
             Ok(LineEnd::Next(0))
         }
         Some(f) => Ok(LineEnd::Faulted(f)),
     }
 }
 
-fn skip(n: u32, a: &Expr, scene: &Scene, work: &Work) -> LineEnd
-    requires { HasColumns scene.now.graph.now scene.now.columns }
-    ensures { after_line (work_of work.now) result ≡ line_after (scene_of scene.now) (Skip n (term a.now)) (work_of work.now) }
+fn skip(n: u32, a: &Expr, context: &VertexContext, state: &VertexState) -> LineEnd
+    requires { HasColumns context.now.graph.now context.now.columns }
+    ensures { after_line (state_of state.now) result ≡ line_after (context_of context.now) (Skip n (term a.now)) (state_of state.now) }
 {
-    match evaluate(a, scene, &work.fields, &work.registers) {
+    match evaluate(a, context, &state.fields, &state.registers) {
         Ok(v) => LineEnd::Next(if holds(v) { 0 } else { n }),
         Err(f) => LineEnd::Faulted(f),
     }
 }
 
 /// Runs one line that is no each. An each leaves out its lines.
-pub(crate) fn run_line(l: &VertexLine, scene: &Scene, work: &mut Work) -> Result<LineEnd, NoMemory>
-    requires { HasColumns scene.now.graph.now scene.now.columns }
-    ensures { IfOk result (λ end. after_line (work_of work.new) end ≡ line_after (scene_of scene.now) (line l.now) (work_of work.old)) }
+pub(crate) fn run_line(
+    l: &VertexLine,
+    context: &VertexContext,
+    state: &mut VertexState,
+) -> Result<LineEnd, NoMemory>
+    requires { HasColumns context.now.graph.now context.now.columns }
+    ensures { IfOk result (λ end. after_line (state_of state.new) end ≡ line_after (context_of context.now) (line l.now) (state_of state.old)) }
 {
     match l {
-        VertexLine::SetField(f, a) => Ok(set_field(*f, a, scene, work)),
-        VertexLine::SetRegister(r, a) => Ok(set_register(*r, a, scene, work)),
+        VertexLine::SetField(f, a) => Ok(set_field(*f, a, context, state)),
+        VertexLine::SetRegister(r, a) => Ok(set_register(*r, a, context, state)),
         VertexLine::Fold {
             reduce,
             place,
             slots,
-        } => fold(*reduce, *place, slots.as_slice(), scene, work),
+        } => fold(*reduce, *place, slots.as_slice(), context, state),
         VertexLine::Put {
             reduce,
             place,
             slots,
-        } => put(*reduce, *place, slots.as_slice(), scene, work),
-        VertexLine::Send { kind, to, values } => send(*kind, to, values.as_slice(), scene, work),
-        VertexLine::Skip(n, a) => Ok(skip(*n, a, scene, work)),
+        } => put(*reduce, *place, slots.as_slice(), context, state),
+        VertexLine::Send { kind, to, values } => send(*kind, to, values.as_slice(), context, state),
+        VertexLine::Skip(n, a) => Ok(skip(*n, a, context, state)),
         VertexLine::EachOut(n) => Ok(LineEnd::Next(*n)),
         VertexLine::EachIn(n) => Ok(LineEnd::Next(*n)),
     }
@@ -341,18 +350,18 @@ pub(crate) fn run_line(l: &VertexLine, scene: &Scene, work: &mut Work) -> Result
 /// Runs lines without an each, to their end or their first fault.
 pub(crate) fn run_lines(
     lines: &[VertexLine],
-    scene: &Scene,
-    work: &mut Work,
+    context: &VertexContext,
+    state: &mut VertexState,
 ) -> Result<Option<Fault>, NoMemory>
-    requires { HasColumns scene.now.graph.now scene.now.columns }
-    ensures { IfOk result (λ f. after_lines (work_of work.new) f ≡ lines_after (scene_of scene.now) (map line lines.now) 0 (work_of work.old)) }
+    requires { HasColumns context.now.graph.now context.now.columns }
+    ensures { IfOk result (λ f. after_lines (state_of state.new) f ≡ lines_after (context_of context.now) (map line lines.now) 0 (state_of state.old)) }
 {
     let mut skip = 0;
     for l in lines {
         if skip > 0 {
             skip -= 1;
         } else {
-            match run_line(l, scene, work)? {
+            match run_line(l, context, state)? {
                 LineEnd::Next(k) => skip = k,
                 LineEnd::Faulted(f) => return Ok(Some(f)),
             }
@@ -391,23 +400,23 @@ fn step_at(graph: &Graph, out: bool, node: u32, k: u32) -> (u32, u32)
 pub(crate) fn run_turns(
     out: bool,
     lines: &[VertexLine],
-    scene: &Scene,
-    work: &mut Work,
+    context: &VertexContext,
+    state: &mut VertexState,
 ) -> Result<Option<Fault>, NoMemory>
-    requires columns { HasColumns scene.now.graph.now scene.now.columns }
-    requires node { HasNode scene.now.graph.now scene.now.node }
-    ensures { IfOk result (λ f. after_lines (work_of work.new) f
-        ≡ turns_after (scene_of scene.now) (map line lines.now) (steps (direction out) scene.now.graph.now scene.now.node) (work_of work.old) None) }
+    requires columns { HasColumns context.now.graph.now context.now.columns }
+    requires node { HasNode context.now.graph.now context.now.node }
+    ensures { IfOk result (λ f. after_lines (state_of state.new) f
+        ≡ turns_after (context_of context.now) (map line lines.now) (steps (direction out) context.now.graph.now context.now.node) (state_of state.old) None) }
 {
     let mut fault = None;
-    for k in 0..degree(scene.graph, out, scene.node) {
-        let (neighbour, edge) = step_at(scene.graph, out, scene.node, k);
-        let turn = Scene {
+    for k in 0..degree(context.graph, out, context.node) {
+        let (neighbour, edge) = step_at(context.graph, out, context.node, k);
+        let turn = VertexContext {
             neighbour,
             edge,
-            ..*scene
+            ..*context
         };
-        let one = run_lines(lines, &turn, work)?;
+        let one = run_lines(lines, &turn, state)?;
         fault = lesser(fault, one);
     }
     Ok(fault)

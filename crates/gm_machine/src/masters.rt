@@ -5,11 +5,11 @@ ghost use Rattle.gm_image.specs.Program.{Test, Back};
 ghost use Rattle.gm_image.specs.Views.{program, command, input, term};
 ghost use Rattle.gm_machine.specs.Expressions.{value};
 ghost use Rattle.gm_machine.specs.Vertex.{view_with};
-ghost use Rattle.gm_machine.specs.Sights.{HasColumns, scene_of};
-ghost use Rattle.gm_machine.specs.Machine.{leg, pause, master_view, set_after, at_head, command_after, scalars, with_inputs, start_control};
-ghost use Rattle.gm_machine.specs.Masters.{leg_of, lead_of, pause_of, control, control_of, FitsGraph, IsNearer};
+ghost use Rattle.gm_machine.specs.VertexViews.{HasColumns, context_of};
+ghost use Rattle.gm_machine.specs.Machine.{segment, pause, master_view, set_after, at_head, command_after, scalars, with_inputs, start_control};
+ghost use Rattle.gm_machine.specs.Masters.{segment_of, lead_of, pause_of, control, control_of, FitsGraph, IsNearer};
 
-use crate::expressions::{Scene, evaluate, holds};
+use crate::expressions::{VertexContext, evaluate, holds};
 use crate::faults::Fault;
 use crate::lines::{reset, write};
 use gm_base::NoMemory;
@@ -19,12 +19,12 @@ use gm_value::Value;
 use std::alloc::Global;
 
 // What an expression of the master list sees.
-fn master_scene<'a>(graph: &'a Graph, columns: usize, globals: &'a [Value]) -> Scene<'a>
+fn master_context<'a>(graph: &'a Graph, columns: usize, globals: &'a [Value]) -> VertexContext<'a>
     ensures graph { result.graph.now ≡ graph.now }
     ensures columns { result.columns ≡ columns }
-    ensures view { view_with (scene_of result) [] [] ≡ master_view graph.now globals.now }
+    ensures view { view_with (context_of result) [] [] ≡ master_view graph.now globals.now }
 {
-    Scene {
+    VertexContext {
         graph,
         columns,
         globals,
@@ -40,8 +40,8 @@ fn master_value(list: &MasterList, globals: &Vec<Value>, a: &Expr) -> Result<Val
     requires { HasColumns list.now.graph.now list.now.columns }
     ensures { result ≡ value (master_view list.now.graph.now globals.now.items) (term a.now) }
 {
-    let scene = master_scene(list.graph, list.columns, globals);
-    evaluate(a, &scene, &[], &[])
+    let context = master_context(list.graph, list.columns, globals);
+    evaluate(a, &context, &[], &[])
 }
 
 /// Where a master line leads: on, with the next lines skipped, to a superstep with a block, to a line where a turn
@@ -58,7 +58,7 @@ enum Lead {
 /// How a part of the master list's run ends: at its end, at a superstep with a block, or where a turn begins, each
 /// with the line that comes next.
 #[derive(Clone, Copy)]
-enum Leg {
+enum MasterSegment {
     Ended,
     Faulted(Fault),
     Step(u32, usize),
@@ -163,10 +163,10 @@ fn run_command(list: &MasterList, next: usize, m: &MasterLine, globals: &mut Vec
 }
 
 // Runs the master list from a line on, as far as the next superstep or turn.
-fn run_leg(image: &Image, graph: &Graph, globals: &mut Vec<Value>, line: usize) -> Leg
+fn run_segment(image: &Image, graph: &Graph, globals: &mut Vec<Value>, line: usize) -> MasterSegment
     requires { FitsGraph image.now graph.now }
-    ensures { (turns : ℕ) → leg_of result (control globals.new.items turns)
-        ≡ leg (program image.now) graph.now line (control globals.old.items turns) }
+    ensures { (turns : ℕ) → segment_of result (control globals.new.items turns)
+        ≡ segment (program image.now) graph.now line (control globals.old.items turns) }
 {
     let list = MasterList {
         lines: image.master.as_slice(),
@@ -180,14 +180,14 @@ fn run_leg(image: &Image, graph: &Graph, globals: &mut Vec<Value>, line: usize) 
         } else {
             match run_command(&list, i + 1, m, globals) {
                 Lead::On(k) => skip = k,
-                Lead::Step(q) => return Leg::Step(q, i + 1),
-                Lead::Turn(below) => return Leg::Turn(below),
-                Lead::Ended => return Leg::Ended,
-                Lead::Faulted(f) => return Leg::Faulted(f),
+                Lead::Step(q) => return MasterSegment::Step(q, i + 1),
+                Lead::Turn(below) => return MasterSegment::Turn(below),
+                Lead::Ended => return MasterSegment::Ended,
+                Lead::Faulted(f) => return MasterSegment::Faulted(f),
             }
         }
     }
-    Leg::Ended
+    MasterSegment::Ended
 }
 
 /// The state of the master list's run: the globals, the line that comes next, the turns that were counted, and their
@@ -264,20 +264,20 @@ pub fn master_run(image: &Image, graph: &Graph, master: &mut Master) -> MasterSt
     ensures nearer { IsNearer (length image.now.master) result master.old master.new }
 {
     'turns: loop {
-        match run_leg(image, graph, &mut master.globals, master.line) {
-            Leg::Turn(line) => {
+        match run_segment(image, graph, &mut master.globals, master.line) {
+            MasterSegment::Turn(line) => {
                 if master.turns == master.bound {
                     return MasterStop::Cut;
                 }
                 master.turns += 1;
                 master.line = line;
             }
-            Leg::Step(q, line) => {
+            MasterSegment::Step(q, line) => {
                 master.line = line;
                 return MasterStop::Step(q);
             }
-            Leg::Ended => return MasterStop::Ended,
-            Leg::Faulted(f) => return MasterStop::Faulted(f),
+            MasterSegment::Ended => return MasterStop::Ended,
+            MasterSegment::Faulted(f) => return MasterStop::Faulted(f),
         }
     }
 }

@@ -1,10 +1,11 @@
 //! Whole runs on one thread.
 
-ghost use Rattle.std.specs.Prelude.{◌≡◌, ◌∷◌, ◌++◌, [], ℕ, IfOk, OnOk};
+ghost use Rattle.std.specs.Prelude.{◌≡◌, ◌≤◌, ◌∷◌, ◌++◌, [], ℕ, IfOk, OnOk};
 ghost use Rattle.gm_image.specs.Views.{program};
 ghost use Rattle.gm_machine.specs.Machine.{machine};
 ghost use Rattle.gm_machine.specs.Masters.{FitsGraph};
 ghost use Rattle.gm_machine.specs.Notes.{note_of, noted, if_watched};
+ghost use Rattle.gm_machine.specs.States.{most_supersteps};
 ghost use Rattle.gm_machine.specs.Steps.{KeepsFields};
 ghost use Rattle.gm_machine.specs.Supersteps.{nodes_of};
 
@@ -86,7 +87,8 @@ pub(crate) fn run(
 
 /// Runs an image over a graph on one thread: its outcome, and how many supersteps it took and how many messages were
 /// sent. The arguments are those of the scalar inputs, in order, and the graph has the edge columns that the image
-/// declares. Where as many turns as were given are taken and one more would begin, the run is cut.
+/// declares. Where as many turns as were given are taken and one more would begin, the run is cut. There are at most as
+/// many supersteps as the turns and one times the `step` lines of the master list.
 pub fn run_one(
     alloc: Global,
     image: &Sound,
@@ -95,7 +97,8 @@ pub fn run_one(
     turns: u64,
 ) -> Result<RunEnd, NoMemory>
     requires { FitsGraph image.now graph.now }
-    ensures { IfOk result (λ end. end ≡ machine (program image.now) graph.now args.now turns) }
+    ensures end { IfOk result (λ end. end ≡ machine (program image.now) graph.now args.now turns) }
+    ensures bounded { IfOk result (λ end. end.supersteps ≤ most_supersteps (program image.now) turns) }
 {
     let mut notes = Vec::new(alloc);
     let end = run(alloc, image.image(), graph, args, turns, false, &mut notes)?;
@@ -114,6 +117,7 @@ pub fn run_noted(
 ) -> Result<RunEnd, NoMemory>
     requires { FitsGraph image.now graph.now }
     ensures end { IfOk result (λ end. end ≡ machine (program image.now) graph.now args.now turns) }
+    ensures bounded { IfOk result (λ end. end.supersteps ≤ most_supersteps (program image.now) turns) }
     ensures notes { OnOk result (notes.new.items ≡ notes.old.items ++ noted (program image.now) graph.now args.now turns) }
 {
     let end = run(alloc, image.image(), graph, args, turns, true, notes)?;

@@ -10,9 +10,9 @@ ghost use Rattle.gm_machine.specs.Steps.{KeepsFields, step_after};
 use crate::batches::Batch;
 use crate::bodies::{block_at, run_vertex};
 use crate::contributions::Contribution;
-use crate::expressions::Scene;
+use crate::expressions::VertexContext;
 use crate::faults::{Fault, lesser};
-use crate::lines::Work;
+use crate::lines::VertexState;
 use gm_base::NoMemory;
 use gm_graph::Graph;
 use gm_image::{Image, Sound};
@@ -59,16 +59,16 @@ pub(crate) fn step(
     requires columns { FitsGraph image.now graph.now }
     requires keeps { KeepsFields (program image.now) block }
     ensures fields { OnOk result (fields.new.items
-        ≡ (step_after (program image.now) block globals.now graph.now node inbox.now fields.old.items).work.fields) }
+        ≡ (step_after (program image.now) block globals.now graph.now node inbox.now fields.old.items).state.fields) }
     ensures messages { OnOk result (sent.new.messages
-        ≡ sent.old.messages ++ (step_after (program image.now) block globals.now graph.now node inbox.now fields.old.items).work.messages) }
+        ≡ sent.old.messages ++ (step_after (program image.now) block globals.now graph.now node inbox.now fields.old.items).state.messages) }
     ensures puts { OnOk result (sent.new.puts.items
-        ≡ sent.old.puts.items ++ (step_after (program image.now) block globals.now graph.now node inbox.now fields.old.items).work.puts) }
+        ≡ sent.old.puts.items ++ (step_after (program image.now) block globals.now graph.now node inbox.now fields.old.items).state.puts) }
     ensures fault { OnOk result (sent.new.fault
         ≡ lesser sent.old.fault (step_after (program image.now) block globals.now graph.now node inbox.now fields.old.items).fault) }
 {
-    let todo = block_at(image, block);
-    let scene = Scene {
+    let code = block_at(image, block);
+    let context = VertexContext {
         graph,
         columns: image.columns.len(),
         globals,
@@ -77,7 +77,7 @@ pub(crate) fn step(
         neighbour: 0,
         edge: 0,
     };
-    let mut work = Work {
+    let mut state = VertexState {
         fields: mem::replace(fields, Vec::new(alloc)),
         registers: Vec::new(alloc),
         messages: mem::replace(&mut sent.messages, Batch::empty(alloc)),
@@ -86,10 +86,17 @@ pub(crate) fn step(
         found: Vec::new(alloc),
         given: Vec::new(alloc),
     };
-    let fault = run_vertex(image, todo, &inbox.heads, &inbox.values, &scene, &mut work)?;
-    *fields = work.fields;
-    sent.messages = work.messages;
-    sent.puts = work.puts;
+    let fault = run_vertex(
+        image,
+        code,
+        &inbox.headers,
+        &inbox.values,
+        &context,
+        &mut state,
+    )?;
+    *fields = state.fields;
+    sent.messages = state.messages;
+    sent.puts = state.puts;
     sent.fault = lesser(sent.fault, fault);
     Ok(())
 }
@@ -111,11 +118,11 @@ pub fn vertex_step(
     requires node { HasNode graph.now node }
     requires columns { FitsGraph image.now graph.now }
     ensures fields { OnOk result (fields.new.items
-        ≡ (step_after (program image.now) block globals.now graph.now node inbox.now fields.old.items).work.fields) }
+        ≡ (step_after (program image.now) block globals.now graph.now node inbox.now fields.old.items).state.fields) }
     ensures messages { OnOk result (sent.new.messages
-        ≡ sent.old.messages ++ (step_after (program image.now) block globals.now graph.now node inbox.now fields.old.items).work.messages) }
+        ≡ sent.old.messages ++ (step_after (program image.now) block globals.now graph.now node inbox.now fields.old.items).state.messages) }
     ensures puts { OnOk result (sent.new.puts.items
-        ≡ sent.old.puts.items ++ (step_after (program image.now) block globals.now graph.now node inbox.now fields.old.items).work.puts) }
+        ≡ sent.old.puts.items ++ (step_after (program image.now) block globals.now graph.now node inbox.now fields.old.items).state.puts) }
     ensures fault { OnOk result (sent.new.fault
         ≡ lesser sent.old.fault (step_after (program image.now) block globals.now graph.now node inbox.now fields.old.items).fault) }
 {

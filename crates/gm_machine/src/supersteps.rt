@@ -7,18 +7,18 @@ ghost use Rattle.gm_machine.specs.Batches.{IsWithin};
 ghost use Rattle.gm_machine.specs.Fields.{fields_of, IsFull};
 ghost use Rattle.gm_machine.specs.Machine.{superstep};
 ghost use Rattle.gm_machine.specs.Masters.{FitsGraph};
-ghost use Rattle.gm_machine.specs.Sights.{todo_of};
+ghost use Rattle.gm_machine.specs.VertexViews.{code_of};
 ghost use Rattle.gm_machine.specs.Steps.{KeepsFields};
 ghost use Rattle.gm_machine.specs.Supersteps.{nodes_of, node_after, nodes_after, together};
 ghost use Rattle.gm_machine.specs.Vertex.{never_sets, handler_lines};
 
-use crate::batches::{Batch, Head};
-use crate::bodies::{Todo, block_at, run_vertex};
-use crate::expressions::Scene;
+use crate::batches::{Batch, MessageHeader};
+use crate::bodies::{BlockCode, block_at, run_vertex};
+use crate::expressions::VertexContext;
 use crate::faults::{Fault, lesser};
 use crate::fields::Fields;
 use crate::inboxes::{grouped, inbox_of};
-use crate::lines::Work;
+use crate::lines::VertexState;
 use crate::settling::settle;
 use gm_base::NoMemory;
 use gm_graph::Graph;
@@ -41,18 +41,18 @@ pub(crate) struct Nodes {
 #[derive(Clone, Copy)]
 struct Round<'a> {
     image: &'a Image,
-    todo: Todo<'a>,
+    code: BlockCode<'a>,
     graph: &'a Graph,
     globals: &'a [Value],
     values: &'a [Value],
 }
 
-// A work that has done nothing.
-fn idle(alloc: Global) -> Work
+// A state that has done nothing.
+fn idle(alloc: Global) -> VertexState
     ensures messages { result.messages ≡ [] }
     ensures puts { result.puts.items ≡ [] }
 {
-    Work {
+    VertexState {
         fields: Vec::new(alloc),
         registers: Vec::new(alloc),
         messages: Batch::empty(alloc),
@@ -63,18 +63,18 @@ fn idle(alloc: Global) -> Work
     }
 }
 
-// The step of a node with its fields and the messages of some heads. What it sends and puts comes behind what was sent
+// The step of a node with its fields and the messages of some headers. What it sends and puts comes behind what was sent
 // and put before.
 fn step_node(
     alloc: Global,
     round: &Round,
-    inbox: &[Head],
+    inbox: &[MessageHeader],
     node: u32,
     fields: &mut Fields,
-    work: &mut Work,
+    state: &mut VertexState,
 ) -> Result<Option<Fault>, NoMemory>
     requires columns { FitsGraph round.now.image.now round.now.graph.now }
-    requires keeps { (kind : ℕ) → never_sets (handler_lines (todo_of round.now.todo).handlers kind) ≡ true }
+    requires keeps { (kind : ℕ) → never_sets (handler_lines (code_of round.now.code).handlers kind) ≡ true }
     requires within { All (IsWithin round.now.values.now) inbox.now }
     requires node { HasNode round.now.graph.now node }
     requires here { node < fields.old.nodes }
@@ -82,14 +82,14 @@ fn step_node(
     ensures nodes { OnOk result (fields.new.nodes ≡ fields.old.nodes) }
     ensures full { OnOk result (IsFull (length fields.old.rows.items) fields.new) }
     ensures fields { OnOk result (fields_of fields.new
-        ≡ slice_set (fields_of fields.old) node (node_after round.now inbox.now node (slice_index_or (fields_of fields.old) node [])).work.fields) }
-    ensures messages { OnOk result (work.new.messages
-        ≡ work.old.messages ++ (node_after round.now inbox.now node (slice_index_or (fields_of fields.old) node [])).work.messages) }
-    ensures puts { OnOk result (work.new.puts.items
-        ≡ work.old.puts.items ++ (node_after round.now inbox.now node (slice_index_or (fields_of fields.old) node [])).work.puts) }
+        ≡ slice_set (fields_of fields.old) node (node_after round.now inbox.now node (slice_index_or (fields_of fields.old) node [])).state.fields) }
+    ensures messages { OnOk result (state.new.messages
+        ≡ state.old.messages ++ (node_after round.now inbox.now node (slice_index_or (fields_of fields.old) node [])).state.messages) }
+    ensures puts { OnOk result (state.new.puts.items
+        ≡ state.old.puts.items ++ (node_after round.now inbox.now node (slice_index_or (fields_of fields.old) node [])).state.puts) }
     ensures fault { IfOk result (λ f. f ≡ (node_after round.now inbox.now node (slice_index_or (fields_of fields.old) node [])).fault) }
 {
-    let scene = Scene {
+    let context = VertexContext {
         graph: round.graph,
         columns: round.image.columns.len(),
         globals: round.globals,
@@ -98,9 +98,16 @@ fn step_node(
         neighbour: 0,
         edge: 0,
     };
-    fields.load(node as usize, &mut work.fields)?;
-    let fault = run_vertex(round.image, round.todo, inbox, round.values, &scene, work)?;
-    let after = work.fields.as_slice();
+    fields.load(node as usize, &mut state.fields)?;
+    let fault = run_vertex(
+        round.image,
+        round.code,
+        inbox,
+        round.values,
+        &context,
+        state,
+    )?;
+    let after = state.fields.as_slice();
     fields.store(alloc, node as usize, after)?;
     Ok(fault)
 }
@@ -110,59 +117,59 @@ fn step_quiet(
     alloc: Global,
     round: &Round,
     fields: &mut Fields,
-    work: &mut Work,
+    state: &mut VertexState,
 ) -> Result<Option<Fault>, NoMemory>
     requires columns { FitsGraph round.now.image.now round.now.graph.now }
-    requires keeps { (kind : ℕ) → never_sets (handler_lines (todo_of round.now.todo).handlers kind) ≡ true }
+    requires keeps { (kind : ℕ) → never_sets (handler_lines (code_of round.now.code).handlers kind) ≡ true }
     requires nodes { fields.old.nodes ≡ node_count round.now.graph.now }
     requires full { IsFull (length fields.old.rows.items) fields.old }
-    requires messages { work.old.messages ≡ [] }
-    requires puts { work.old.puts.items ≡ [] }
+    requires messages { state.old.messages ≡ [] }
+    requires puts { state.old.puts.items ≡ [] }
     ensures nodes { OnOk result (fields.new.nodes ≡ fields.old.nodes) }
     ensures full { OnOk result (IsFull (length fields.old.rows.items) fields.new) }
     ensures together { IfOk result (λ f.
-        record { fields = fields_of fields.new; messages = work.new.messages; puts = work.new.puts.items; fault = f }
+        record { fields = fields_of fields.new; messages = state.new.messages; puts = state.new.puts.items; fault = f }
         ≡ together (nodes_after round.now [] (fields_of fields.old))) }
 {
     let nodes = round.graph.node_count();
     let mut fault = None;
     for node in 0..nodes {
-        let one = step_node(alloc, round, &[], node, fields, work)?;
+        let one = step_node(alloc, round, &[], node, fields, state)?;
         fault = lesser(fault, one);
     }
     Ok(fault)
 }
 
-// The steps of all nodes, in ascending order, with the messages of some heads.
+// The steps of all nodes, in ascending order, with the messages of some headers.
 fn step_all(
     alloc: Global,
     round: &Round,
-    heads: &[Head],
+    headers: &[MessageHeader],
     fields: &mut Fields,
-    work: &mut Work,
+    state: &mut VertexState,
 ) -> Result<Option<Fault>, NoMemory>
     requires columns { FitsGraph round.now.image.now round.now.graph.now }
-    requires keeps { (kind : ℕ) → never_sets (handler_lines (todo_of round.now.todo).handlers kind) ≡ true }
-    requires within { All (IsWithin round.now.values.now) heads.now }
+    requires keeps { (kind : ℕ) → never_sets (handler_lines (code_of round.now.code).handlers kind) ≡ true }
+    requires within { All (IsWithin round.now.values.now) headers.now }
     requires nodes { fields.old.nodes ≡ node_count round.now.graph.now }
     requires full { IsFull (length fields.old.rows.items) fields.old }
-    requires messages { work.old.messages ≡ [] }
-    requires puts { work.old.puts.items ≡ [] }
+    requires messages { state.old.messages ≡ [] }
+    requires puts { state.old.puts.items ≡ [] }
     ensures nodes { OnOk result (fields.new.nodes ≡ fields.old.nodes) }
     ensures full { OnOk result (IsFull (length fields.old.rows.items) fields.new) }
     ensures together { IfOk result (λ f.
-        record { fields = fields_of fields.new; messages = work.new.messages; puts = work.new.puts.items; fault = f }
-        ≡ together (nodes_after round.now heads.now (fields_of fields.old))) }
+        record { fields = fields_of fields.new; messages = state.new.messages; puts = state.new.puts.items; fault = f }
+        ≡ together (nodes_after round.now headers.now (fields_of fields.old))) }
 {
-    if heads.is_empty() {
-        return step_quiet(alloc, round, fields, work);
+    if headers.is_empty() {
+        return step_quiet(alloc, round, fields, state);
     }
     let nodes = round.graph.node_count();
-    let (sorted, starts) = grouped(alloc, heads, nodes as usize)?;
+    let (sorted, starts) = grouped(alloc, headers, nodes as usize)?;
     let mut fault = None;
     for node in 0..nodes {
         let inbox = inbox_of(&sorted, &starts, node as usize);
-        let one = step_node(alloc, round, inbox, node, fields, work)?;
+        let one = step_node(alloc, round, inbox, node, fields, state)?;
         fault = lesser(fault, one);
     }
     Ok(fault)
@@ -199,27 +206,27 @@ pub(crate) fn superstep(
         ≡ superstep (program image.now) graph.now block globals.old.items (nodes_of nodes.old)) }
 {
     let sent = mem::replace(&mut nodes.sent, Batch::empty(alloc));
-    let mut work = idle(alloc);
-    let todo = block_at(image, block);
+    let mut state = idle(alloc);
+    let code = block_at(image, block);
     let seen = globals.as_slice();
     let values = sent.values.as_slice();
-    let heads = sent.heads.as_slice();
+    let headers = sent.headers.as_slice();
     let round = Round {
         image,
-        todo,
+        code,
         graph,
         globals: seen,
         values,
     };
-    let fault = step_all(alloc, &round, heads, &mut nodes.fields, &mut work)?;
+    let fault = step_all(alloc, &round, headers, &mut nodes.fields, &mut state)?;
     let places = image.places.len();
-    let puts = work.puts.as_slice();
+    let puts = state.puts.as_slice();
     let put = settle(places, puts, globals)?;
-    let more = work.messages.messages() as u64;
+    let more = state.messages.messages() as u64;
     let supersteps = sum(nodes.supersteps, 1)?;
     let messages = sum(nodes.messages, more)?;
     nodes.supersteps = supersteps;
     nodes.messages = messages;
-    nodes.sent = work.messages;
+    nodes.sent = state.messages;
     Ok(lesser(fault, put))
 }

@@ -2,7 +2,7 @@
 use Rattle.std.proofs.Common.{◌≡◌, None, map, take, ap, sym, ◌∙◌}
 use Rattle.std.proofs.lemmas.List.{take_min, take-map}
 use Rattle.gm_image.specs.Views.{line}
-use Rattle.gm_machine.specs.Sights.{scene_of, work_of, direction}
+use Rattle.gm_machine.specs.VertexViews.{context_of, state_of, direction}
 use Rattle.gm_machine.specs.Vertex.{After, folded, turns_after, steps}
 use Rattle.gm_machine.proofs.bodies.run_each.Goals as goal
 
@@ -13,4 +13,4 @@ returns c =
     let skipping : After → After = λ a. record a { skip = c.args.n } in
     c.in_ok-taken.ensures
     ∙ ap (λ a. folded c.args.places (skipping a))
-    (c.in_ok-fault.ensures ∙ ap (λ ls. turns_after (scene_of c.args.scene.now) ls (steps (direction c.args.out) c.args.scene.now.graph.now c.args.scene.now.node) (work_of c.args.work.now) None) cut)
+    (c.in_ok-fault.ensures ∙ ap (λ ls. turns_after (context_of c.args.context.now) ls (steps (direction c.args.out) c.args.context.now.graph.now c.args.context.now.node) (state_of c.args.state.now) None) cut)

@@ -2,11 +2,11 @@
 use Rattle.std.proofs.Common.{◌≡◌, drop, map}
 use Rattle.gm_image.specs.Views.{target}
 use Rattle.gm_machine.specs.Vertex.{view_with, gives}
-use Rattle.gm_machine.specs.Sights.{scene_of}
+use Rattle.gm_machine.specs.VertexViews.{context_of}
 use Rattle.gm_machine.proofs.LineSteps.{after_these}
 use Rattle.gm_machine.proofs.lines.evaluate_targets.Given as goal
 
 abbrev pub invariant-loop-t : goal.invariant-loop-t
 invariant-loop-t l =
-    after_these l.given.items (gives (view_with (scene_of l.s) l.fields l.registers) l.reduce l.place (map target (drop l.t-index l.targets)))
-    ≡ gives (view_with (scene_of l.s) l.fields l.registers) l.reduce l.place (map target l.targets)
+    after_these l.given.items (gives (view_with (context_of l.s) l.fields l.registers) l.reduce l.place (map target (drop l.t-index l.targets)))
+    ≡ gives (view_with (context_of l.s) l.fields l.registers) l.reduce l.place (map target l.targets)

@@ -2,15 +2,15 @@
 use Rattle.std.proofs.Common.{None, map}
 use Rattle.gm_graph.specs.Graphs.{Step}
 use Rattle.gm_image.specs.Views.{line}
-use Rattle.gm_machine.specs.Sights.{scene_of, work_of, direction}
+use Rattle.gm_machine.specs.VertexViews.{context_of, state_of, direction}
 use Rattle.gm_machine.specs.Vertex.{turns_after, steps}
 use Rattle.gm_machine.proofs.LineSteps.{turns-more}
 use Rattle.gm_machine.proofs.lines.run_turns.Goals as goal
 
 pub loop-k-preserved : goal.loop-k-preserved
 loop-k-preserved c =
-    let es = steps (direction c.args.out) c.args.scene.now.graph.now c.args.scene.now.node in
+    let es = steps (direction c.args.out) c.args.context.now.graph.now c.args.context.now.node in
     let e : Step = record { node = c.step_at-neighbour.result.0; edge = c.step_at-neighbour.result.1 } in
-    turns-more (scene_of c.args.scene.now) (map line c.args.lines.now) es c.loop-k.k e (work_of c.loop-k.work) (work_of c.run_lines.new.work)
-    c.loop-k.fault c.in_ok-one.one c.lesser-fault.result (turns_after (scene_of c.args.scene.now) (map line c.args.lines.now) es (work_of c.args.work.now) None)
+    turns-more (context_of c.args.context.now) (map line c.args.lines.now) es c.loop-k.k e (state_of c.loop-k.state) (state_of c.run_lines.new.state)
+    c.loop-k.fault c.in_ok-one.one c.lesser-fault.result (turns_after (context_of c.args.context.now) (map line c.args.lines.now) es (state_of c.args.state.now) None)
     c.step_at-neighbour.ensures c.in_ok-one.ensures c.lesser-fault.ensures c.loop-k.invariant

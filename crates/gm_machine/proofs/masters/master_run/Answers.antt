@@ -1,9 +1,9 @@
--- Each leg goes on as the whole run does.
+-- Each segment goes on as the whole run does.
 use Rattle.std.proofs.Common.{◌≡◌, ◌≤◌, ◌-◌, ◌+◌, length, sym, ◌∙◌, arith}
 use Rattle.std.proofs.lemmas.List.{length-map}
 use Rattle.gm_image.specs.Views.{program, command}
 use Rattle.gm_machine.specs.Masters.{control, control_of, left_of}
-use Rattle.gm_machine.proofs.Legs.{pause_first, turn_first, left-turn, leg-ahead, nearer-step}
+use Rattle.gm_machine.proofs.MasterLemmas.{pause_first, turn_first, left-turn, segment-ahead, nearer-step}
 use Rattle.gm_machine.proofs.masters.master_run.Goals as goal
 
 pub returns-in-Step-clause-run : goal.returns-in-Step-clause-run
@@ -13,7 +13,7 @@ returns-in-Step-clause-run c =
 pub returns-in-Step-clause-nearer : goal.returns-in-Step-clause-nearer
 returns-in-Step-clause-nearer c =
     let master = c.args.image.now.master in
-    let ahead = leg-ahead (program c.args.image.now) c.args.graph.now c.turns.master.line c.in-Step.q c.in-Step.line (control_of c.turns.master) (control c.run_leg.new.globals.items c.turns.master.turns) (sym (c.in-Step.ensures c.turns.master.turns)) in
+    let ahead = segment-ahead (program c.args.image.now) c.args.graph.now c.turns.master.line c.in-Step.q c.in-Step.line (control_of c.turns.master) (control c.run_segment.new.globals.items c.turns.master.turns) (sym (c.in-Step.ensures c.turns.master.turns)) in
     let below : c.in-Step.line ≤ length master = omega (arith, ahead.1, length-map master command) in
     nearer-step (c.turns.master.bound - c.turns.master.turns) (length master) c.turns.master.line c.in-Step.line (left_of (length master) c.args.master.now) ahead.0 below c.turns.invariant.left
 
@@ -39,6 +39,6 @@ turns-preserved c = record {
       let one_more : c.turns.master.bound - c.turns.master.turns ≡ (c.turns.master.bound - (c.turns.master.turns + 1)) + 1 = omega arith in
       sym (
       pause_first (program c.args.image.now) c.args.graph.now (c.turns.master.bound - c.turns.master.turns) c.turns.master.line (control_of c.turns.master) _ (c.in-Turn.ensures c.turns.master.turns)
-      ∙ turn_first (program c.args.image.now) c.args.graph.now (c.turns.master.bound - c.turns.master.turns) (c.turns.master.bound - (c.turns.master.turns + 1)) c.in-Turn.line (control c.run_leg.new.globals.items c.turns.master.turns) one_more)
+      ∙ turn_first (program c.args.image.now) c.args.graph.now (c.turns.master.bound - c.turns.master.turns) (c.turns.master.bound - (c.turns.master.turns + 1)) c.in-Turn.line (control c.run_segment.new.globals.items c.turns.master.turns) one_more)
       ∙ c.turns.invariant.run;
 }

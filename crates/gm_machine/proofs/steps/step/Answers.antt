@@ -1,8 +1,8 @@
 -- The handlers of the block set no field.
 use Rattle.gm_image.specs.Views.{program}
-use Rattle.gm_machine.specs.Sights.{todo_of}
+use Rattle.gm_machine.specs.VertexViews.{code_of}
 use Rattle.gm_machine.proofs.OneStep.{block-keeps}
 use Rattle.gm_machine.proofs.steps.step.Goals as goal
 
 pub run_vertex-requires-clause-keeps : goal.run_vertex-requires-clause-keeps
-run_vertex-requires-clause-keeps c = block-keeps (program c.args.image.now) c.args.block (todo_of c.block_at-todo.result) c.block_at-todo.ensures c.requires.keeps
+run_vertex-requires-clause-keeps c = block-keeps (program c.args.image.now) c.args.block (code_of c.block_at-code.result) c.block_at-code.ensures c.requires.keeps

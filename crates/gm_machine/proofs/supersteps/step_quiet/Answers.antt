@@ -6,7 +6,7 @@ use Rattle.gm_machine.specs.declared.supersteps.Round.{Round}
 use Rattle.gm_machine.specs.Faults.{lesser}
 use Rattle.gm_machine.specs.Fields.{fields_of, columns_of, IsFull}
 use Rattle.gm_machine.specs.Machine.{step_of}
-use Rattle.gm_machine.specs.Sights.{todo_of}
+use Rattle.gm_machine.specs.VertexViews.{code_of}
 use Rattle.gm_machine.specs.Supersteps.{node_after}
 use Rattle.gm_machine.specs.Vertex.{After}
 use Rattle.gm_machine.proofs.FieldRows.{length-by_node}
@@ -18,7 +18,7 @@ loop-node-preserved c =
     let r : Round = c.args.round.now in
     let node : ℕ = c.loop-node.node in
     let now : List (List Value) = fields_of c.loop-node.fields in
-    let step : (ℕ × List Value) → After = step_of (program r.image.now) r.graph.now (todo_of r.todo) r.globals.now [] in
+    let step : (ℕ × List Value) → After = step_of (program r.image.now) r.graph.now (code_of r.code) r.globals.now [] in
     let same : node_after r [] node (get_or now node []) ≡ step (node, get_or now node []) = node-steps r [] [] node (get_or now node []) refl in
     let wide : length now ≡ c.loop-node.fields.nodes = length-by_node c.loop-node.fields.nodes (columns_of c.loop-node.fields) in
     let within : node < length now = omega (arith, wide, c.loop-node.invariant.nodes, c.requires.nodes, c.node_count-nodes.ensures.count, c.loop-node-test.true) in
@@ -26,10 +26,10 @@ loop-node-preserved c =
       nodes = c.in_ok-one.ensures.nodes ∙ c.loop-node.invariant.nodes;
       full = subst (λ n. IsFull n c.step_node.new.fields) c.loop-node.invariant.full.wide c.in_ok-one.ensures.full;
       stepped =
-          stepped-more step node (fields_of c.args.fields.now) now (fields_of c.step_node.new.fields) c.loop-node.work.messages c.step_node.new.work.messages c.loop-node.work.puts.items c.step_node.new.work.puts.items c.loop-node.fault c.lesser-fault.result within
-          (c.in_ok-one.ensures.fields ∙ ap (λ a. set now node a.work.fields) same)
-          (c.in_ok-one.ensures.messages ∙ ap (λ a. c.loop-node.work.messages ++ a.work.messages) same)
-          (c.in_ok-one.ensures.puts ∙ ap (λ a. c.loop-node.work.puts.items ++ a.work.puts) same)
+          stepped-more step node (fields_of c.args.fields.now) now (fields_of c.step_node.new.fields) c.loop-node.state.messages c.step_node.new.state.messages c.loop-node.state.puts.items c.step_node.new.state.puts.items c.loop-node.fault c.lesser-fault.result within
+          (c.in_ok-one.ensures.fields ∙ ap (λ a. set now node a.state.fields) same)
+          (c.in_ok-one.ensures.messages ∙ ap (λ a. c.loop-node.state.messages ++ a.state.messages) same)
+          (c.in_ok-one.ensures.puts ∙ ap (λ a. c.loop-node.state.puts.items ++ a.state.puts) same)
           (c.lesser-fault.ensures ∙ ap (lesser c.loop-node.fault) (c.in_ok-one.ensures.fault ∙ ap (λ a. a.fault) same))
           c.loop-node.invariant.stepped;
     }
@@ -38,7 +38,7 @@ pub returns-clause-together : goal.returns-clause-together
 returns-clause-together c =
     let r : Round = c.args.round.now in
     let now : List (List Value) = fields_of c.loop-node.fields in
-    let step : (ℕ × List Value) → After = step_of (program r.image.now) r.graph.now (todo_of r.todo) r.globals.now [] in
+    let step : (ℕ × List Value) → After = step_of (program r.image.now) r.graph.now (code_of r.code) r.globals.now [] in
     let wide : length now ≡ c.loop-node.fields.nodes = length-by_node c.loop-node.fields.nodes (columns_of c.loop-node.fields) in
     let end : length now ≤ c.loop-node.node = omega (arith, wide, c.loop-node.invariant.nodes, c.requires.nodes, c.node_count-nodes.ensures.count, c.loop-node-test.false) in
-    stepped-all step c.loop-node.node (fields_of c.args.fields.now) now c.loop-node.work.messages c.loop-node.work.puts.items c.loop-node.fault end c.loop-node.invariant.stepped
+    stepped-all step c.loop-node.node (fields_of c.args.fields.now) now c.loop-node.state.messages c.loop-node.state.puts.items c.loop-node.fault end c.loop-node.invariant.stepped

@@ -3,7 +3,7 @@ use Rattle.std.proofs.Common.{◌≡◌, [], length}
 use Rattle.gm_image.specs.Views.{program}
 use Rattle.gm_machine.specs.Fields.{fields_of, IsFull}
 use Rattle.gm_machine.specs.Machine.{step_of}
-use Rattle.gm_machine.specs.Sights.{todo_of}
+use Rattle.gm_machine.specs.VertexViews.{code_of}
 use Rattle.gm_machine.proofs.NodeSteps.{IsSteppedTo}
 use Rattle.gm_machine.proofs.supersteps.step_quiet.Given as goal
 
@@ -12,6 +12,6 @@ invariant-loop-node l = record {
   nodes : l.fields.nodes ≡ l.fn.fields.nodes;
   full : IsFull (length l.fn.fields.rows.items) l.fields;
   stepped : IsSteppedTo
-      (step_of (program l.round.image.now) l.round.graph.now (todo_of l.round.todo) l.round.globals.now [])
-      l.node (fields_of l.fn.fields) (fields_of l.fields) l.work.messages l.work.puts.items l.fault;
+      (step_of (program l.round.image.now) l.round.graph.now (code_of l.round.code) l.round.globals.now [])
+      l.node (fields_of l.fn.fields) (fields_of l.fields) l.state.messages l.state.puts.items l.fault;
 }

@@ -1,0 +1,6 @@
+pub mod MailLemmas
+pub mod NodeLists
+pub mod CoreLemmas
+pub mod RunLemmas
+pub mod SuperstepLemmas
+mod Rows

@@ -1,0 +1,5 @@
+pub mod Mails
+pub mod Cores
+pub mod Laws
+pub mod Supersteps
+pub mod Owners
