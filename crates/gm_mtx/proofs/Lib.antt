@@ -1,0 +1,4 @@
+pub mod Sound
+pub mod Built
+pub mod Reading
+pub mod FieldLemmas

@@ -1,0 +1,6 @@
+pub mod Fields
+pub mod MatrixMarket
+pub mod Loads
+pub mod FaultLines
+pub mod Tables
+pub mod Rows
