@@ -16,4 +16,6 @@ mod inputs;
 #[cfg(test)]
 mod listings;
 #[cfg(test)]
+mod matrix_market;
+#[cfg(test)]
 mod partitions;

@@ -8,6 +8,8 @@ mod image_texts;
 #[cfg(test)]
 mod machine;
 #[cfg(test)]
+mod owners;
+#[cfg(test)]
 mod reader;
 #[cfg(test)]
 mod replies;
