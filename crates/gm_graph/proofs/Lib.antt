@@ -3,6 +3,7 @@ pub mod Ascending
 pub mod Numbering
 pub mod Spreading
 pub mod Steps
+pub mod Ranging
 pub mod Building
 pub mod Assembly
 pub mod Views

@@ -5,10 +5,11 @@ use Rattle.std.specs.List.{enumerate_from}
 use Rattle.std.specs.Option.{option_map}
 use Rattle.std.proofs.lemmas.Bool.{cases_eq, eq-eqb, ne_eqb}
 use Rattle.std.proofs.lemmas.Option.{slice_get-map}
+use Rattle.std.proofs.lemmas.List.FromFn.{get_or-range_with_len}
 use Rattle.std.proofs.lemmas.List.Sums.{sum_by-cons}
 use Rattle.gm_graph.specs.Graphs.{Edge, Step, nodes_of, edges_of}
 use Rattle.gm_graph.specs.declared.groups.Groups.{Groups}
-use Rattle.gm_graph.specs.Rows.{edge_list, count_of, count_below, place_of, IsGrouped}
+use Rattle.gm_graph.specs.Rows.{edge_list, count_of, count_below, place_of, lines_of, AreStarts, IsGrouped}
 use Rattle.gm_graph.proofs.Grouping.{same, same-self, same-other, place_of-within, count_below-step}
 
 -- steps along the edges from a node, and against the edges to it, with the edges numbered from a base
@@ -103,28 +104,36 @@ step-at base n (suc k) (s ∷ ss) (t ∷ ts) long some =
     ]
 
 -- a group's size, and its k-th edge
-pub group-size : (nodes n : ℕ) (keys : List ℕ) (groups : Groups) → IsGrouped nodes keys groups → n < nodes → slice_index groups.starts.items (n + 1) ≡ slice_index groups.starts.items n + count_of n keys
+pub group-size : (nodes n : ℕ) (keys : List ℕ) (groups : Groups) → AreStarts nodes keys groups.starts.items → n < nodes → slice_index groups.starts.items (n + 1) ≡ slice_index groups.starts.items n + count_of n keys
 group-size nodes n keys groups held within =
-    omega (arith, held.starts_at n (omega arith), held.starts_at (n + 1) (omega arith), count_below-step n keys)
+    omega (arith, held.at n (omega arith), held.at (n + 1) (omega arith), count_below-step n keys)
 
--- where the k-th step of a node has its edge
+-- the number of an edge is its place among the lines
+pub line-at : (count e : ℕ) → e < count → slice_index (lines_of count) e ≡ e
+line-at count e h =
+    let none_more : 0 + e ≡ e = omega arith in
+    get_or-range_with_len 0 count e 0 h ∙ none_more
+
+-- where the k-th step of a node has its edge, and the node at the other end
 pub record IsEdgeAt (n k : ℕ) (ss ts : List ℕ) (groups : Groups) (steps : List Step) : Type 0 where
   pub placed : slice_index groups.starts.items n + k < length ss
   pub edge : ℕ
   pub is : slice_index groups.edges.items (slice_index groups.starts.items n + k) ≡ edge
+  pub other : slice_index groups.nodes.items (slice_index groups.starts.items n + k) ≡ get_or ts edge 0
   pub within : edge < length ss
   pub step : slice_get steps k ≡ Some (record { node = get_or ts edge 0; edge = edge })
 
-pub edge-at : (nodes n k : ℕ) (ss ts : List ℕ) (groups : Groups) → IsGrouped nodes ss groups → length ss ≡ length ts → n < nodes → k < length (steps_out 0 n (edge_list ss ts)) → IsEdgeAt n k ss ts groups (steps_out 0 n (edge_list ss ts))
+pub edge-at : (nodes n k : ℕ) (ss ts : List ℕ) (groups : Groups) → IsGrouped nodes ss ts (lines_of (length ts)) groups → length ss ≡ length ts → n < nodes → k < length (steps_out 0 n (edge_list ss ts)) → IsEdgeAt n k ss ts groups (steps_out 0 n (edge_list ss ts))
 edge-at nodes n k ss ts groups held long within some =
     let at : IsStepAt 0 n k ss ts (steps_out 0 n (edge_list ss ts)) = step-at 0 n k ss ts long (omega (arith, length-steps 0 n ss ts long)) in
-    let start = held.starts_at n (omega arith) in
+    let start = held.starts.at n (omega arith) in
     let moved : place_of ss at.place ≡ count_below n ss + count_of n (take at.place ss) = ap (λ m. count_below m ss + count_of m (take at.place ss)) at.key in
     let here : place_of ss at.place ≡ slice_index groups.starts.items n + k = moved ∙ omega (arith, at.rank) in
     record {
       placed = omega (arith, place_of-within ss at.place at.within);
       edge = at.place;
-      is = ap (λ p. slice_index groups.edges.items p) (sym here) ∙ held.edges_at at.place at.within;
+      is = ap (λ p. slice_index groups.edges.items p) (sym here) ∙ (held.edges_row.at at.place at.within ∙ line-at (length ts) at.place (omega (arith, at.within)));
+      other = ap (λ p. slice_index groups.nodes.items p) (sym here) ∙ held.nodes_row.at at.place at.within;
       within = at.within;
       step = at.step ∙ ap (step_to (get_or ts at.place 0)) (omega arith);
     }

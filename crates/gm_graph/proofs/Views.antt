@@ -7,7 +7,8 @@ use Rattle.gm_value.specs.declared.values.Value.{Value}
 use Rattle.gm_graph.specs.Columns.{TypedRow, cell_at}
 use Rattle.gm_graph.specs.Graphs.{NumberedGraph, Step, IsGraph, HasNode, HasStep, node_count, edge_count, out_steps, in_steps, value_along}
 use Rattle.gm_graph.specs.declared.graphs.Graph.TheInside.{Inside}
-use Rattle.gm_graph.specs.Rows.{edge_list, numbered, IsHeld, count_of}
+use Rattle.gm_graph.specs.declared.groups.Groups.{Groups}
+use Rattle.gm_graph.specs.Rows.{edge_list, numbered, IsHeld, IsGrouped, lines_of, count_of}
 use Rattle.gm_graph.proofs.Building.{length-edge_list, edges-within}
 use Rattle.gm_graph.proofs.Steps.{IsEdgeAt, edge-at, length-steps, steps-turned, steps_in}
 
@@ -33,6 +34,10 @@ is-graph g v e held =
           subst Q (sym edges) (All-map (λ values. length values ≡ length g.targets.items) (λ (c : TypedRow). c.values) g.edge_columns.items held.edge_rows));
     })
 
+-- groups whose edges are counted by the same number
+numbered-as : (nodes a b : ℕ) (keys others : List ℕ) (groups : Groups) → a ≡ b → IsGrouped nodes keys others (lines_of a) groups → IsGrouped nodes keys others (lines_of b) groups
+numbered-as nodes a b keys others groups e h = let P : ℕ → Type 0 = λ m. IsGrouped nodes keys others (lines_of m) groups in subst P e h
+
 -- degrees
 pub out-degree : (g : Inside) (v : NumberedGraph) → numbered g ≡ v → IsHeld g → (n : ℕ) → length (out_steps v n) ≡ count_of n g.sources.items
 out-degree g v e held n =
@@ -54,7 +59,7 @@ pub in-edge : (g : Inside) (v : NumberedGraph) → numbered g ≡ v → IsHeld g
 in-edge g v e held n k node step =
     let Q : List Step → Type 0 = λ steps. n < length g.numbers.items → k < length steps → IsEdgeAt n k g.targets.items g.sources.items g.inward steps in
     let base : Q (steps_in 0 n (edge_list g.sources.items g.targets.items)) =
-    subst Q (sym (steps-turned 0 n g.sources.items g.targets.items)) (edge-at (length g.numbers.items) n k g.targets.items g.sources.items g.inward held.inward (sym held.both_ends)) in
+    subst Q (sym (steps-turned 0 n g.sources.items g.targets.items)) (edge-at (length g.numbers.items) n k g.targets.items g.sources.items g.inward (numbered-as _ _ _ _ _ _ (sym held.both_ends) held.inward) (sym held.both_ends)) in
     let P : NumberedGraph → Type 0 = λ w. HasNode w n → HasStep (in_steps w n) k → IsEdgeAt n k g.targets.items g.sources.items g.inward (in_steps w n) in
     subst P e base node step
 

@@ -3,6 +3,7 @@ pub mod Cells
 pub mod Graphs
 pub mod Builds
 pub mod Rows
+pub mod Ranges
 pub mod Spreads
 pub mod Numberings
 pub mod Lookups

@@ -1,6 +1,6 @@
 //! The making of a graph from its lines.
 
-ghost use Rattle.std.specs.Prelude.{All, IfOk};
+ghost use Rattle.std.specs.Prelude.{◌≡◌, ◌<◌, ◌≤◌, ℕ, All, IfOk, slice_index, vec_len};
 ghost use Rattle.gm_graph.specs.Builds.{IsBuildable, IsBuiltOf, HasShape};
 ghost use Rattle.gm_graph.specs.Columns.{CanHold};
 
@@ -54,8 +54,22 @@ pub fn build(alloc: Global, raw: RawGraph) -> Result<Graph, NoMemory>
     let rows = rows_of(alloc, &numbering, raw.extra.as_slice())?;
     let numbers = numbering.into_numbers();
     let node_columns = spread_all(alloc, rows.as_slice(), raw.node_columns.as_slice())?;
-    let outward = Groups::new(alloc, sources.as_slice(), numbers.len())?;
-    let inward = Groups::new(alloc, targets.as_slice(), numbers.len())?;
+    let lines = counting_up(alloc, sources.len())?;
+    let outward = Groups::new(
+        alloc,
+        sources.as_slice(),
+        targets.as_slice(),
+        lines.as_slice(),
+        numbers.len(),
+    )?;
+    let inward = Groups::new(
+        alloc,
+        targets.as_slice(),
+        sources.as_slice(),
+        lines.as_slice(),
+        numbers.len(),
+    )?;
+    drop(lines);
     know_types(raw.edge_columns.as_slice());
     know_types(raw.node_columns.as_slice());
     Ok(Graph {
@@ -67,6 +81,19 @@ pub fn build(alloc: Global, raw: RawGraph) -> Result<Graph, NoMemory>
         node_columns,
         edge_columns: raw.edge_columns.into_vec(),
     })
+}
+
+// The numbers below a count, from 0.
+fn counting_up(alloc: Global, count: usize) -> Result<Vec<u32>, NoMemory>
+    requires { count ≤ 2147483647 }
+    ensures len { IfOk result (λ numbers. vec_len numbers ≡ count) }
+    ensures each { IfOk result (λ numbers. (k : ℕ) → k < count → slice_index numbers.items k ≡ k) }
+{
+    let mut numbers = vec![in alloc; 0u32; count]?;
+    for k in 0..count {
+        numbers[k] = k as u32;
+    }
+    Ok(numbers)
 }
 
 // Shows that the values of each column are of its type.

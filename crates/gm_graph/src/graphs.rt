@@ -107,7 +107,7 @@ impl Graph {
         ensures target { slice_get (nodes_of (out_steps self.now node)) k ≡ Some result }
         ensures known { HasNode self.now result }
     {
-        self.targets[self.outward.edge(node, k) as usize]
+        self.outward.node(node, k)
     }
 
     /// The value in an edge column at the k-th edge that leads from a node.
@@ -150,7 +150,7 @@ impl Graph {
         ensures source { slice_get (nodes_of (in_steps self.now node)) k ≡ Some result }
         ensures known { HasNode self.now result }
     {
-        self.sources[self.inward.edge(node, k) as usize]
+        self.inward.node(node, k)
     }
 
     /// The value of a node in a node column.

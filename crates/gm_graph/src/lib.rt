@@ -11,6 +11,7 @@ mod marks;
 mod numberings;
 mod numbers;
 mod outcomes;
+mod ranges;
 mod rows;
 
 pub use builds::{RawGraph, Shape, build};

@@ -60,8 +60,8 @@ invariant_of-result c =
       both_ends = omega (arith, sources, targets, c.requires.both_ends);
       sources_within = within-as _ (length numbers) _ long c.in_ok-sources.ensures.within;
       targets_within = within-as _ (length numbers) _ long c.in_ok-targets.ensures.within;
-      outward = grouped-as _ (length numbers) _ ss c.in_ok-outward.outward (omega (arith, c.len.ensures)) c.as_slice-9.ensures.value c.in_ok-outward.ensures;
-      inward = grouped-as _ (length numbers) _ ts c.in_ok-inward.inward (omega (arith, c.len-2.ensures)) c.as_slice-10.ensures.value c.in_ok-inward.ensures;
+      outward = grouped-as _ (length numbers) (length ts) _ _ _ ss ts c.in_ok-lines.lines.items c.in_ok-outward.outward (omega (arith, c.len-2.ensures)) c.as_slice-9.ensures.value c.as_slice-10.ensures.value c.as_slice-11.ensures.value (omega (arith, sources, targets, c.requires.both_ends)) (λ e h. c.in_ok-lines.ensures.each e (omega (arith, c.len.ensures, sources, targets, c.requires.both_ends))) c.in_ok-outward.ensures;
+      inward = grouped-as _ (length numbers) (length ts) _ _ _ ts ss c.in_ok-lines.lines.items c.in_ok-inward.inward (omega (arith, c.len-3.ensures)) c.as_slice-12.ensures.value c.as_slice-13.ensures.value c.as_slice-14.ensures.value (omega arith) (λ e h. c.in_ok-lines.ensures.each e (omega (arith, c.len.ensures, sources, targets, c.requires.both_ends))) c.in_ok-inward.ensures;
       node_rows = spread-as c.args.raw numbers c.in_ok-rows.rows.items _ _ c.in_ok-node_columns.node_columns.items (length numbers) rows c.as_slice-7.ensures.value refl c.in_ok-node_columns.ensures.values;
       edge_rows = lengths-as _ (length ts) _ c.into_vec.result.items (omega (arith, targets, c.requires.both_ends)) c.into_vec.ensures c.requires.edge_rows;
     }
@@ -97,6 +97,6 @@ returns-clause-shape c =
     let rows = rows-held c.args.raw numbers c.in_ok-rows.rows.items _ _ (sym c.into_numbers-numbers.ensures) c.as_slice-6.ensures (omega (arith, c.in_ok-rows.ensures.len)) c.in_ok-rows.ensures.rows in
     let spread = columns-as c.args.raw numbers c.in_ok-rows.rows.items _ _ _ c.requires rows c.as_slice-7.ensures.value c.as_slice-8.ensures c.in_ok-node_columns.ensures.values in
     record {
-      node_types = node-types c.args.raw numbers _ _ c.requires spread c.as_slice-12.ensures c.know_types-2.ensures;
-      edge_types = edge-types c.args.raw _ _ c.requires c.into_vec.ensures c.as_slice-11.ensures c.know_types.ensures;
+      node_types = node-types c.args.raw numbers _ _ c.requires spread c.as_slice-16.ensures c.know_types-2.ensures;
+      edge_types = edge-types c.args.raw _ _ c.requires c.into_vec.ensures c.as_slice-15.ensures c.know_types.ensures;
     }

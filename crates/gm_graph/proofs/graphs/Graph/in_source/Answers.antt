@@ -1,35 +1,23 @@
-use Rattle.std.proofs.Common.{arith, ◌∙◌, ◌<◌, sym, ap, get_or, length, Some}
-use Rattle.std.proofs.lemmas.List.{get_or_read}
+use Rattle.std.proofs.Common.{arith, ◌∙◌, sym, ap, Some}
 use Rattle.gm_graph.proofs.Steps.{node-of}
 use Rattle.gm_graph.proofs.Views.{in-edge, node_count-is}
 use Rattle.gm_graph.proofs.graphs.Graph.in_source.Goals as goal
 
-pub edge-requires-clause-placed : goal.edge-requires-clause-placed
-edge-requires-clause-placed c =
+pub node-requires-clause-placed : goal.node-requires-clause-placed
+node-requires-clause-placed c =
     let g = c.self.inside in
     let at = in-edge g c.args.self.now c.self.view_is c.self.invariant c.args.node c.args.k c.requires.node c.requires.step in
-    omega (arith, at.placed, c.self.invariant.inward.edges_len)
-
-pub index-requires : goal.index-requires
-index-requires c =
-    let g = c.self.inside in
-    let at = in-edge g c.args.self.now c.self.view_is c.self.invariant c.args.node c.args.k c.requires.node c.requires.step in
-    omega (arith, at.within, c.self.invariant.both_ends, c.edge.ensures ∙ at.is)
+    omega (arith, at.placed, c.self.invariant.inward.nodes_row.len)
 
 pub returns-clause-source : goal.returns-clause-source
 returns-clause-source c =
     let g = c.self.inside in
     let at = in-edge g c.args.self.now c.self.view_is c.self.invariant c.args.node c.args.k c.requires.node c.requires.step in
-    let inside : c.edge.result < length g.sources.items = omega (arith, at.within, c.self.invariant.both_ends, c.edge.ensures ∙ at.is) in
-    let read = get_or_read g.sources.items c.edge.result c.index.result.now inside c.index.ensures 0 in
-    let there = ap (λ e. get_or g.sources.items e 0) (c.edge.ensures ∙ at.is) in
-    node-of _ c.args.k _ at.edge at.step ∙ ap (λ n. Some n) (sym (read ∙ there))
+    node-of _ c.args.k _ at.edge at.step ∙ ap (λ n. Some n) (sym (c.node.ensures ∙ at.other))
 
 pub returns-clause-known : goal.returns-clause-known
 returns-clause-known c =
     let g = c.self.inside in
     let at = in-edge g c.args.self.now c.self.view_is c.self.invariant c.args.node c.args.k c.requires.node c.requires.step in
-    let inside : c.edge.result < length g.sources.items = omega (arith, at.within, c.self.invariant.both_ends, c.edge.ensures ∙ at.is) in
-    let read = get_or_read g.sources.items c.edge.result c.index.result.now inside c.index.ensures 0 in
     let nodes = node_count-is g c.args.self.now c.self.view_is in
-    omega (arith, nodes, read, c.self.invariant.sources_within c.edge.result 0 inside)
+    omega (arith, nodes, c.node.ensures ∙ at.other, c.self.invariant.sources_within at.edge 0 (omega (arith, at.within, c.self.invariant.both_ends)))

@@ -7,10 +7,10 @@ pub size-requires-clause-ordered : goal.size-requires-clause-ordered
 size-requires-clause-ordered c =
     let g = c.self.inside in
     let nodes = node_count-is g c.args.self.now c.self.view_is in
-    omega (arith, group-size (length g.numbers.items) c.args.node g.sources.items g.outward c.self.invariant.outward (omega (arith, nodes, c.requires)))
+    omega (arith, group-size (length g.numbers.items) c.args.node g.sources.items g.outward c.self.invariant.outward.starts (omega (arith, nodes, c.requires)))
 
 pub returns-clause-degree : goal.returns-clause-degree
 returns-clause-degree c =
     let g = c.self.inside in
     let nodes = node_count-is g c.args.self.now c.self.view_is in
-    omega (arith, group-size (length g.numbers.items) c.args.node g.sources.items g.outward c.self.invariant.outward (omega (arith, nodes, c.requires)), out-degree g c.args.self.now c.self.view_is c.self.invariant c.args.node, c.size.ensures)
+    omega (arith, group-size (length g.numbers.items) c.args.node g.sources.items g.outward c.self.invariant.outward.starts (omega (arith, nodes, c.requires)), out-degree g c.args.self.now c.self.view_is c.self.invariant c.args.node, c.size.ensures)

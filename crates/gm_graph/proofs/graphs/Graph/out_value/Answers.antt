@@ -7,7 +7,7 @@ pub edge-requires-clause-placed : goal.edge-requires-clause-placed
 edge-requires-clause-placed c =
     let g = c.self.inside in
     let at = out-edge g c.args.self.now c.self.view_is c.self.invariant c.args.node c.args.k c.requires.node c.requires.step in
-    omega (arith, at.placed, c.self.invariant.outward.edges_len)
+    omega (arith, at.placed, c.self.invariant.outward.edges_row.len)
 
 pub cell-requires-clause-row : goal.cell-requires-clause-row
 cell-requires-clause-row c =
