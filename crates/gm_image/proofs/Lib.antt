@@ -1,2 +1,4 @@
 pub mod Samples
+pub mod ByShape
+mod Reading
 mod Rows

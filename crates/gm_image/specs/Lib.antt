@@ -3,6 +3,9 @@ pub mod Term
 pub mod Program
 pub mod Views
 pub mod Parts
+pub mod Ranges
+pub mod Shapes
+pub mod Items
 pub mod Rows
 pub mod Sorts
 pub mod Indices

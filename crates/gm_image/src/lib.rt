@@ -2,13 +2,18 @@
 #![tactic(auto)]
 
 mod images;
+mod items;
 mod lines;
+mod numbers;
 mod rules;
+mod shapes;
 mod sorts;
 mod sound;
 
 pub use images::{Block, Handler, Image, InputItem, Kind, OutputItem};
-pub use lines::{Expr, MasterLine, VertexLine};
+pub use items::{Holder, Item};
+pub use lines::{Direction, Expr, MasterLine, VertexLine};
 pub use rules::{Broken, ImageRule};
+pub use shapes::{Leaf, One, Shape, Two};
 pub use sorts::Sort;
 pub use sound::Sound;

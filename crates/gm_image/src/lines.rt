@@ -1,6 +1,10 @@
 //! The lines of vertex programs and of master lists, and the expressions in them. Each variant is one spelling of
 //! the image's text, and its parts stand in the order of the spelling. Indices count from 0.
 
+ghost use Rattle.std.specs.Prelude.{◌≡◌, option_map};
+ghost use Rattle.gm_image.specs.Views.{line};
+ghost use Rattle.gm_image.specs.Items.{direction_of, each_of};
+
 use gm_base::Items;
 use gm_value::{Reduce, Value};
 
@@ -105,6 +109,28 @@ pub enum VertexLine {
     EachOut(u32),
     /// `each in n`: the next n lines run once for each in-edge.
     EachIn(u32),
+}
+
+/// The edges that an each goes over.
+#[derive(Clone, Copy, Debug, PartialEq, Eq)]
+pub enum Direction {
+    /// The edges that begin at the vertex.
+    Out,
+    /// The edges that end at the vertex.
+    In,
+}
+
+impl VertexLine {
+    /// The edges that an each goes over and how many lines it has, where the line is an each.
+    pub fn each(&self) -> Option<(Direction, u32)>
+        ensures { option_map (λ e. (direction_of e.0, e.1)) result ≡ each_of (line self.now) }
+    {
+        match self {
+            VertexLine::EachOut(count) => Some((Direction::Out, *count)),
+            VertexLine::EachIn(count) => Some((Direction::In, *count)),
+            _ => None,
+        }
+    }
 }
 
 /// A line of the master list.

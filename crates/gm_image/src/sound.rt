@@ -3,11 +3,14 @@
 ghost use Rattle.std.specs.Prelude.{◌≡◌, IsTrue};
 ghost use Rattle.gm_image.specs.Views.{program};
 ghost use Rattle.gm_image.specs.Soundness.{is_sound};
+ghost use Rattle.gm_image.specs.Ranges.{Ranged};
 
 use crate::images::Image;
+use crate::numbers::read_image_numbers;
 use std::marker::Model;
 
-/// An image that keeps every rule, and whose text has fewer than 4,294,967,296 lines. Contracts see the image.
+/// An image that keeps every rule, whose text has fewer than 4,294,967,296 lines, and whose numbers are in the ranges of
+/// their types. Contracts see the image.
 #[derive(Debug, Drop)]
 pub struct Sound {
     image: Image,
@@ -20,6 +23,7 @@ impl Model for Sound {
     ghost use Rattle.gm_image.specs.declared.images.Image.{Image};
     ghost use Rattle.gm_image.specs.Views.{program};
     ghost use Rattle.gm_image.specs.Soundness.{is_sound};
+    ghost use Rattle.gm_image.specs.Ranges.{Ranged};
 
     ghost Value = { Image };
 
@@ -27,15 +31,16 @@ impl Model for Sound {
 
     ghost view = { λ s. s.image };
 
-    ghost invariant = { λ s. IsTrue (is_sound (program s.image)) };
+    ghost invariant = { λ s. IsTrue (is_sound (program s.image)) × Ranged (program s.image) };
 }
 
 impl Sound {
-    /// A sound image. It takes no memory.
+    /// A sound image. Its numbers are read once. It takes no memory.
     pub fn new(image: Image) -> Sound
         requires { IsTrue (is_sound (program image)) }
         ensures { result ≡ image }
     {
+        read_image_numbers(&image);
         Sound { image }
     }
 
@@ -43,6 +48,7 @@ impl Sound {
     pub fn image(&self) -> &Image
         ensures same { result.now ≡ self.now }
         ensures sound { IsTrue (is_sound (program result.now)) }
+        ensures numbers { Ranged (program result.now) }
     {
         &self.image
     }
@@ -51,6 +57,7 @@ impl Sound {
     pub fn into_image(self) -> Image
         ensures same { result ≡ self }
         ensures sound { IsTrue (is_sound (program result)) }
+        ensures numbers { Ranged (program result) }
     {
         self.image
     }

@@ -15,3 +15,5 @@ mod reader;
 mod replies;
 #[cfg(test)]
 mod rule_names;
+#[cfg(test)]
+mod written_and_read;

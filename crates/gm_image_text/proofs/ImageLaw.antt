@@ -10,7 +10,8 @@ use Rattle.gm_image.specs.declared.images.Kind.{Kind}
 use Rattle.gm_image.specs.Program as P
 use Rattle.gm_image.specs.Program.{Program, Item, Command, Handler, Block}
 use Rattle.gm_image_text.specs.Lines.{Word, Line, spaced}
-use Rattle.gm_image_text.specs.Fits.{IsPlain, IsName, IsIndex, LineFits, CommandFits, InputFits, OutputFits, ResultFits, PlaceIsIndex, ListFits, Any, HandlerFits, BlockFits, Fits}
+use Rattle.gm_image.specs.Ranges.{IsIndex, ResultFits, PlaceIsIndex}
+use Rattle.gm_image_text.specs.Fits.{IsPlain, IsName, LineFits, CommandFits, InputFits, OutputFits, ListFits, Any, HandlerFits, BlockFits, Fits}
 use Rattle.gm_image_text.specs.Spelling.{type_word, vertex_words, command_words, item_words, result_words, kind_words, place_pair, one_line, listed, type_lines, handler_lines, block_lines, opening_lines, middle_lines, closing_lines, image_lines}
 use Rattle.gm_image_text.specs.Reading as rows
 use Rattle.gm_image_text.specs.Sections.{Reads, row_at, dep_at, then_at, mapped, times_at, listed_at, handler_of, handler_at, block_of, block_at, Opening, opening_at, types_at, Middle, middle_at, Closing, closing_at, program_of, image_at}

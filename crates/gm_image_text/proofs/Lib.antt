@@ -18,7 +18,7 @@ pub mod Filling
 pub mod Shorter
 pub mod LookUps
 pub mod Ends
-pub mod Trees
+pub mod ShapeWords
 pub mod Writing
 pub mod SoundTerms
 pub mod SoundLines

@@ -9,7 +9,8 @@ use Rattle.std.proofs.lemmas.Str.Parse.{IsNumeralModel, numerals_by_fold, IsDigi
 use Rattle.std.proofs.lemmas.Fmt.{digits_decimal, digits_value-decimal, decimal-digits_value, decimal_nonempty, first_decimal, length-decimal-le}
 use Rattle.gm_fields.specs.Fields.{is_digit, is_some_part, is_number, with_digit, decimal_value, number_in}
 use Rattle.gm_image_text.specs.Lines.{Word}
-use Rattle.gm_image_text.specs.Fits.{IsPlain, IsIndex, ends_word}
+use Rattle.gm_image.specs.Ranges.{IsIndex}
+use Rattle.gm_image_text.specs.Fits.{IsPlain, ends_word}
 use Rattle.gm_image_text.specs.Numbers.{has_leading_zero, whole_in, index_from, index_in, negative, signed_in}
 use Rattle.gm_image_text.proofs.LineBinds.{some_is, map_some}
 use Rattle.gm_image_text.proofs.Fields.{WordLaw}

@@ -20,14 +20,16 @@ use Rattle.gm_image_text.specs.declared.heads.InputHead.{InputHead}
 use Rattle.gm_image_text.specs.declared.heads.InputHead.TheVariants as input
 use Rattle.gm_image_text.specs.declared.heads.OutputHead.{OutputHead}
 use Rattle.gm_image_text.specs.declared.heads.OutputHead.TheVariants as output
-use Rattle.gm_image_text.specs.declared.heads.Way.{Way}
-use Rattle.gm_image_text.specs.declared.heads.Way.TheVariants as way
+use Rattle.gm_image.specs.declared.lines.Direction.{Direction as Way}
+use Rattle.gm_image.specs.declared.lines.Direction.TheVariants as way
 use Rattle.gm_image_text.specs.Lines.{Word}
-use Rattle.gm_image_text.specs.Fits.{IsPlain, IsName, IsIndex, TermFits, TargetFits, TargetsFit, LineFits, CommandFits, InputFits, OutputFits, IsOutputHolder, ResultFits, PlaceIsIndex}
+use Rattle.gm_image.specs.Ranges.{IsIndex, IsOutputHolder, ResultFits, PlaceIsIndex}
+use Rattle.gm_image_text.specs.Fits.{IsPlain, IsName, TermFits, TargetFits, TargetsFit, LineFits, CommandFits, InputFits, OutputFits}
 use Rattle.gm_image_text.specs.Spelling.{type_word, reduce_word, combiner_word, holder_word, direction_word, term_words, target_words, vertex_words, command_words, item_words, outcome_words, result_words, kind_words, place_pair}
 use Rattle.gm_image_text.specs.Tables as tables
 use Rattle.gm_image_text.specs.Tables.{row_in}
-use Rattle.gm_image_text.specs.Reading.{◌>>=◌, Reads, word_at, next_at, then_at, last_at, whole_at, ended_at, fixed_at, index_at, type_at, reduce_at, name_in, name_at, expression_at, terms_upto, terms_in, types_in, first_row, name_row, count_row, on_row, result_in, result_row, type_row, item_at, item_of, input_holder, output_holder, direction_of, input_row, output_row, kind_of, kind_row, place_of, place_row, slot_in, only_index, reduced_in, fold_of, put_of, vertex_behind, vertex_row, master_behind, master_row}
+use Rattle.gm_image_text.specs.Reading.{◌>>=◌, Reads, word_at, next_at, then_at, last_at, whole_at, ended_at, fixed_at, index_at, type_at, reduce_at, name_in, name_at, expression_at, terms_upto, terms_in, types_in, first_row, name_row, count_row, on_row, result_in, result_row, type_row, item_at, item_of, input_holder, output_holder, input_row, output_row, kind_of, kind_row, place_of, place_row, slot_in, only_index, reduced_in, fold_of, put_of, vertex_behind, vertex_row, master_behind, master_row}
+use Rattle.gm_image.specs.Items.{direction_of}
 use Rattle.gm_image_text.proofs.LineBinds.{some_is, map_some, bind_some}
 use Rattle.gm_image_text.proofs.Spelled.{AllPlain, plain_both, plain_behind}
 use Rattle.gm_image_text.proofs.LineLaw.{LineLaw}

@@ -1,6 +1,7 @@
 -- A sound image has a text, its numbers being in range and its reductions having one slot each.
 use Rattle.std.proofs.Common.{◌≡◌, ◌<◌, ◌≤◌, ◌+◌, ℕ, zero, suc, Bool, true, false, ◌&&◌, List, [], ◌∷◌, ◌++◌, length, map, refl, ap, sym, ◌∙◌, subst, arith, length-append}
-use Rattle.std.specs.Prelude.{nat_lt, Option, Some, None}
+use Rattle.std.specs.Prelude.{nat_lt, Option, Some, None, Result, Ok, Err, IfOk, Vec}
+use Rattle.std.specs.declared.alloc.Global.{Global}
 use Rattle.std.specs.List.{list_all, flat_map, AllByRecursion}
 use Rattle.std.proofs.lemmas.Bool.Decides.{nat_tests}
 use Rattle.std.proofs.lemmas.List.{length-map}
@@ -9,8 +10,12 @@ use Rattle.gm_image.specs.Program.{Program, Item, Line, Command, Handler, Block}
 use Rattle.gm_image.specs.Names.{is_name, has_new_name, has_new_slot, may_hold, follows_edges, input_keeps, output_keeps}
 use Rattle.gm_image.specs.Rows.{Row, Plain, NameRow, InputRow, OutputRow, ResultRow, ColumnsRow, KindRow, HandlerRow, LineRow, MasterRow, CommandRow, Around, rows_after, plain_rows, body_rows, around_next, in_handlers, handler_rows, handlers_rows, handled_lines, outside, block_rows, command_rows, rows, line_count}
 use Rattle.gm_image.specs.Soundness.{keeps_all, line_limit, is_sound}
-use Rattle.gm_image_text.specs.Fits.{IsIndex, IsName, LineFits, CommandFits, InputFits, OutputFits, ListFits, Any, HandlerFits, BlockFits, Fits}
-use Rattle.gm_image_text.specs.Ranges.{LineRanged, CommandRanged, InputRanged, OutputRanged, HandlerRanged, BlockRanged, Ranged, has_one_target, block_has_one, has_one_targets}
+use Rattle.gm_image.specs.Ranges.{IsIndex}
+use Rattle.gm_image_text.specs.Fits.{IsName, LineFits, CommandFits, InputFits, OutputFits, ListFits, Any, HandlerFits, BlockFits, Fits}
+use Rattle.gm_image.specs.Ranges.{LineRanged, CommandRanged, InputRanged, OutputRanged, HandlerRanged, BlockRanged, Ranged}
+use Rattle.gm_image_text.specs.OneSlot.{has_one_target, block_has_one, has_one_targets}
+use Rattle.gm_image_text.specs.Spelling.{image_text}
+use Rattle.gm_image_text.specs.ImageText.{IsTextOf}
 use Rattle.gm_image_text.proofs.SoundTerms.{both, name_fits}
 use Rattle.gm_image_text.proofs.SoundLines.{split, Keeps, kept, line_ok, command_ok}
 
@@ -197,3 +202,12 @@ module _ (p : Program) where
         blocks = (omega (arith, l1.0, count_blocks p.blocks), blocks_ok p.blocks r.blocks o c1.0 l1.0);
         master = (omega (arith, l1.1, count_commands 0 p.master), commands_ok 0 p.master r.master c1.1);
       }
+
+-- what is written for a sound image is its text
+pub written_text : {E : Type 0} (p q : Program) (r : Result (Vec ℕ Global) E) → p ≡ q → is_sound p ≡ true → Ranged p → has_one_targets q ≡ true
+    → IfOk r (λ text. text.items ≡ image_text q) → IfOk r (λ text. IsTextOf q text.items)
+written_text p q (Ok text) e s n o h =
+    let sound : is_sound q ≡ true = subst (λ x. is_sound x ≡ true) e s in
+    let ranged : Ranged q = subst (λ x. Ranged x) e n in
+    record { fits = sound_fits q ranged sound o; spelled = h }
+written_text p q (Err x) e s n o h = h

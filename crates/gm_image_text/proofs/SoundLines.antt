@@ -17,7 +17,8 @@ use Rattle.gm_image.specs.Names.{names_keep}
 use Rattle.gm_image.specs.Rows.{Row, Site, LineRow, CommandRow}
 use Rattle.gm_image.specs.Soundness.{keeps, keeps_all, image_rules}
 use Rattle.gm_image_text.specs.Fits.{TermFits, TargetFits, TargetsFit, LineFits, CommandFits}
-use Rattle.gm_image_text.specs.Ranges.{InRange, TargetRanged, LineRanged, CommandRanged, is_single, has_one_target}
+use Rattle.gm_image.specs.Ranges.{InRange, TargetRanged, LineRanged, CommandRanged}
+use Rattle.gm_image_text.specs.OneSlot.{is_single, has_one_target}
 use Rattle.gm_image_text.proofs.SoundTerms.{both, term_fits}
 
 pub split : {X : Type 0} (p : X → Bool) (xs ys : List X) → list_all p (xs ++ ys) ≡ true → (list_all p xs ≡ true) × (list_all p ys ≡ true)

@@ -14,8 +14,9 @@ use Rattle.gm_image.specs.Program.{Program}
 use Rattle.gm_image.specs.Parts.{depth, is_shallow}
 use Rattle.gm_image.specs.Sorts.{expects, one_sort, two_sort, three_sort, sort_of, node_at_sort, live_sort, unary_sort, binary_sort, logic_sort, choice_sort}
 use Rattle.gm_image.specs.Names.{is_letter, is_digit, is_name_byte, begins_with_letter, is_name}
-use Rattle.gm_image_text.specs.Fits.{ends_word, IsPlain, IsName, IsIndex, ValueFits, PlaceFits, has_place1, has_place2, NumbersFit, levels, TermFits}
-use Rattle.gm_image_text.specs.Ranges.{ValueInRange, InRange}
+use Rattle.gm_image.specs.Ranges.{IsIndex, PlaceFits, has_place1, has_place2}
+use Rattle.gm_image_text.specs.Fits.{ends_word, IsPlain, IsName, ValueFits, NumbersFit, levels, TermFits}
+use Rattle.gm_image.specs.Ranges.{ValueInRange, InRange}
 
 -- the parts of a test
 pub both : (a b : Bool) → (a && b) ≡ true → (a ≡ true) × (b ≡ true)

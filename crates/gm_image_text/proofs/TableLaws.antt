@@ -28,12 +28,13 @@ use Rattle.gm_image_text.specs.declared.heads.InputHead.{InputHead}
 use Rattle.gm_image_text.specs.declared.heads.InputHead.TheVariants as input
 use Rattle.gm_image_text.specs.declared.heads.OutputHead.{OutputHead}
 use Rattle.gm_image_text.specs.declared.heads.OutputHead.TheVariants as output
-use Rattle.gm_image_text.specs.declared.heads.Way.{Way}
-use Rattle.gm_image_text.specs.declared.heads.Way.TheVariants as way
+use Rattle.gm_image.specs.declared.lines.Direction.{Direction as Way}
+use Rattle.gm_image.specs.declared.lines.Direction.TheVariants as way
 use Rattle.gm_image_text.specs.Lines.{Word}
 use Rattle.gm_image_text.specs.Fits.{IsPlain}
 use Rattle.gm_image_text.specs.Spelling.{type_word, reduce_word, combiner_word, holder_word, direction_word}
-use Rattle.gm_image_text.specs.Reading.{input_holder, output_holder, direction_of}
+use Rattle.gm_image_text.specs.Reading.{input_holder, output_holder}
+use Rattle.gm_image.specs.Items.{direction_of}
 use Rattle.gm_image_text.specs.Tables.{row_in, heads, types, reductions, combiners, flags, vertex_heads, master_heads, input_heads, output_heads, ways}
 use Rattle.gm_image_text.proofs.Fields.{WordLaw, table_word}
 

@@ -24,7 +24,8 @@ use Rattle.gm_image_text.specs.declared.heads.PlacedTwo.TheVariants as placed_tw
 use Rattle.gm_image_text.specs.declared.heads.Head.{Head}
 use Rattle.gm_image_text.specs.declared.heads.Head.TheVariants as head
 use Rattle.gm_image_text.specs.Lines.{Word}
-use Rattle.gm_image_text.specs.Fits.{IsIndex, IsPlain, NumbersFit, PlaceFits, TermFits, has_place1, has_place2, levels}
+use Rattle.gm_image.specs.Ranges.{IsIndex, PlaceFits, has_place1, has_place2}
+use Rattle.gm_image_text.specs.Fits.{IsPlain, NumbersFit, TermFits, levels}
 use Rattle.gm_image_text.specs.Spelling.{value_words, term_words, op1_word, op2_word, place_words}
 use Rattle.gm_image_text.specs.Tables as tables
 use Rattle.gm_image_text.specs.Tables.{row_in}

@@ -16,10 +16,7 @@ use Rattle.gm_image.specs.Term.{Term, Const, Global, NodeCount, EdgeCount, Field
 use Rattle.gm_image.specs.Program as programs
 use Rattle.gm_image.specs.Program.{Program, Target, SetField, Fold, SetRegister, Put, Send, Skip, Each, Command, SetGlobal, Step, Jump, Test, Turn, Back, Finish, Holder, Scalar, Node, Edge, Item, Handler, Block}
 use Rattle.gm_image.specs.declared.images.Kind.{Kind}
-
--- an index or a count
-abbrev pub IsIndex : ℕ → Type 0
-IsIndex n = n < 4294967296
+use Rattle.gm_image.specs.Ranges.{IsIndex, PlaceFits, has_place1, has_place2, IsOutputHolder, ResultFits, PlaceIsIndex}
 
 -- a byte that ends a word: LF or a space
 abbrev pub ends_word : ℕ → Bool
@@ -41,27 +38,6 @@ ValueFits (values.I64 z) = IsTrue (fits types.I64 z)
 ValueFits (values.Flag b) = Unit {0}
 ValueFits (values.At None) = Unit {0}
 ValueFits (values.At (Some index)) = ⊥
-
--- an operation that may fault has the index of a place, and no other has one
-abbrev pub PlaceFits : Bool → Option ℕ → Type 0
-PlaceFits true None = ⊥
-PlaceFits true (Some p) = IsIndex p
-PlaceFits false None = Unit {0}
-PlaceFits false (Some p) = ⊥
-
-abbrev pub has_place1 : Op1 → Bool
-has_place1 one.Neg = true
-has_place1 one.Not = false
-has_place1 one.ToI32 = true
-has_place1 one.ToI64 = false
-
-abbrev pub has_place2 : Op2 → Bool
-has_place2 two.Add = true
-has_place2 two.Sub = true
-has_place2 two.Mul = true
-has_place2 two.Div = true
-has_place2 two.Rem = true
-has_place2 op = false
 
 -- the numbers and constants of an expression are in their ranges
 abbrev pub NumbersFit : Term → Type 0
@@ -131,21 +107,8 @@ CommandFits Finish = Unit {0}
 abbrev pub InputFits : Item → Type 0
 InputFits i = IsName i.name × IsIndex i.slot
 
--- an output is no edge property
-abbrev pub IsOutputHolder : Holder → Type 0
-IsOutputHolder Scalar = Unit {0}
-IsOutputHolder Node = Unit {0}
-IsOutputHolder Edge = ⊥
-
 abbrev pub OutputFits : Item → Type 0
 OutputFits i = IsOutputHolder i.holder × IsName i.name × IsIndex i.slot
-
-abbrev pub ResultFits : Option (VType × ℕ) → Type 0
-ResultFits None = Unit {0}
-ResultFits (Some r) = IsIndex r.1
-
-abbrev pub PlaceIsIndex : Place → Type 0
-PlaceIsIndex p = IsIndex p.line × IsIndex p.col
 
 -- as many items as a count can say, each with a spelling
 abbrev pub ListFits : {A : Type 0} → (A → Type 0) → List A → Type 0

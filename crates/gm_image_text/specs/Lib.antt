@@ -2,10 +2,11 @@ pub mod Lines
 pub mod Spelling
 pub mod Fits
 pub mod ImageText
-pub mod Ranges
+pub mod OneSlot
 pub mod Giving
 pub mod Tables
 pub mod Numbers
 pub mod Reading
 pub mod Sections
 pub mod Seen
+pub mod ShapeWords

@@ -11,7 +11,7 @@ use Rattle.gm_image.specs.declared.images.Kind.{Kind}
 use Rattle.gm_image.specs.Term as T
 use Rattle.gm_image.specs.Term.{Term}
 use Rattle.gm_image.specs.Program as P
-use Rattle.gm_image.specs.Program.{Direction, Holder, Item, Command}
+use Rattle.gm_image.specs.Program.{Holder, Item, Command}
 use Rattle.gm_image_text.specs.declared.heads.Leaf.{Leaf}
 use Rattle.gm_image_text.specs.declared.heads.Leaf.TheVariants as leaf
 use Rattle.gm_image_text.specs.declared.heads.Indexed.{Indexed}
@@ -34,8 +34,7 @@ use Rattle.gm_image_text.specs.declared.heads.InputHead.{InputHead}
 use Rattle.gm_image_text.specs.declared.heads.InputHead.TheVariants as input
 use Rattle.gm_image_text.specs.declared.heads.OutputHead.{OutputHead}
 use Rattle.gm_image_text.specs.declared.heads.OutputHead.TheVariants as output
-use Rattle.gm_image_text.specs.declared.heads.Way.{Way}
-use Rattle.gm_image_text.specs.declared.heads.Way.TheVariants as way
+use Rattle.gm_image.specs.Items.{direction_of}
 use Rattle.gm_image_text.specs.Lines.{Word, Line, words_of, line_words}
 use Rattle.gm_image_text.specs.Tables.{row_in, heads, types, reductions, combiners, vertex_heads, master_heads, input_heads, output_heads, ways}
 use Rattle.gm_image_text.specs.Numbers.{index_in, value_in}
@@ -201,10 +200,6 @@ input_holder input.Edge = P.Edge
 abbrev pub output_holder : OutputHead → Holder
 output_holder output.Scalar = P.Scalar
 output_holder output.Node = P.Node
-
-abbrev pub direction_of : Way → Direction
-direction_of way.Out = P.Out
-direction_of way.In = P.In
 
 -- the first line
 abbrev pub first_row : List Word → Option (Unit {0})

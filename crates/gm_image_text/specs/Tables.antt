@@ -8,7 +8,7 @@ use Rattle.gm_image_text.specs.declared.heads.VertexHead.{VertexHead}
 use Rattle.gm_image_text.specs.declared.heads.MasterHead.{MasterHead}
 use Rattle.gm_image_text.specs.declared.heads.InputHead.{InputHead}
 use Rattle.gm_image_text.specs.declared.heads.OutputHead.{OutputHead}
-use Rattle.gm_image_text.specs.declared.heads.Way.{Way}
+use Rattle.gm_image.specs.declared.lines.Direction.{Direction as Way}
 use Rattle.gm_image_text.specs.Lines.{Word}
 
 -- what a table has beside a word

@@ -1,9 +1,11 @@
 //! What an image's text may have wrong with it.
 
 ghost use Rattle.std.specs.Prelude.{◌≡◌, Some, codes};
+ghost use Rattle.gm_image_text.specs.declared.faults.ImageFault.TheVariants.{NoMemory as image_no_memory};
 ghost use Rattle.gm_image_text.specs.declared.faults.LineStop.TheVariants.{NoMemory as line_no_memory};
 ghost use Rattle.gm_image_text.specs.declared.faults.TextStop.TheVariants.{NoMemory as text_no_memory};
 
+use gm_base::NoMemory;
 use std::alloc::{AllocError, AllocFailed};
 
 /// Why a text was not read.
@@ -16,6 +18,14 @@ pub enum ImageFault {
     TooLong,
     /// There was not enough memory.
     NoMemory,
+}
+
+impl From<NoMemory> for ImageFault {
+    ghost from_gives = { λ _ fault. fault ≡ image_no_memory };
+
+    fn from(_error: NoMemory) -> ImageFault {
+        ImageFault::NoMemory
+    }
 }
 
 // Why a line was not read.

@@ -1,9 +1,10 @@
 //! What the first word of an expression says of it.
 
+use gm_image::Direction;
 use gm_value::{Reduce, VType};
 
 // An expression without parts.
-#[derive(Clone, Copy, Debug, PartialEq, Eq)]
+#[derive(Clone, Copy)]
 pub enum Leaf {
     NodeCount,
     EdgeCount,
@@ -14,7 +15,7 @@ pub enum Leaf {
 }
 
 // An expression with an index alone.
-#[derive(Clone, Copy, Debug, PartialEq, Eq)]
+#[derive(Clone, Copy)]
 pub enum Indexed {
     Global,
     Field,
@@ -24,7 +25,7 @@ pub enum Indexed {
 }
 
 // An operation on one part.
-#[derive(Clone, Copy, Debug, PartialEq, Eq)]
+#[derive(Clone, Copy)]
 pub enum One {
     NodeAt,
     ToLong,
@@ -32,7 +33,7 @@ pub enum One {
 }
 
 // An operation on one part that may fault at a place.
-#[derive(Clone, Copy, Debug, PartialEq, Eq)]
+#[derive(Clone, Copy)]
 pub enum PlacedOne {
     Live,
     Neg,
@@ -40,7 +41,7 @@ pub enum PlacedOne {
 }
 
 // An operation on two parts.
-#[derive(Clone, Copy, Debug, PartialEq, Eq)]
+#[derive(Clone, Copy)]
 pub enum Two {
     Eq,
     Ne,
@@ -53,7 +54,7 @@ pub enum Two {
 }
 
 // An operation on two parts that may fault at a place.
-#[derive(Clone, Copy, Debug, PartialEq, Eq)]
+#[derive(Clone, Copy)]
 pub enum PlacedTwo {
     Add,
     Sub,
@@ -63,7 +64,7 @@ pub enum PlacedTwo {
 }
 
 // What the first word of an expression says of it.
-#[derive(Clone, Copy, Debug, PartialEq, Eq)]
+#[derive(Clone, Copy)]
 pub enum Head {
     Constant,
     Leaf(Leaf),
@@ -76,7 +77,7 @@ pub enum Head {
 }
 
 // What the first word of a vertex line says of it.
-#[derive(Clone, Copy, Debug, PartialEq, Eq)]
+#[derive(Clone, Copy)]
 pub enum VertexHead {
     SetField,
     Fold,
@@ -88,7 +89,7 @@ pub enum VertexHead {
 }
 
 // What the first word of a master line says of it.
-#[derive(Clone, Copy, Debug, PartialEq, Eq)]
+#[derive(Clone, Copy)]
 pub enum MasterHead {
     SetGlobal,
     Step,
@@ -100,24 +101,17 @@ pub enum MasterHead {
 }
 
 // Where an input starts, or an output ends.
-#[derive(Clone, Copy, Debug, PartialEq, Eq)]
+#[derive(Clone, Copy)]
 pub enum InputHead {
     Scalar,
     Node,
     Edge,
 }
 
-#[derive(Clone, Copy, Debug, PartialEq, Eq)]
+#[derive(Clone, Copy)]
 pub enum OutputHead {
     Scalar,
     Node,
-}
-
-// Which edges an each goes over.
-#[derive(Clone, Copy, Debug, PartialEq, Eq)]
-pub enum Way {
-    Out,
-    In,
 }
 
 pub const HEADS: [(&[u8], Head); 32] = [
@@ -214,4 +208,4 @@ pub const OUTPUT_HEADS: [(&[u8], OutputHead); 2] = [
     (b"node", OutputHead::Node),
 ];
 
-pub const WAYS: [(&[u8], Way); 2] = [(b"out", Way::Out), (b"in", Way::In)];
+pub const WAYS: [(&[u8], Direction); 2] = [(b"out", Direction::Out), (b"in", Direction::In)];

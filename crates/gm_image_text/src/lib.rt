@@ -20,4 +20,4 @@ mod writes;
 pub use faults::ImageFault;
 pub use laws::{each_text_is_of_one_image, sound_images_have_texts};
 pub use reads::read_image;
-pub use writes::write_image;
+pub use writes::{write_image, written_and_read};

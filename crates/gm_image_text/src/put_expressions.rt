@@ -5,12 +5,14 @@ ghost use Rattle.std.specs.Fmt.{decimal};
 ghost use Rattle.std.specs.List.{flat_map};
 ghost use Rattle.gm_image.specs.Views.{term, target};
 ghost use Rattle.gm_image_text.specs.Lines.{led};
-ghost use Rattle.gm_image_text.specs.Spelling.{value_words, term_words, target_words};
+ghost use Rattle.gm_image_text.specs.Spelling.{op1_word as op1_word_lem, op2_word as op2_word_lem, place_words, value_words, term_words, target_words};
+ghost use Rattle.gm_image_text.specs.ShapeWords.{one_words, two_words};
+ghost use Rattle.gm_image.specs.Shapes.{leaf_term};
 
 use crate::put_words::{put_indexed, put_number, put_value, put_word};
 use gm_base::NoMemory;
-use gm_image::Expr;
-use gm_value::Value;
+use gm_image::{Expr, Leaf, One, Shape, Two};
+use gm_value::{Op1, Op2, Value};
 
 // Writes a constant.
 fn put_constant(text: &mut Vec<u8>, value: Value) -> Result<(), NoMemory>
@@ -21,104 +23,107 @@ fn put_constant(text: &mut Vec<u8>, value: Value) -> Result<(), NoMemory>
     Ok(())
 }
 
-// Writes a word and a part.
-#[cycle(spelled)]
-fn put_one(text: &mut Vec<u8>, word: &[u8], a: &Expr) -> Result<(), NoMemory>
-    ensures { OnOk result (text.new.items ≡ text.old.items ++ led (word.now ∷ term_words (term a.now))) }
+// The word of an operation on one value.
+fn op1_word(op: Op1) -> &'static [u8]
+    ensures { result.now ≡ op1_word_lem op }
 {
-    put_word(text, word)?;
-    put_expr(text, a)?;
-    Ok(())
+    match op {
+        Op1::Neg => b"neg",
+        Op1::Not => b"not",
+        Op1::ToI32 => b"int",
+        Op1::ToI64 => b"long",
+    }
 }
 
-// Writes a word, a place and a part.
-#[cycle(spelled)]
-fn put_placed_one(text: &mut Vec<u8>, word: &[u8], place: u32, a: &Expr) -> Result<(), NoMemory>
-    ensures { OnOk result (text.new.items ≡ text.old.items ++ led (word.now ∷ decimal place ∷ term_words (term a.now))) }
+// The word of an operation on two values.
+fn op2_word(op: Op2) -> &'static [u8]
+    ensures { result.now ≡ op2_word_lem op }
 {
-    put_indexed(text, word, place)?;
-    put_expr(text, a)?;
-    Ok(())
+    match op {
+        Op2::Add => b"+",
+        Op2::Sub => b"-",
+        Op2::Mul => b"*",
+        Op2::Div => b"/",
+        Op2::Rem => b"%",
+        Op2::Eq => b"==",
+        Op2::Ne => b"!=",
+        Op2::Lt => b"<",
+        Op2::Gt => b">",
+        Op2::Le => b"<=",
+        Op2::Ge => b">=",
+    }
+}
+
+// Writes an operation and its place, if it has one.
+fn put_operation(text: &mut Vec<u8>, word: &[u8], place: Option<u32>) -> Result<(), NoMemory>
+    ensures { OnOk result (text.new.items ≡ text.old.items ++ led (word.now ∷ place_words place)) }
+{
+    match place {
+        None => put_word(text, word),
+        Some(place) => put_indexed(text, word, place),
+    }
+}
+
+// Writes an operation with one operand: its word and its place.
+fn put_one(text: &mut Vec<u8>, op: One) -> Result<(), NoMemory>
+    ensures { OnOk result (text.new.items ≡ text.old.items ++ led (one_words op)) }
+{
+    match op {
+        One::NodeAt => put_word(text, b"node"),
+        One::Live(place) => put_indexed(text, b"live", place),
+        One::Op(op, place) => put_operation(text, op1_word(op), place),
+    }
+}
+
+// Writes an operation with two operands: its word and its place.
+fn put_two(text: &mut Vec<u8>, op: Two) -> Result<(), NoMemory>
+    ensures { OnOk result (text.new.items ≡ text.old.items ++ led (two_words op)) }
+{
+    match op {
+        Two::Op(op, place) => put_operation(text, op2_word(op), place),
+        Two::And => put_word(text, b"&&"),
+        Two::Or => put_word(text, b"||"),
+    }
+}
+
+// Writes a leaf.
+fn put_leaf(text: &mut Vec<u8>, leaf: Leaf) -> Result<(), NoMemory>
+    ensures { OnOk result (text.new.items ≡ text.old.items ++ led (term_words (leaf_term leaf))) }
+{
+    match leaf {
+        Leaf::Const(value) => put_constant(text, value),
+        Leaf::Global(i) => put_indexed(text, b"g", i),
+        Leaf::NodeCount => put_word(text, b"nn"),
+        Leaf::EdgeCount => put_word(text, b"ne"),
+        Leaf::Field(i) => put_indexed(text, b"f", i),
+        Leaf::Id => put_word(text, b"id"),
+        Leaf::OutDegree => put_word(text, b"out"),
+        Leaf::InDegree => put_word(text, b"inn"),
+        Leaf::Register(i) => put_indexed(text, b"r", i),
+        Leaf::Message(i) => put_indexed(text, b"m", i),
+        Leaf::Neighbour => put_word(text, b"nb"),
+        Leaf::Column(i) => put_indexed(text, b"w", i),
+    }
 }
 
 // Writes an expression, each of its words behind a space.
-#[cycle(spelled)]
 pub fn put_expr(text: &mut Vec<u8>, expr: &Expr) -> Result<(), NoMemory>
     ensures { OnOk result (text.new.items ≡ text.old.items ++ led (term_words (term expr.now))) }
 {
-    match expr {
-        Expr::Const(value) => put_constant(text, *value),
-        Expr::Global(i) => put_indexed(text, b"g", *i),
-        Expr::NodeCount => put_word(text, b"nn"),
-        Expr::EdgeCount => put_word(text, b"ne"),
-        Expr::Field(i) => put_indexed(text, b"f", *i),
-        Expr::Id => put_word(text, b"id"),
-        Expr::OutDegree => put_word(text, b"out"),
-        Expr::InDegree => put_word(text, b"inn"),
-        Expr::Register(i) => put_indexed(text, b"r", *i),
-        Expr::Message(i) => put_indexed(text, b"m", *i),
-        Expr::Neighbour => put_word(text, b"nb"),
-        Expr::Column(i) => put_indexed(text, b"w", *i),
-        Expr::NodeAt(a) => put_one(text, b"node", a),
-        Expr::Live(place, a) => put_placed_one(text, b"live", *place, a),
-        Expr::Add(place, a, b) => {
-            put_placed_one(text, b"+", *place, a)?;
+    match expr.shape() {
+        Shape::Leaf(leaf) => put_leaf(text, leaf),
+        Shape::One(op, a) => {
+            put_one(text, op)?;
+            put_expr(text, a)
+        }
+        Shape::Two(op, a, b) => {
+            put_two(text, op)?;
+            put_expr(text, a)?;
             put_expr(text, b)
         }
-        Expr::Sub(place, a, b) => {
-            put_placed_one(text, b"-", *place, a)?;
-            put_expr(text, b)
-        }
-        Expr::Mul(place, a, b) => {
-            put_placed_one(text, b"*", *place, a)?;
-            put_expr(text, b)
-        }
-        Expr::Div(place, a, b) => {
-            put_placed_one(text, b"/", *place, a)?;
-            put_expr(text, b)
-        }
-        Expr::Rem(place, a, b) => {
-            put_placed_one(text, b"%", *place, a)?;
-            put_expr(text, b)
-        }
-        Expr::Neg(place, a) => put_placed_one(text, b"neg", *place, a),
-        Expr::ToInt(place, a) => put_placed_one(text, b"int", *place, a),
-        Expr::ToLong(a) => put_one(text, b"long", a),
-        Expr::Eq(a, b) => {
-            put_one(text, b"==", a)?;
-            put_expr(text, b)
-        }
-        Expr::Ne(a, b) => {
-            put_one(text, b"!=", a)?;
-            put_expr(text, b)
-        }
-        Expr::Lt(a, b) => {
-            put_one(text, b"<", a)?;
-            put_expr(text, b)
-        }
-        Expr::Gt(a, b) => {
-            put_one(text, b">", a)?;
-            put_expr(text, b)
-        }
-        Expr::Le(a, b) => {
-            put_one(text, b"<=", a)?;
-            put_expr(text, b)
-        }
-        Expr::Ge(a, b) => {
-            put_one(text, b">=", a)?;
-            put_expr(text, b)
-        }
-        Expr::Not(a) => put_one(text, b"not", a),
-        Expr::And(a, b) => {
-            put_one(text, b"&&", a)?;
-            put_expr(text, b)
-        }
-        Expr::Or(a, b) => {
-            put_one(text, b"||", a)?;
-            put_expr(text, b)
-        }
-        Expr::Choose(c, a, b) => {
-            put_one(text, b"?", c)?;
+        Shape::Choose(c, a, b) => {
+            put_word(text, b"?")?;
+            put_expr(text, c)?;
             put_expr(text, a)?;
             put_expr(text, b)
         }

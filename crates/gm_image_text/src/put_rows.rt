@@ -4,15 +4,16 @@ ghost use Rattle.std.specs.Prelude.{◌≡◌, ◌++◌, ◌∷◌, [], List, On
 ghost use Rattle.std.specs.Fmt.{decimal};
 ghost use Rattle.std.specs.List.{flat_map};
 ghost use Rattle.gm_image.specs.Views.{term, target, input, output, line, command};
+ghost use Rattle.gm_image.specs.Items.{holder_of, item_of};
 ghost use Rattle.gm_image_text.specs.Lines.{Line as TextLine, joined, spaced, text_of};
-ghost use Rattle.gm_image_text.specs.Spelling.{type_word as type_word_lem, reduce_word as reduce_word_lem, combiner_word, term_words, target_words, one_line, item_words, kind_words, place_pair, type_lines, vertex_words, command_words, result_words};
+ghost use Rattle.gm_image_text.specs.Spelling.{holder_word as holder_word_lem, type_word as type_word_lem, reduce_word as reduce_word_lem, combiner_word, term_words, target_words, one_line, item_words, kind_words, place_pair, type_lines, vertex_words, command_words, result_words};
 
 use crate::put_expressions::{put_expr, put_exprs, put_slots};
 use crate::put_words::{
     put, put_first_number, put_number, put_type, put_types, put_word, reduce_word, type_word,
 };
 use gm_base::{Items, NoMemory, Place};
-use gm_image::{Expr, InputItem, Kind, MasterLine, OutputItem, VertexLine};
+use gm_image::{Expr, Holder, InputItem, Item, Kind, MasterLine, OutputItem, VertexLine};
 use gm_value::{Reduce, VType};
 
 // What is written as lines.
@@ -25,20 +26,25 @@ pub trait Spelled {
         ensures { OnOk result (text.new.items ≡ text.old.items ++ text_of (spelled self.now)) };
 }
 
-// Writes the line of an input or an output.
-fn put_item(
-    text: &mut Vec<u8>,
-    word: &[u8],
-    vtype: VType,
-    name: &Items<u8>,
-    slot: u32,
-) -> Result<(), NoMemory>
-    ensures { OnOk result (text.new.items ≡ text.old.items ++ spaced (word.now ∷ type_word_lem vtype ∷ name.now ∷ decimal slot ∷ [])) }
+// The word of what holds an input or an output.
+fn holder_word(holder: Holder) -> &'static [u8]
+    ensures { result.now ≡ holder_word_lem (holder_of holder) }
 {
-    put(text, word)?;
-    put_type(text, vtype)?;
-    put_word(text, name.as_slice())?;
-    put_number(text, slot)?;
+    match holder {
+        Holder::Scalar => b"scalar",
+        Holder::Node => b"node",
+        Holder::Edge => b"edge",
+    }
+}
+
+// Writes the line of an input or an output.
+fn put_item(text: &mut Vec<u8>, item: Item) -> Result<(), NoMemory>
+    ensures { OnOk result (text.new.items ≡ text.old.items ++ spaced (item_words (item_of item.entry))) }
+{
+    put(text, holder_word(item.holder))?;
+    put_type(text, item.vtype)?;
+    put_word(text, item.name)?;
+    put_number(text, item.slot)?;
     put(text, b"\n")?;
     Ok(())
 }
@@ -47,13 +53,8 @@ impl Spelled for InputItem {
     ghost spelled = { λ i. one_line item_words (input i) };
 
     fn write(&self, text: &mut Vec<u8>) -> Result<(), NoMemory> {
-        match self {
-            InputItem::Scalar { vtype, name, slot } => {
-                put_item(text, b"scalar", *vtype, name, *slot)
-            }
-            InputItem::Node { vtype, name, slot } => put_item(text, b"node", *vtype, name, *slot),
-            InputItem::Edge { vtype, name, slot } => put_item(text, b"edge", *vtype, name, *slot),
-        }
+        put_item(text, self.item())?;
+        Ok(())
     }
 }
 
@@ -61,12 +62,8 @@ impl Spelled for OutputItem {
     ghost spelled = { λ i. one_line item_words (output i) };
 
     fn write(&self, text: &mut Vec<u8>) -> Result<(), NoMemory> {
-        match self {
-            OutputItem::Scalar { vtype, name, slot } => {
-                put_item(text, b"scalar", *vtype, name, *slot)
-            }
-            OutputItem::Node { vtype, name, slot } => put_item(text, b"node", *vtype, name, *slot),
-        }
+        put_item(text, self.item())?;
+        Ok(())
     }
 }
 

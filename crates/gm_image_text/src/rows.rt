@@ -15,12 +15,12 @@ use crate::expressions::{index, line_expression, line_expressions, vtype};
 use crate::faults::LineStop;
 use crate::heads::{
     COMBINERS, INPUT_HEADS, InputHead, MASTER_HEADS, MasterHead, OUTPUT_HEADS, OutputHead,
-    REDUCTIONS, VERTEX_HEADS, VertexHead, WAYS, Way,
+    REDUCTIONS, VERTEX_HEADS, VertexHead, WAYS,
 };
 use crate::tables::{known, same};
 use crate::words::{Words, ended, expect, next_word};
 use gm_base::{Items, Place};
-use gm_image::{Expr, InputItem, Kind, MasterLine, OutputItem, VertexLine};
+use gm_image::{Direction, Expr, InputItem, Kind, MasterLine, OutputItem, VertexLine};
 use gm_value::{Reduce, VType};
 use std::alloc::Global;
 
@@ -294,11 +294,11 @@ fn each(words: Words) -> Result<VertexLine, LineStop>
     ensures { GivesLine line result (vertex_behind_lem VertexHead.Each (words_left words.entry)) }
 {
     let (word, rest) = next_word(words)?;
-    let way = known(&WAYS, word)?;
+    let direction = known(&WAYS, word)?;
     let count = only_index(rest)?;
-    Ok(match way {
-        Way::Out => VertexLine::EachOut(count),
-        Way::In => VertexLine::EachIn(count),
+    Ok(match direction {
+        Direction::Out => VertexLine::EachOut(count),
+        Direction::In => VertexLine::EachIn(count),
     })
 }
 

@@ -1,14 +1,18 @@
 //! Writing an image's text.
 
-ghost use Rattle.std.specs.Prelude.{◌≡◌, ◌++◌, ◌∷◌, [], OnOk, IfOk, codes};
+ghost use Rattle.std.specs.Prelude.{◌≡◌, ◌≤◌, ◌++◌, ◌∷◌, [], OnOk, IfOk, IsTrue, length, codes};
 ghost use Rattle.std.specs.Fmt.{decimal};
 ghost use Rattle.std.specs.List.{flat_map};
 ghost use Rattle.gm_image.specs.Views.{handler, block, program};
 ghost use Rattle.gm_image_text.specs.Lines.{spaced, text_of};
+ghost use Rattle.gm_image_text.specs.OneSlot.{has_one_targets};
+ghost use Rattle.gm_image_text.specs.ImageText.{IsTextOf, IsReadOf, most_bytes};
 ghost use Rattle.gm_image_text.specs.Spelling.{listed, handler_lines, block_lines, opening_lines, middle_lines, closing_lines, image_text};
 
+use crate::faults::ImageFault;
 use crate::put_rows::{Spelled, put_result};
 use crate::put_words::{put, put_number, put_word};
+use crate::reads::read_image;
 use gm_base::{Items, NoMemory};
 use gm_image::{Block, Handler, Image, Sound};
 use std::alloc::Global;
@@ -105,14 +109,29 @@ pub fn written(alloc: Global, image: &Image) -> Result<Vec<u8>, NoMemory>
 }
 
 /// The text of an image: its lines in their order, each of words with one space between two, and ended with LF. The
-/// image is gone through once. Where each of its reductions has one slot, the text is the one that `read_image` reads
-/// as this image; a reduction of several slots has no spelling.
+/// image is gone through once. Where each of its reductions has one slot, the text is the one text of this image, and
+/// `read_image` answers it with this image, unless it is longer than 268,435,456 bytes; a reduction of several slots has
+/// no spelling.
 ///
 /// # Errors
 ///
 /// `NoMemory`, and nothing else.
 pub fn write_image(alloc: Global, image: &Sound) -> Result<Vec<u8>, NoMemory>
-    ensures { IfOk result (λ text. text.items ≡ image_text (program image.now)) }
+    ensures spelled { IfOk result (λ text. text.items ≡ image_text (program image.now)) }
+    ensures text { IsTrue (has_one_targets (program image.now)) → IfOk result (λ text. IsTextOf (program image.now) text.items) }
 {
     written(alloc, image.image())
+}
+
+/// What is written for an image and read again. It is the image, where each of its reductions has one slot and its text
+/// is at most 268,435,456 bytes long.
+///
+/// # Errors
+///
+/// `NoMemory`, and for an image with a reduction of several slots or with a longer text what `read_image` says of it.
+pub fn written_and_read(alloc: Global, image: &Sound) -> Result<Image, ImageFault>
+    ensures { IsTrue (has_one_targets (program image.now)) → length (image_text (program image.now)) ≤ most_bytes → IsReadOf (program image.now) result }
+{
+    let text = write_image(alloc, image)?;
+    read_image(alloc, text.as_slice())
 }

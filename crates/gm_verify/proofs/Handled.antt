@@ -15,7 +15,7 @@ use Rattle.gm_verify.specs.declared.scopes.Scope.{Scope}
 use Rattle.gm_verify.specs.declared.lines.Spot.{Spot}
 use Rattle.gm_verify.specs.declared.stops.VerifyStop.{VerifyStop}
 use Rattle.gm_verify.specs.Checks.{Steps, Checks, Walks}
-use Rattle.gm_verify.specs.Tests.{direction}
+use Rattle.gm_image.specs.Items.{direction_of}
 use Rattle.gm_verify.specs.Scopes.{ShowsScope, ShowsFolds, ShowsPuts}
 use Rattle.gm_verify.specs.Sites.{ShowsInsides, ShowsSite}
 use Rattle.gm_verify.proofs.Lists.{nothing-left, taken-all}
@@ -74,7 +74,7 @@ pub scope-more : (now new : Scope) (l : Line) → new.each ≡ now.each → new.
     → ((before : List Line) → ShowsFolds now.firsts before → ShowsFolds new.firsts (before ++ l ∷ []))
     → (all before : List Line) → ShowsScope now (in_handlers all before) → ShowsScope new (in_handlers all (before ++ l ∷ []))
 scope-more now new l each left folded adds all before s = record {
-  each = s.each ∙ ap (λ o. option_map direction o) (sym each);
+  each = s.each ∙ ap (λ o. option_map direction_of o) (sym each);
   left = s.left ∙ sym left;
   folded = λ n. ap (λ f. contains nat_eq f n) folded ∙ s.folded n;
   before = adds before s.before;

@@ -22,3 +22,4 @@ pub mod Sections
 pub mod Parts
 pub mod Wholes
 pub mod Counting
+pub mod ShapeSorts

@@ -9,7 +9,7 @@ use Rattle.gm_image.specs.Parts.{is_among}
 use Rattle.gm_image.specs.Rows.{Around, left_after, each_around, around_by, around_next}
 use Rattle.gm_image.specs.Folds.{folded_fields}
 use Rattle.gm_verify.specs.declared.scopes.Scope.{Scope}
-use Rattle.gm_verify.specs.Tests.{direction}
+use Rattle.gm_image.specs.Items.{direction_of}
 use Rattle.gm_verify.specs.Scopes.{each_of, ShowsScope, ShowsFolds}
 
 take-none : {A : Type 0} (n : ℕ) → take {A = A} n [] ≡ []
@@ -34,7 +34,7 @@ around-first a l ls zero zero none some = absurd (some refl)
 around-first a l ls zero (suc left) none some = refl
 around-first a l ls (suc old) left none some = absurd (omega (arith, none))
 
-shows-each : (s : Scope) (l : Line) (ls : List Line) → s.left ≡ left_after 0 l → (s.left ≡ 0 → ⊥) → option_map direction s.each ≡ each_of l
+shows-each : (s : Scope) (l : Line) (ls : List Line) → s.left ≡ left_after 0 l → (s.left ≡ 0 → ⊥) → option_map direction_of s.each ≡ each_of l
     → ((n : ℕ) → contains nat_eq s.folded n ≡ is_among n (folded_fields (take s.left ls))) → ShowsFolds s.firsts [] → ShowsScope s (each_around l s.left ls)
 shows-each s (Each d n) ls is some each folded firsts = record { each = sym each; left = refl; folded = folded; before = firsts }
 shows-each s (SetField f a) ls is some each folded firsts = absurd (some is)
@@ -45,7 +45,7 @@ shows-each s (Send k to vs) ls is some each folded firsts = absurd (some is)
 shows-each s (Skip n a) ls is some each folded firsts = absurd (some is)
 
 -- an each begins
-pub moves-in : (s : Scope) (a : Around) (l : Line) (ls : List Line) → a.left ≡ 0 → s.left ≡ left_after a.left l → (s.left ≡ 0 → ⊥) → option_map direction s.each ≡ each_of l
+pub moves-in : (s : Scope) (a : Around) (l : Line) (ls : List Line) → a.left ≡ 0 → s.left ≡ left_after a.left l → (s.left ≡ 0 → ⊥) → option_map direction_of s.each ≡ each_of l
     → ((n : ℕ) → contains nat_eq s.folded n ≡ is_among n (folded_fields (take s.left ls))) → ShowsFolds s.firsts [] → ShowsScope s (around_next a l ls)
 moves-in s a l ls old is some each folded firsts =
     subst (λ (b : Around). ShowsScope s b)

@@ -6,18 +6,7 @@ use Rattle.std.specs.HashSet.{contains}
 use Rattle.std.specs.Borrow.{Bor}
 use Rattle.gm_image.specs.Program as P
 use Rattle.gm_image.specs.Names.{is_at, is_of_edges}
-use Rattle.gm_verify.specs.declared.items.Holder.{Holder}
-use Rattle.gm_verify.specs.declared.items.Holder.TheVariants.{Scalar, Node, Edge}
-use Rattle.gm_verify.specs.declared.items.Declaration.{Declaration}
 use Rattle.gm_verify.specs.declared.items.Seen.{Seen}
-
-abbrev pub holder_of : Holder → P.Holder
-holder_of Scalar = P.Scalar
-holder_of Node = P.Node
-holder_of Edge = P.Edge
-
-abbrev pub item_of : Declaration → P.Item
-item_of i = record { holder = holder_of i.holder; vtype = i.vtype; name = i.name.now; slot = i.slot }
 
 -- names, slots and edges that were seen are those of some items
 pub record Shows (s : Seen) (before : List P.Item) : Type 0 where

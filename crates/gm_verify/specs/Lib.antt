@@ -5,3 +5,4 @@ pub mod Firsts
 pub mod Scopes
 pub mod Sites
 pub mod Tails
+pub mod ShapeSorts

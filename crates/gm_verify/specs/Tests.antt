@@ -2,20 +2,13 @@
 use Rattle.std.specs.Prelude.{nat_eq, Bool, true, false, not, option_map}
 use Rattle.std.specs.HashSet.{contains}
 use Rattle.gm_image.specs.Term.{Term, Field}
-use Rattle.gm_image.specs.Program.{Direction, Out, In}
 use Rattle.gm_image.specs.Views.{program}
+use Rattle.gm_image.specs.Items.{direction_of}
 use Rattle.gm_image.specs.Parts.{all_leaves}
 use Rattle.gm_image.specs.Indices.{leaf_in_range, term_in_range}
 use Rattle.gm_image.specs.Leaves.{stands_in_master, stands_at_vertex}
-use Rattle.gm_verify.specs.declared.leaves.Edges.{Edges}
-use Rattle.gm_verify.specs.declared.leaves.Edges.TheVariants as edges
 use Rattle.gm_verify.specs.declared.leaves.Test.{Test}
 use Rattle.gm_verify.specs.declared.leaves.Test.TheVariants.{InRange, InMaster, AtVertex, NoneOf}
-
--- the edges that an each goes over
-abbrev pub direction : Edges → Direction
-direction edges.Out = Out
-direction edges.In = In
 
 -- whether a test allows what stands at a vertex alone, and has no index
 abbrev pub allows_vertex : Test → Bool
@@ -28,7 +21,7 @@ allows_vertex (NoneOf fields) = true
 abbrev pub leaf_holds : Test → Term → Bool
 leaf_holds (InRange image kind) a = leaf_in_range (program image.now) kind a
 leaf_holds InMaster a = stands_in_master a
-leaf_holds (AtVertex kind each) a = stands_at_vertex kind (option_map direction each) a
+leaf_holds (AtVertex kind each) a = stands_at_vertex kind (option_map direction_of each) a
 leaf_holds (NoneOf fields) (Field f) = not (contains nat_eq fields.now f)
 leaf_holds (NoneOf fields) a = true
 

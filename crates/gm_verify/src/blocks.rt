@@ -8,6 +8,7 @@ ghost use Rattle.gm_image.specs.Program as P;
 ghost use Rattle.gm_image.specs.Views.{program, term, line, handler, block};
 ghost use Rattle.gm_image.specs.Rows.{KindRow, HandlerRow, outside, in_handlers, body_rows, handler_rows, block_rows};
 ghost use Rattle.gm_image.specs.Folds.{combiner_fits, is_its_value, is_combining, combines};
+ghost use Rattle.gm_image.specs.Shapes.{leaf_term};
 ghost use Rattle.gm_image.specs.Soundness.{broken_rule};
 ghost use Rattle.gm_verify.specs.Checks.{Checks, all_handlers_rows};
 ghost use Rattle.gm_verify.specs.Scopes.{ShowsScope, ShowsPuts};
@@ -16,7 +17,7 @@ use crate::firsts::Firsts;
 use crate::lines::{Spot, insides, line_rule};
 use crate::scopes::{Scope, add_fold, add_folded, add_put};
 use crate::stops::{VerifyStop, next_line};
-use gm_image::{Block, Expr, Handler, Image, ImageRule, Kind, VertexLine};
+use gm_image::{Block, Expr, Handler, Image, ImageRule, Kind, Leaf, Shape, VertexLine};
 use gm_value::Reduce;
 use std::alloc::{AllocError, Global};
 use std::collections::HashSet;
@@ -54,43 +55,24 @@ pub fn check_kinds(image: &Image, kinds: &[Kind], number: u64) -> Result<u64, Ve
     Ok(next)
 }
 
+// Whether a leaf is the first value of a message.
+fn is_first_value(leaf: Leaf) -> bool
+    ensures { result ≡ is_its_value (leaf_term leaf) }
+{
+    match leaf {
+        Leaf::Message(i) => i == 0,
+        _ => false,
+    }
+}
+
 // Whether an expression is the one value of a message.
+#[tactic(auto, using(crate::proofs::ShapeSorts::value_one, crate::proofs::ShapeSorts::value_two))]
 fn is_its_value(expr: &Expr) -> bool
     ensures { result ≡ is_its_value (term expr.now) }
 {
-    match expr {
-        Expr::Message(i) => *i == 0,
-        Expr::Const(_)
-        | Expr::Global(_)
-        | Expr::NodeCount
-        | Expr::EdgeCount
-        | Expr::Field(_)
-        | Expr::Id
-        | Expr::OutDegree
-        | Expr::InDegree
-        | Expr::Register(_)
-        | Expr::Neighbour
-        | Expr::Column(_)
-        | Expr::NodeAt(_)
-        | Expr::Live(_, _)
-        | Expr::Neg(_, _)
-        | Expr::ToInt(_, _)
-        | Expr::ToLong(_)
-        | Expr::Not(_)
-        | Expr::Add(_, _, _)
-        | Expr::Sub(_, _, _)
-        | Expr::Mul(_, _, _)
-        | Expr::Div(_, _, _)
-        | Expr::Rem(_, _, _)
-        | Expr::Eq(_, _)
-        | Expr::Ne(_, _)
-        | Expr::Lt(_, _)
-        | Expr::Gt(_, _)
-        | Expr::Le(_, _)
-        | Expr::Ge(_, _)
-        | Expr::And(_, _)
-        | Expr::Or(_, _)
-        | Expr::Choose(_, _, _) => false,
+    match expr.shape() {
+        Shape::Leaf(leaf) => is_first_value(leaf),
+        Shape::One(_, _) | Shape::Two(_, _, _) | Shape::Choose(_, _, _) => false,
     }
 }
 

@@ -2,7 +2,7 @@
 
 ghost use Rattle.std.specs.Prelude.{◌≡◌, ◌+◌, ◌<◌, ◌≤◌, List, [], ◌∷◌, ◌++◌, OnOk, length, map, filter};
 ghost use Rattle.std.specs.List.{list_all};
-ghost use Rattle.gm_image.specs.Program.{Item};
+ghost use Rattle.gm_image.specs.Program as P;
 ghost use Rattle.gm_image.specs.Views.{program, input, output};
 ghost use Rattle.gm_image.specs.Rows.{NameRow, InputRow, OutputRow, ResultRow, ColumnsRow, rows_after};
 ghost use Rattle.gm_image.specs.Indices.{held_by};
@@ -11,75 +11,15 @@ ghost use Rattle.gm_image.specs.Names.{is_name_byte, is_letter, begins_with_lett
 ghost use Rattle.gm_image.specs.Soundness.{broken_rule};
 ghost use Rattle.gm_value.specs.Operations.{same_type};
 ghost use Rattle.gm_verify.specs.Checks.{Checks};
-ghost use Rattle.gm_verify.specs.Items.{item_of, holder_of, Shows};
+ghost use Rattle.gm_image.specs.Items.{item_of, holder_of};
+ghost use Rattle.gm_verify.specs.Items.{Shows};
 
 use crate::sorts::type_at;
 use crate::stops::{VerifyStop, next_line};
-use gm_image::{Image, ImageRule, InputItem, OutputItem};
+use gm_image::{Holder, Image, ImageRule, InputItem, Item, OutputItem};
 use gm_value::VType;
 use std::alloc::{AllocError, Global};
 use std::collections::HashSet;
-
-/// What an input starts, or an output is read from.
-#[derive(Clone, Copy, PartialEq, Eq, Debug)]
-pub enum Holder {
-    Scalar,
-    Node,
-    Edge,
-}
-
-// An input or an output.
-#[derive(Clone, Copy)]
-pub struct Declaration<'a> {
-    pub holder: Holder,
-    pub vtype: VType,
-    pub name: &'a [u8],
-    pub slot: u32,
-}
-
-fn of_input(item: &InputItem) -> Declaration
-    ensures { item_of result ≡ input item.now }
-{
-    match item {
-        InputItem::Scalar { vtype, name, slot } => Declaration {
-            holder: Holder::Scalar,
-            vtype: *vtype,
-            name: name.as_slice(),
-            slot: *slot,
-        },
-        InputItem::Node { vtype, name, slot } => Declaration {
-            holder: Holder::Node,
-            vtype: *vtype,
-            name: name.as_slice(),
-            slot: *slot,
-        },
-        InputItem::Edge { vtype, name, slot } => Declaration {
-            holder: Holder::Edge,
-            vtype: *vtype,
-            name: name.as_slice(),
-            slot: *slot,
-        },
-    }
-}
-
-fn of_output(item: &OutputItem) -> Declaration
-    ensures { item_of result ≡ output item.now }
-{
-    match item {
-        OutputItem::Scalar { vtype, name, slot } => Declaration {
-            holder: Holder::Scalar,
-            vtype: *vtype,
-            name: name.as_slice(),
-            slot: *slot,
-        },
-        OutputItem::Node { vtype, name, slot } => Declaration {
-            holder: Holder::Node,
-            vtype: *vtype,
-            name: name.as_slice(),
-            slot: *slot,
-        },
-    }
-}
 
 // The types of what a holder's slots hold.
 fn held_by(image: &Image, holder: Holder) -> &[VType]
@@ -163,15 +103,15 @@ impl<'a> Seen<'a> {
     }
 
     // Whether an item has a name that none of them has.
-    fn has_new_name(&self, item: Declaration) -> bool
-        ensures { (before : List Item) → Shows self.now before → result ≡ has_new_name before (item_of item.entry) }
+    fn has_new_name(&self, item: Item) -> bool
+        ensures { (before : List P.Item) → Shows self.now before → result ≡ has_new_name before (item_of item.entry) }
     {
         !self.names.contains(&item.name)
     }
 
     // Whether an input has a slot that none of them has.
-    fn has_new_slot(&self, item: Declaration) -> bool
-        ensures { (before : List Item) → Shows self.now before → result ≡ has_new_slot before (item_of item.entry) }
+    fn has_new_slot(&self, item: Item) -> bool
+        ensures { (before : List P.Item) → Shows self.now before → result ≡ has_new_slot before (item_of item.entry) }
     {
         let slots = match item.holder {
             Holder::Scalar => &self.globals,
@@ -182,9 +122,9 @@ impl<'a> Seen<'a> {
     }
 
     // Adds an item.
-    fn add(&mut self, item: Declaration<'a>) -> Result<(), AllocError>
+    fn add(&mut self, item: Item<'a>) -> Result<(), AllocError>
         requires { self.old.edges < 18446744073709551615 }
-        ensures { OnOk result ((before : List Item) → Shows self.old before → Shows self.new (before ++ item_of item.entry ∷ [])) }
+        ensures { OnOk result ((before : List P.Item) → Shows self.old before → Shows self.new (before ++ item_of item.entry ∷ [])) }
     {
         self.names.insert(item.name)?;
         match item.holder {
@@ -211,15 +151,15 @@ fn may_hold(holder: Holder, t: VType) -> bool
 }
 
 // Whether an edge input's slot is the one after those of the edge inputs before it.
-fn follows_edges(seen: &Seen, item: Declaration) -> bool
-    ensures { (before : List Item) → Shows seen.now before → result ≡ follows_edges (item_of item.entry).holder (item_of item.entry).slot before }
+fn follows_edges(seen: &Seen, item: Item) -> bool
+    ensures { (before : List P.Item) → Shows seen.now before → result ≡ follows_edges (item_of item.entry).holder (item_of item.entry).slot before }
 {
     item.holder != Holder::Edge || item.slot as usize == seen.edges
 }
 
 // Whether an input keeps the rule of names and inputs.
-fn input_keeps(seen: &Seen, item: Declaration) -> bool
-    ensures { (before : List Item) → Shows seen.now before → result ≡ input_keeps before (item_of item.entry) }
+fn input_keeps(seen: &Seen, item: Item) -> bool
+    ensures { (before : List P.Item) → Shows seen.now before → result ≡ input_keeps before (item_of item.entry) }
 {
     is_name(item.name)
         && seen.has_new_name(item)
@@ -229,8 +169,8 @@ fn input_keeps(seen: &Seen, item: Declaration) -> bool
 }
 
 // The least rule that an input breaks.
-fn input_rule(image: &Image, seen: &Seen, item: Declaration) -> Option<ImageRule>
-    ensures { (before : List Item) → Shows seen.now before → result ≡ broken_rule (program image.now) (InputRow before (item_of item.entry)) }
+fn input_rule(image: &Image, seen: &Seen, item: Item) -> Option<ImageRule>
+    ensures { (before : List P.Item) → Shows seen.now before → result ≡ broken_rule (program image.now) (InputRow before (item_of item.entry)) }
 {
     let held = held_by(image, item.holder);
     if item.slot as usize >= held.len() {
@@ -246,8 +186,8 @@ fn input_rule(image: &Image, seen: &Seen, item: Declaration) -> Option<ImageRule
 }
 
 // The least rule that an output breaks.
-fn output_rule(image: &Image, seen: &Seen, item: Declaration) -> Option<ImageRule>
-    ensures { (before : List Item) → Shows seen.now before → result ≡ broken_rule (program image.now) (OutputRow before (item_of item.entry)) }
+fn output_rule(image: &Image, seen: &Seen, item: Item) -> Option<ImageRule>
+    ensures { (before : List P.Item) → Shows seen.now before → result ≡ broken_rule (program image.now) (OutputRow before (item_of item.entry)) }
 {
     let held = held_by(image, item.holder);
     if item.slot as usize >= held.len() {
@@ -275,7 +215,7 @@ pub fn check_inputs(
     let mut seen = Seen::new(alloc);
     let mut next = number;
     for declared in inputs {
-        let item = of_input(declared);
+        let item = declared.item();
         let rule = input_rule(image, &seen, item);
         next = next_line(rule, next)?;
         seen.add(item)?;
@@ -296,7 +236,7 @@ pub fn check_outputs(
     let mut seen = Seen::new(alloc);
     let mut next = number;
     for declared in outputs {
-        let item = of_output(declared);
+        let item = declared.item();
         let rule = output_rule(image, &seen, item);
         next = next_line(rule, next)?;
         seen.add(item)?;

@@ -4,21 +4,15 @@ ghost use Rattle.std.specs.Prelude.{◌≡◌, nat_le, nat_lt, length, slice_get
 ghost use Rattle.std.specs.List.{list_all};
 ghost use Rattle.gm_image.specs.Views.{term, program, target, line};
 ghost use Rattle.gm_image.specs.Parts.{is_shallow, all_leaves, terms_of, line_terms};
+ghost use Rattle.gm_image.specs.Shapes.{leaf_term};
 ghost use Rattle.gm_image.specs.Sorts.{kind_at};
 ghost use Rattle.gm_image.specs.Indices.{value_in_range, term_in_range};
 ghost use Rattle.gm_image.specs.Term.{Global, Field, Register, Message, Neighbour, Column};
 ghost use Rattle.gm_verify.specs.Tests.{allows_vertex, leaf_holds, term_holds};
 
 use crate::expressions::{is_shallow, places_in_range};
-use gm_image::{Expr, Image, Kind, VertexLine};
+use gm_image::{Direction, Expr, Image, Kind, Leaf, Shape, VertexLine};
 use std::collections::HashSet;
-
-/// The edges that an each goes over.
-#[derive(Clone, Copy, PartialEq, Eq, Debug)]
-pub enum Edges {
-    Out,
-    In,
-}
 
 // A test of expressions: whether their indices are in range, in a handler of a kind or in none; whether their leaves
 // may stand in the master list, or at a vertex; whether they read none of some fields.
@@ -31,7 +25,7 @@ pub enum Test<'a> {
     InMaster,
     AtVertex {
         kind: Option<u32>,
-        each: Option<Edges>,
+        each: Option<Direction>,
     },
     NoneOf {
         fields: &'a HashSet<u32>,
@@ -134,49 +128,42 @@ impl<'a> Test<'a> {
             Test::InMaster => false,
             Test::AtVertex { each, .. } => match each {
                 None => false,
-                Some(Edges::Out) => true,
-                Some(Edges::In) => false,
+                Some(Direction::Out) => true,
+                Some(Direction::In) => false,
             },
             Test::NoneOf { .. } => true,
         }
     }
 }
 
+// Whether a test holds of a leaf.
+fn allows(test: Test, leaf: Leaf) -> bool
+    ensures { result ≡ leaf_holds test.entry (leaf_term leaf) }
+{
+    match leaf {
+        Leaf::Const(_) | Leaf::NodeCount | Leaf::EdgeCount => true,
+        Leaf::Id | Leaf::OutDegree | Leaf::InDegree => test.allows_vertex(),
+        Leaf::Global(g) => test.allows_global(g),
+        Leaf::Field(f) => test.allows_field(f),
+        Leaf::Register(r) => test.allows_register(r),
+        Leaf::Message(i) => test.allows_message(i),
+        Leaf::Neighbour => test.allows_neighbour(),
+        Leaf::Column(w) => test.allows_column(w),
+    }
+}
+
 // Whether a test holds of each leaf of an expression.
+#[tactic(auto, using(gm_image::proofs::ByShape::leaves_leaf, gm_image::proofs::ByShape::leaves_one, gm_image::proofs::ByShape::leaves_two))]
 fn all_leaves(test: Test, expr: &Expr) -> bool
     ensures { result ≡ all_leaves (leaf_holds test.entry) (term expr.now) }
 {
-    match expr {
-        Expr::NodeAt(a)
-        | Expr::Live(_, a)
-        | Expr::Neg(_, a)
-        | Expr::ToInt(_, a)
-        | Expr::ToLong(a)
-        | Expr::Not(a) => all_leaves(test, a),
-        Expr::Add(_, a, b)
-        | Expr::Sub(_, a, b)
-        | Expr::Mul(_, a, b)
-        | Expr::Div(_, a, b)
-        | Expr::Rem(_, a, b)
-        | Expr::Eq(a, b)
-        | Expr::Ne(a, b)
-        | Expr::Lt(a, b)
-        | Expr::Gt(a, b)
-        | Expr::Le(a, b)
-        | Expr::Ge(a, b)
-        | Expr::And(a, b)
-        | Expr::Or(a, b) => all_leaves(test, a) && all_leaves(test, b),
-        Expr::Choose(c, a, b) => {
+    match expr.shape() {
+        Shape::Leaf(leaf) => allows(test, leaf),
+        Shape::One(_, a) => all_leaves(test, a),
+        Shape::Two(_, a, b) => all_leaves(test, a) && all_leaves(test, b),
+        Shape::Choose(c, a, b) => {
             all_leaves(test, c) && all_leaves(test, a) && all_leaves(test, b)
         }
-        Expr::Const(_) | Expr::NodeCount | Expr::EdgeCount => true,
-        Expr::Id | Expr::OutDegree | Expr::InDegree => test.allows_vertex(),
-        Expr::Global(g) => test.allows_global(*g),
-        Expr::Field(f) => test.allows_field(*f),
-        Expr::Register(r) => test.allows_register(*r),
-        Expr::Message(i) => test.allows_message(*i),
-        Expr::Neighbour => test.allows_neighbour(),
-        Expr::Column(w) => test.allows_column(*w),
     }
 }
 

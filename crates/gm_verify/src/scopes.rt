@@ -4,18 +4,17 @@ ghost use Rattle.std.specs.Prelude.{◌≡◌, ◌||◌, ◌∷◌, [], ◌++◌
 ghost use Rattle.std.specs.HashSet.{contains};
 ghost use Rattle.gm_image.specs.Program.{Line};
 ghost use Rattle.gm_image.specs.Views.{target, line};
+ghost use Rattle.gm_image.specs.Items.{direction_of};
 ghost use Rattle.gm_image.specs.Parts.{slots_of, is_among};
 ghost use Rattle.gm_image.specs.Rows.{Around, left_after, outside, around_next};
 ghost use Rattle.gm_image.specs.Folds as F;
 ghost use Rattle.gm_image.specs.Folds.{folds_of, puts_of, is_the_one, folds_one_way, puts_one_way, folded_fields};
 ghost use Rattle.std.specs.List.{list_all};
 ghost use Rattle.gm_verify.specs.Firsts.{list_of, ShowsFirsts};
-ghost use Rattle.gm_verify.specs.Tests.{direction};
 ghost use Rattle.gm_verify.specs.Scopes.{each_of, ShowsScope, ShowsFolds, ShowsPuts};
 
 use crate::firsts::{Firsts, Reduction};
-use crate::leaves::Edges;
-use gm_image::{Expr, VertexLine};
+use gm_image::{Direction, Expr, VertexLine};
 use std::alloc::{AllocError, Global};
 use std::collections::HashSet;
 
@@ -154,13 +153,12 @@ pub fn left_after(left: u32, vertex_line: &VertexLine) -> u32
 }
 
 // The edges that an each goes over, where a line is one.
-fn each_of(vertex_line: &VertexLine) -> Option<Edges>
-    ensures { option_map direction result ≡ each_of (line vertex_line.now) }
+fn each_of(vertex_line: &VertexLine) -> Option<Direction>
+    ensures { option_map direction_of result ≡ each_of (line vertex_line.now) }
 {
-    match vertex_line {
-        VertexLine::EachOut(_) => Some(Edges::Out),
-        VertexLine::EachIn(_) => Some(Edges::In),
-        _ => None,
+    match vertex_line.each() {
+        None => None,
+        Some((direction, _)) => Some(direction),
     }
 }
 
@@ -168,7 +166,7 @@ fn each_of(vertex_line: &VertexLine) -> Option<Edges>
 // fold, and the reductions of those before the line.
 #[derive(Drop)]
 pub struct Scope<'a> {
-    pub each: Option<Edges>,
+    pub each: Option<Direction>,
     pub left: u32,
     pub folded: HashSet<u32>,
     pub firsts: Firsts<'a>,

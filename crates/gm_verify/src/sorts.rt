@@ -4,10 +4,12 @@ ghost use Rattle.std.specs.Prelude.{◌≡◌, slice_get};
 ghost use Rattle.gm_image.specs.Views.{term, program};
 ghost use Rattle.gm_image.specs.Sorts.{expects, sort_by, sort_at, sort_if, takes, one_sort, two_sort, three_sort, node_at_sort, live_sort, unary_sort, binary_sort, logic_sort, choice_sort, constant_sort, value_sort, kind_at, sort_of};
 ghost use Rattle.gm_image.specs.Fits.{has_type};
+ghost use Rattle.gm_image.specs.Shapes.{leaf_term};
+ghost use Rattle.gm_verify.specs.ShapeSorts.{sort_by_one, sort_by_two};
 
 use crate::expressions::is_shallow;
 use crate::leaves::kind_at;
-use gm_image::{Expr, Image, Sort};
+use gm_image::{Expr, Image, Leaf, One, Shape, Sort, Two};
 use gm_value::{Op1, Op2, VType, Value};
 
 // Whether an expression of a sort may stand where a type is wanted.
@@ -158,53 +160,55 @@ fn value_sort(image: &Image, kind: Option<u32>, i: u32) -> Sort
     }
 }
 
+// The sort of a leaf.
+fn leaf_sort(image: &Image, kind: Option<u32>, leaf: Leaf) -> Sort
+    ensures { result ≡ sort_of (program image.now) kind (leaf_term leaf) }
+{
+    match leaf {
+        Leaf::Const(value) => constant_sort(value),
+        Leaf::Global(g) => sort_at(image.globals.as_slice(), g),
+        Leaf::Field(f) => sort_at(image.fields.as_slice(), f),
+        Leaf::Register(r) => sort_at(image.registers.as_slice(), r),
+        Leaf::Message(i) => value_sort(image, kind, i),
+        Leaf::Column(w) => sort_at(image.columns.as_slice(), w),
+        Leaf::NodeCount | Leaf::EdgeCount | Leaf::OutDegree | Leaf::InDegree => {
+            Sort::Known(VType::I32)
+        }
+        Leaf::Id | Leaf::Neighbour => Sort::Known(VType::Node),
+    }
+}
+
+// The sort of an operation with one operand.
+fn one_sort(op: One, s: Sort) -> Sort
+    ensures { result ≡ sort_by_one op s }
+{
+    match op {
+        One::NodeAt => node_at_sort(s),
+        One::Live(_) => live_sort(s),
+        One::Op(op, _) => unary_sort(op, s),
+    }
+}
+
+// The sort of an operation with two operands.
+fn two_sort(op: Two, s: Sort, r: Sort) -> Sort
+    ensures { result ≡ sort_by_two op s r }
+{
+    match op {
+        Two::Op(op, _) => binary_sort(op, s, r),
+        Two::And | Two::Or => logic_sort(s, r),
+    }
+}
+
 // The sort of an expression in a handler of a kind, or in none.
+#[tactic(auto, using(crate::proofs::ShapeSorts::sort_one, crate::proofs::ShapeSorts::sort_two))]
 fn sort_of(image: &Image, kind: Option<u32>, expr: &Expr) -> Sort
     ensures { result ≡ sort_of (program image.now) kind (term expr.now) }
 {
-    match expr {
-        Expr::Const(value) => constant_sort(*value),
-        Expr::Global(g) => sort_at(image.globals.as_slice(), *g),
-        Expr::NodeCount => Sort::Known(VType::I32),
-        Expr::EdgeCount => Sort::Known(VType::I32),
-        Expr::Field(f) => sort_at(image.fields.as_slice(), *f),
-        Expr::Id => Sort::Known(VType::Node),
-        Expr::OutDegree => Sort::Known(VType::I32),
-        Expr::InDegree => Sort::Known(VType::I32),
-        Expr::Register(r) => sort_at(image.registers.as_slice(), *r),
-        Expr::Message(i) => value_sort(image, kind, *i),
-        Expr::Neighbour => Sort::Known(VType::Node),
-        Expr::Column(c) => sort_at(image.columns.as_slice(), *c),
-        Expr::NodeAt(a) => node_at_sort(sort_of(image, kind, a)),
-        Expr::Live(_, a) => live_sort(sort_of(image, kind, a)),
-        Expr::Add(_, a, b) => {
-            binary_sort(Op2::Add, sort_of(image, kind, a), sort_of(image, kind, b))
-        }
-        Expr::Sub(_, a, b) => {
-            binary_sort(Op2::Sub, sort_of(image, kind, a), sort_of(image, kind, b))
-        }
-        Expr::Mul(_, a, b) => {
-            binary_sort(Op2::Mul, sort_of(image, kind, a), sort_of(image, kind, b))
-        }
-        Expr::Div(_, a, b) => {
-            binary_sort(Op2::Div, sort_of(image, kind, a), sort_of(image, kind, b))
-        }
-        Expr::Rem(_, a, b) => {
-            binary_sort(Op2::Rem, sort_of(image, kind, a), sort_of(image, kind, b))
-        }
-        Expr::Neg(_, a) => unary_sort(Op1::Neg, sort_of(image, kind, a)),
-        Expr::ToInt(_, a) => unary_sort(Op1::ToI32, sort_of(image, kind, a)),
-        Expr::ToLong(a) => unary_sort(Op1::ToI64, sort_of(image, kind, a)),
-        Expr::Eq(a, b) => binary_sort(Op2::Eq, sort_of(image, kind, a), sort_of(image, kind, b)),
-        Expr::Ne(a, b) => binary_sort(Op2::Ne, sort_of(image, kind, a), sort_of(image, kind, b)),
-        Expr::Lt(a, b) => binary_sort(Op2::Lt, sort_of(image, kind, a), sort_of(image, kind, b)),
-        Expr::Gt(a, b) => binary_sort(Op2::Gt, sort_of(image, kind, a), sort_of(image, kind, b)),
-        Expr::Le(a, b) => binary_sort(Op2::Le, sort_of(image, kind, a), sort_of(image, kind, b)),
-        Expr::Ge(a, b) => binary_sort(Op2::Ge, sort_of(image, kind, a), sort_of(image, kind, b)),
-        Expr::Not(a) => unary_sort(Op1::Not, sort_of(image, kind, a)),
-        Expr::And(a, b) => logic_sort(sort_of(image, kind, a), sort_of(image, kind, b)),
-        Expr::Or(a, b) => logic_sort(sort_of(image, kind, a), sort_of(image, kind, b)),
-        Expr::Choose(c, a, b) => choice_sort(
+    match expr.shape() {
+        Shape::Leaf(leaf) => leaf_sort(image, kind, leaf),
+        Shape::One(op, a) => one_sort(op, sort_of(image, kind, a)),
+        Shape::Two(op, a, b) => two_sort(op, sort_of(image, kind, a), sort_of(image, kind, b)),
+        Shape::Choose(c, a, b) => choice_sort(
             sort_of(image, kind, c),
             sort_of(image, kind, a),
             sort_of(image, kind, b),

@@ -3,4 +3,4 @@ use Rattle.gm_image_text.proofs.SoundFits.{sound_fits}
 use Rattle.gm_image_text.proofs.laws.sound_images_have_texts.Goals as goal
 
 pub returns : goal.returns
-returns c = λ p r s o. record { fits = sound_fits p r s o; spelled = refl }
+returns c = λ p s r o. record { fits = sound_fits p r s o; spelled = refl }

@@ -38,7 +38,7 @@ loop-declared-preserved c =
     let seen = c.loop-declared.seen in
     let new = c.add.new.self in
     let here = subst (λ (ys : List Item). Declares p c.args.number InputRow all c.loop-declared.next seen before ys) (rest-at input xs i x c.loop-declared-test.true c.declared-item.is) c.loop-declared.invariant in
-    let same = c.of_input-item.ensures in
+    let same = c.item-item.ensures in
     subst (λ (ys : List Item). Declares p c.args.number InputRow all c.in_ok-next.next new ys later) (before-at input xs i x c.loop-declared-test.true c.declared-item.is)
     (declares-next p c.args.number InputRow all c.loop-declared.next c.in_ok-next.next seen new before later (input x) c.input_rule-rule.result here
     (subst (λ (y : Item). c.input_rule-rule.result ≡ broken_rule p (InputRow before y)) same (c.input_rule-rule.ensures before here.shown)) c.in_ok-next.ensures.0 c.in_ok-next.ensures.1

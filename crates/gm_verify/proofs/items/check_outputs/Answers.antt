@@ -39,7 +39,7 @@ loop-declared-preserved c =
     let seen = c.loop-declared.seen in
     let new = c.add.new.self in
     let here = subst (λ (ys : List Item). Declares p c.args.number OutputRow all c.loop-declared.next seen before ys) (rest-at output xs i x c.loop-declared-test.true c.declared-item.is) c.loop-declared.invariant in
-    let same = c.of_output-item.ensures in
+    let same = c.item-item.ensures in
     subst (λ (ys : List Item). Declares p c.args.number OutputRow all c.in_ok-next.next new ys later) (before-at output xs i x c.loop-declared-test.true c.declared-item.is)
     (declares-next p c.args.number OutputRow all c.loop-declared.next c.in_ok-next.next seen new before later (output x) c.output_rule-rule.result here
     (subst (λ (y : Item). c.output_rule-rule.result ≡ broken_rule p (OutputRow before y)) same (c.output_rule-rule.ensures before here.shown)) c.in_ok-next.ensures.0 c.in_ok-next.ensures.1
@@ -56,7 +56,7 @@ returns-in_err-next c =
     let later = map output (drop (i + 1) xs) in
     let seen = c.loop-declared.seen in
     let here = subst (λ (ys : List Item). Declares p c.args.number OutputRow all c.loop-declared.next seen before ys) (rest-at output xs i x c.loop-declared-test.true c.declared-item.is) c.loop-declared.invariant in
-    let same = c.of_output-item.ensures in
+    let same = c.item-item.ensures in
     stopped p c.args.number (rows_after OutputRow [] all) c.from_residual.result c.in_err-next.field-0.0 c.from_residual.ensures.1
     (walks-stop p c.args.number (rows_after OutputRow [] all) c.loop-declared.next (OutputRow before (output x)) (rows_after OutputRow (before ++ output x ∷ []) later) c.output_rule-rule.result here.walked
     (subst (λ (y : Item). c.output_rule-rule.result ≡ broken_rule p (OutputRow before y)) same (c.output_rule-rule.ensures before here.shown))

@@ -1,15 +1,44 @@
 -- Numbers and constants in the ranges of their types.
-use Rattle.std.specs.Prelude.{ℕ, ◌<◌, Bool, true, false, ◌&&◌, Option, Some, None, List, [], ◌∷◌, IsTrue}
-use Rattle.std.specs.List.{list_all, AllByRecursion}
+use Rattle.std.specs.Prelude.{ℕ, ◌<◌, Bool, true, false, Option, Some, None, List, IsTrue}
+use Rattle.std.specs.List.{AllByRecursion}
 use Rattle.gm_base.specs.declared.places.Place.{Place}
+use Rattle.gm_value.specs.declared.values.VType.{VType}
 use Rattle.gm_value.specs.declared.values.VType.TheVariants as types
 use Rattle.gm_value.specs.declared.values.Value.{Value}
 use Rattle.gm_value.specs.declared.values.Value.TheVariants as values
+use Rattle.gm_value.specs.declared.operations.Op1.{Op1}
+use Rattle.gm_value.specs.declared.operations.Op1.TheVariants as one
+use Rattle.gm_value.specs.declared.operations.Op2.{Op2}
+use Rattle.gm_value.specs.declared.operations.Op2.TheVariants as two
 use Rattle.gm_value.specs.Numbers.{fits}
 use Rattle.gm_image.specs.Term.{Term, Const, Global, NodeCount, EdgeCount, Field, Self, OutDegree, InDegree, Register, Message, Neighbour, Column, NodeAt, Live, Unary, Binary, And, Or, Choose}
 use Rattle.gm_image.specs.Program as programs
-use Rattle.gm_image.specs.Program.{Program, Target, SetField, Fold, SetRegister, Put, Send, Skip, Each, Command, SetGlobal, Step, Jump, Test, Turn, Back, Finish, Item, Handler, Block}
-use Rattle.gm_image_text.specs.Fits.{IsIndex, PlaceFits, has_place1, has_place2, IsOutputHolder, ResultFits, PlaceIsIndex}
+use Rattle.gm_image.specs.Program.{Program, Target, SetField, Fold, SetRegister, Put, Send, Skip, Each, Command, SetGlobal, Step, Jump, Test, Turn, Back, Finish, Holder, Scalar, Node, Edge, Item, Handler, Block}
+
+-- an index or a count
+abbrev pub IsIndex : ℕ → Type 0
+IsIndex n = n < 4294967296
+
+-- an operation that may fault has the index of a place, and no other has one
+abbrev pub PlaceFits : Bool → Option ℕ → Type 0
+PlaceFits true None = ⊥
+PlaceFits true (Some p) = IsIndex p
+PlaceFits false None = Unit {0}
+PlaceFits false (Some p) = ⊥
+
+abbrev pub has_place1 : Op1 → Bool
+has_place1 one.Neg = true
+has_place1 one.Not = false
+has_place1 one.ToI32 = true
+has_place1 one.ToI64 = false
+
+abbrev pub has_place2 : Op2 → Bool
+has_place2 two.Add = true
+has_place2 two.Sub = true
+has_place2 two.Mul = true
+has_place2 two.Div = true
+has_place2 two.Rem = true
+has_place2 op = false
 
 -- a number in its type's range
 abbrev pub ValueInRange : Value → Type 0
@@ -39,6 +68,19 @@ InRange (Binary op p a b) = PlaceFits (has_place2 op) p × InRange a × InRange 
 InRange (And a b) = InRange a × InRange b
 InRange (Or a b) = InRange a × InRange b
 InRange (Choose c a b) = InRange c × InRange a × InRange b
+
+-- an output is no edge property
+abbrev pub IsOutputHolder : Holder → Type 0
+IsOutputHolder Scalar = Unit {0}
+IsOutputHolder Node = Unit {0}
+IsOutputHolder Edge = ⊥
+
+abbrev pub ResultFits : Option (VType × ℕ) → Type 0
+ResultFits None = Unit {0}
+ResultFits (Some r) = IsIndex r.1
+
+abbrev pub PlaceIsIndex : Place → Type 0
+PlaceIsIndex p = IsIndex p.line × IsIndex p.col
 
 -- the same of the lines and declarations of an image
 abbrev pub TargetRanged : Target → Type 0
@@ -74,6 +116,7 @@ HandlerRanged h = IsIndex h.kind × AllByRecursion LineRanged h.lines
 abbrev pub BlockRanged : Block → Type 0
 BlockRanged b = AllByRecursion HandlerRanged b.handlers × AllByRecursion LineRanged b.body
 
+-- the numbers of an image in their ranges
 pub record Ranged (p : Program) : Type 0 where
   pub inputs : AllByRecursion InputRanged p.inputs
   pub outputs : AllByRecursion OutputRanged p.outputs
@@ -81,23 +124,3 @@ pub record Ranged (p : Program) : Type 0 where
   pub places : AllByRecursion PlaceIsIndex p.places
   pub blocks : AllByRecursion BlockRanged p.blocks
   pub master : AllByRecursion CommandRanged p.master
-
--- whether a list has one item
-abbrev pub is_single : {A : Type 0} → List A → Bool
-is_single [] = false
-is_single (x ∷ []) = true
-is_single (x ∷ y ∷ zs) = false
-
--- whether a line has one target, if it is a reduction
-abbrev pub has_one_target : programs.Line → Bool
-has_one_target (Fold r p ts) = is_single ts
-has_one_target (Put r p ts) = is_single ts
-has_one_target l = true
-
--- whether the reductions of a block have one target each
-abbrev pub block_has_one : Block → Bool
-block_has_one b = list_all (λ h. list_all has_one_target h.lines) b.handlers && list_all has_one_target b.body
-
--- whether all reductions of an image have one target each
-abbrev pub has_one_targets : Program → Bool
-has_one_targets p = list_all block_has_one p.blocks
