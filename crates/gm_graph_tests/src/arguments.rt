@@ -1,10 +1,10 @@
 //! Words NAME=VALUE and the values that they give.
 ghost use Rattle.std.specs.Prelude.{◌≡◌, IfOk};
 
-use gm_words::{ArgFault, Input, Job, bind, read_words};
 use gm_base::{Items, NoMemory, Text};
 use gm_graph::{Graph, RawGraph, Shape, build};
 use gm_value::{VType, Value};
+use gm_words::{ArgFault, Input, Job, bind, read_words};
 use std::alloc::{AllocError, Global};
 use std::test::Fail;
 

@@ -1,7 +1,7 @@
 //! Words as a command line gives them.
-use gm_words::{Job, Options, WordsStop, read_words};
 use gm_base::{Items, Text};
 use gm_partition::Owner;
+use gm_words::{Job, Options, WordsStop, read_words};
 use std::alloc::{AllocError, Global};
 use std::test::Fail;
 

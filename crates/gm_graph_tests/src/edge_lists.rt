@@ -3,9 +3,9 @@
 ghost use Rattle.std.specs.Prelude.{◌≤◌, IfOk};
 ghost use Rattle.gm_loader.specs.GraphText.{HasColumns};
 
-use gm_loader::{GraphFault, Limits, load, parse_graph};
 use gm_base::{Items, MemSource};
 use gm_graph::{Graph, Shape};
+use gm_loader::{GraphFault, Limits, load, parse_graph};
 use gm_value::{VType, Value};
 use std::alloc::{AllocError, Global};
 use std::fmt::Write;

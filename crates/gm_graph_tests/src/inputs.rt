@@ -2,8 +2,8 @@
 
 ghost use Rattle.std.specs.Prelude.{◌<◌};
 
-use gm_input::{FrontStop, read_front, read_rest};
 use gm_base::{MemSource, ReadStop, read_all};
+use gm_input::{FrontStop, read_front, read_rest};
 use std::alloc::{AllocError, Global};
 use std::test::Fail;
 

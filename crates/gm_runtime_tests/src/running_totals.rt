@@ -4,12 +4,12 @@ ghost use Rattle.std.specs.Prelude.{IsTrue, OnOk};
 ghost use Rattle.gm_store.specs.Held.{HasSlot};
 ghost use Rattle.gm_totals.specs.Standing.{Within};
 
-use gm_totals::{Closed, Totals};
 use gm_ast::tree::{Key, Stage, TotalKey};
 use gm_base::{NoMemory, Place};
 use gm_source::contributions::Contribution;
 use gm_source::slots::{Slot, Write};
 use gm_store::Store;
+use gm_totals::{Closed, Totals};
 use gm_value::{FaultKind, Reduce, Value};
 use std::alloc::Global;
 use std::test::Fail;

@@ -2,9 +2,9 @@
 
 ghost use Rattle.std.specs.Prelude.{◌≡◌, ◌≤◌, IfOk, length};
 
-use gm_levels::levels_from;
 use gm_base::{Items, NoMemory};
 use gm_graph::{Graph, RawGraph, Shape, build};
+use gm_levels::levels_from;
 use std::alloc::Global;
 use std::fmt::Write;
 use std::test::Fail;

@@ -3,9 +3,9 @@
 ghost use Rattle.std.specs.Prelude.{◌≡◌, IfOk};
 ghost use Rattle.gm_store.specs.Held.{shape_of};
 
-use gm_store::Store;
 use gm_base::NoMemory;
 use gm_source::slots::{Slot, Write};
+use gm_store::Store;
 use gm_value::Value;
 use std::alloc::Global;
 use std::test::Fail;
