@@ -37,6 +37,8 @@ mod procedures;
 #[cfg(test)]
 mod races;
 #[cfg(test)]
+mod readings;
+#[cfg(test)]
 mod reductions;
 #[cfg(test)]
 mod searches;
