@@ -1,20 +1,20 @@
 -- A verdict on the front of a text is one on the text.
 use Rattle.std.proofs.Common.{◌≡◌, ◌≤◌, ◌<◌, ◌+◌, ◌∙◌, ℕ, List, Option, length, take, refl, sym, arith, min, inl, inr}
-use Rattle.std.specs.Prelude.{Some, None, IsSomeAnd}
 use Rattle.std.proofs.lemmas.List.{take-take, take_all, length-take}
 use Rattle.gm_base.specs.declared.rules.Refusal.{Refusal}
 use Rattle.gm_base.specs.declared.statuses.Status.{Status}
-use Rattle.gm_base.specs.Files.{file_of}
 use Rattle.gm_ast.specs.Program.{Program}
 use Rattle.gm_token.specs.declared.limits.TheConstants.{MAX_TEXT}
 use Rattle.gm_token.specs.Scanning.{IsRefusalOf}
 use Rattle.gm_canon.specs.Verdict.{Breaks, by_tokens, by_grammar, by_types, by_races, by_form, StandsFor}
-use Rattle.gm_input.specs.Names.{AreFront, AreFileFront}
 use Rattle.gm_driver.specs.Fronts.{most_program}
+use Rattle.gm_words.specs.declared.jobs.Options.{Options}
+use Rattle.gm_input.proofs.Answering.{text_answer_front}
+use Rattle.gm_input.proofs.Roading.{IsRightRoad}
+use Rattle.gm_run.specs.Answers.{Ran}
+use Rattle.gm_run.specs.Programs.{shape_of, inputs_of}
 use Rattle.gm_driver.specs.Checks.{IsVerdict, accepted, refused}
-use Rattle.gm_input.specs.Fronts.{Tells}
-use Rattle.gm_input.specs.Outside.{Outside, TellsFile, IsText, on_input, in_file, KeepsInput, KeepsFiles}
-use Rattle.gm_input.specs.Names.{IsFrontOf, of_input, of_file}
+use Rattle.gm_driver.specs.Runs.{SaysRefused, program_road}
 
 -- the first bytes of a text are all of it, where they are fewer
 front_all : (n : ℕ) (whole : List ℕ) → length (take n whole) < n → take n whole ≡ whole
@@ -58,39 +58,20 @@ whole_stands n whole p is stands = rw (scanned_front n whole is stands.typed.spe
 -- the verdict on a front is that on the text
 pub whole_verdict : (n : ℕ) (whole text : List ℕ) (status : Status) → n ≡ MAX_TEXT + 1 → IsVerdict (take n whole) text status → IsVerdict whole text status
 whole_verdict n whole text status is (accepted p stands says) = accepted p (whole_stands n whole p is stands) says
-whole_verdict n whole text status is (refused r breaks says) = refused r (whole_breaks n whole r is breaks) says
-
--- the text of which something was read is one that the source may have left
-input_whole : (left : Option (List ℕ)) (bytes : List ℕ) → AreFront left bytes most_program → (whole : List ℕ) × (Tells left whole × (bytes ≡ take most_program whole))
-input_whole None bytes few = (bytes, (tt, sym (take_all most_program bytes few)))
-input_whole (Some left) bytes front = (left, (refl, front))
-
--- the same, of a file
-file_text : (file : Option (List ℕ)) (bytes : List ℕ) → IsSomeAnd file (λ whole. bytes ≡ take most_program whole) → (whole : List ℕ) × ((file ≡ Some whole) × (bytes ≡ take most_program whole))
-file_text None bytes front = absurd front
-file_text (Some whole) bytes front = (whole, (refl, front))
-
-file_whole : (told : Option (List (List ℕ × List ℕ))) (name bytes : List ℕ) → AreFileFront told name bytes most_program → (whole : List ℕ) × (TellsFile told name whole × (bytes ≡ take most_program whole))
-file_whole None name bytes few = (bytes, (tt, sym (take_all most_program bytes few)))
-file_whole (Some files) name bytes front = file_text (file_of files name) bytes front
-
--- the text under a name of which something was read
-pub text_of_front : (name : List ℕ) (told : Option (List (List ℕ × List ℕ))) (b a : Outside) (bytes : List ℕ) → IsFrontOf most_program name told b a bytes
-    → (whole : List ℕ) × (IsText name told b a whole × (bytes ≡ take most_program whole))
-text_of_front name told b a bytes (of_input is front reads files) =
-    let w = input_whole b.left bytes front in
-    (w.0, (on_input is w.1.0 reads files, w.1.1))
-text_of_front name told b a bytes (of_file is front input files) =
-    let w = file_whole told name bytes front in
-    (w.0, (in_file is w.1.0 input files, w.1.1))
+whole_verdict n whole text status is (refused said) = refused (record { refusal = said.refusal; breaks = whole_breaks n whole said.refusal is said.breaks; says = said.says })
 
 -- the verdict on what was read of a text is one on the text
 pub front_verdict : (bytes whole text : List ℕ) (status : Status) → bytes ≡ take most_program whole → IsVerdict bytes text status → IsVerdict whole text status
 front_verdict bytes whole text status e v = whole_verdict most_program whole text status refl (rw e at v)
 
--- nothing more was read
-pub text_kept : (name : List ℕ) (told : Option (List (List ℕ × List ℕ))) (b m a : Outside) (text : List ℕ) → IsText name told b m text → KeepsInput m a → KeepsFiles m a → IsText name told b a text
-text_kept name told b m a text (on_input is tells reads files) i f =
-    on_input is tells (i.reads ∙ reads) (record { files = f.files ∙ files.files; absences = f.absences ∙ files.absences })
-text_kept name told b m a text (in_file is tells input files) i f =
-    in_file is tells (record { left = i.left ∙ input.left; reads = i.reads ∙ input.reads }) (record { files = f.files ∙ files.files; absences = f.absences ∙ files.absences })
+-- the road of a program is right
+said_refused : (n : ℕ) (whole text : List ℕ) (status : Status) → n ≡ MAX_TEXT + 1 → SaysRefused (take n whole) text status → SaysRefused whole text status
+said_refused n whole text status is said = record { refusal = said.refusal; breaks = whole_breaks n whole said.refusal is said.breaks; says = said.says }
+
+pub program_right : (words : List (List ℕ)) (options : Options) → IsRightRoad (program_road words options)
+program_right words options = record {
+  stands = λ whole p stands. whole_stands most_program whole p refl stands;
+  bad = λ whole text status said. said_refused most_program whole text status refl said;
+  short = λ bytes p stands. let few : length bytes ≤ MAX_TEXT = stands.typed.spelled.scanned.0 in omega (arith, few);
+  over = λ p whole text status answer. text_answer_front (shape_of p) (inputs_of p) words (Ran p options.turns) whole text status answer;
+}

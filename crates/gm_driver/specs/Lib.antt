@@ -1,7 +1,6 @@
-pub mod Texts
 pub mod Fronts
-pub mod Checks
+pub mod Texts
 pub mod Runs
+pub mod Checks
 pub mod Demos
 pub mod Whole
-pub mod Readings

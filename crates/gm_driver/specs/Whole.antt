@@ -33,20 +33,19 @@ IsUsage (Some (job.Demo n options)) = ⊥
 -- is to be observed, they are told of it, and what they report of all that they then hold is written behind its listing.
 -- Of the other options of a run its bound on turns alone changes what is written. Nothing is read for the usage line and
 -- for a demonstration
-pub data IsJobReply (asked : Option Job) (ways : List (List Note → List ℕ)) (held : List (List Note)) (told : Option (List (List ℕ × List ℕ))) (before after : Outside) (text : List ℕ) (status : Status) : Type 0 where
-  usage : IsUsage asked → KeepsInput before after → KeepsFiles before after → Says text status usage_text Usage → IsJobReply asked ways held told before after text status
-  checked : (prog : List ℕ) → asked ≡ Some (job.Check prog) → IsCheckReply prog told before after text status → IsJobReply asked ways held told before after text status
+pub data IsJobReply (asked : Option Job) (ways : List (List Note → List ℕ)) (held : List (List Note)) (before after : Outside) (text : List ℕ) (status : Status) : Type 0 where
+  usage : IsUsage asked → KeepsInput before after → KeepsFiles before after → Says text status usage_text Usage → IsJobReply asked ways held before after text status
+  checked : (prog : List ℕ) → asked ≡ Some (job.Check prog) → IsCheckReply prog before after text status → IsJobReply asked ways held before after text status
   ran : (prog graph : List ℕ) (args : List (List ℕ)) (options : Options) → asked ≡ Some (job.Run prog graph args options false)
-      → IsRunReply prog graph args options.turns told before after text status → IsJobReply asked ways held told before after text status
+      → IsRunReply prog graph args options before after text status → IsJobReply asked ways held before after text status
   executed : (image graph : List ℕ) (args : List (List ℕ)) (options : Options) (held_then : List (List Note)) → asked ≡ Some (job.Exec image graph args options)
-      → IsExecReply image graph args options.turns options.observe (audience ways held held_then) told before after text status → IsJobReply asked ways held told before after text status
+      → IsExecReply image graph args options (audience ways held held_then) before after text status → IsJobReply asked ways held before after text status
   shown : (n : ℕ) (options : Options) → asked ≡ Some (job.Demo n options) → KeepsInput before after → KeepsFiles before after
-      → IsDemoAnswer n text status → IsJobReply asked ways held told before after text status
+      → IsDemoAnswer n text status → IsJobReply asked ways held before after text status
 
--- what is to be written for the words of a command line, with these observers and where these files are there, and the
--- status
-abbrev pub IsReply : List (List ℕ) → List (List Note → List ℕ) → List (List Note) → Option (List (List ℕ × List ℕ)) → Outside → Outside → List ℕ → Status → Type 0
-IsReply words ways held told before after text status = IsJobReply (job_of words) ways held told before after text status
+-- what is to be written for the words of a command line, with these observers, and the status
+abbrev pub IsReply : List (List ℕ) → List (List Note → List ℕ) → List (List Note) → Outside → Outside → List ℕ → Status → Type 0
+IsReply words ways held before after text status = IsJobReply (job_of words) ways held before after text status
 
 -- a status with which a reply ends that was written
 abbrev pub IsWrittenStatus : Status → Type 0
@@ -61,6 +60,12 @@ IsAnswerStatus WriteFault = ⊥
 IsAnswerStatus NoMemory = ⊥
 IsAnswerStatus _ = Unit {0}
 
+-- no read failed, and no file was absent: no count of these rose
+pub record NoneMissed (before after : Outside) : Type 0 where
+  pub input : after.input_faults ≡ before.input_faults
+  pub files : after.file_faults ≡ before.file_faults
+  pub found : after.absences ≡ before.absences
+
 -- a read failed, or a file was absent: a count of these rose
 abbrev pub SomeMiss : Outside → Outside → Type 0
-SomeMiss before after = Rises before.reads after.reads ⊎ (Rises before.files after.files ⊎ Rises before.absences after.absences)
+SomeMiss before after = Rises before.input_faults after.input_faults ⊎ (Rises before.file_faults after.file_faults ⊎ Rises before.absences after.absences)

@@ -5,14 +5,16 @@ ghost use Rattle.gm_base.specs.declared.statuses.Status.TheVariants.{Refused, Us
 ghost use Rattle.gm_ast.specs.Tree.{program_of};
 ghost use Rattle.gm_canon.specs.Verdict.{IsVerdictOf, StandsFor};
 ghost use Rattle.gm_input.specs.Texts.{Says};
+ghost use Rattle.gm_ast.specs.Program.{Program};
+ghost use Rattle.gm_input.specs.Halts.{IfAnswered};
 ghost use Rattle.gm_driver.specs.Checks.{IsVerdict};
-ghost use Rattle.gm_driver.specs.Readings.{Accepted};
+ghost use Rattle.gm_driver.specs.Runs.{SaysRefused};
 ghost use Rattle.gm_driver.specs.Texts.{refused_text, usage_text};
 
 use gm_ast::forms::Work;
 use gm_base::{NoMemory, Refusal, Status, Stop};
 use gm_canon::verdict;
-use gm_input::{Answer, fixed_answer};
+use gm_input::{Answer, Halt, answered, fixed_answer};
 use gm_meaning::work_of;
 use std::alloc::Global;
 
@@ -35,11 +37,7 @@ pub fn refused(alloc: Global, refusal: Refusal) -> Result<Answer, NoMemory>
     fixed_answer(alloc, line.as_bytes(), Status::Refused)
 }
 
-/// The work on the program that a text stands for.
-///
-/// # Errors
-///
-/// `Refused` where the text breaks a rule.
+/// The work on the program that a text stands for. `Refused` comes where the text breaks a rule.
 pub fn work_in(alloc: Global, text: &[u8]) -> Result<Work, Stop>
     ensures accepted { IfOk result (λ work. StandsFor text.now (program_of work)) }
     ensures refused { IfErr result (IsVerdictOf text.now) }
@@ -48,9 +46,22 @@ pub fn work_in(alloc: Global, text: &[u8]) -> Result<Work, Stop>
     Ok(work_of(checked))
 }
 
+/// The work on the program that a text stands for, or the answer that says which rule the text breaks. The text is let
+/// go.
+pub fn work_of_text(alloc: Global, text: Vec<u8>) -> Result<Work, Halt>
+    ensures stands { IfOk result (λ work. StandsFor text.items (program_of work)) }
+    ensures halt { IfErr result (λ halt. IfAnswered halt (λ a. SaysRefused text.items a.text.items a.status)) }
+{
+    match work_in(alloc, &text) {
+        Ok(work) => Ok(work),
+        Err(Stop::Refused(refusal)) => Err(answered(refused(alloc, refusal))),
+        Err(Stop::NoMemory) => Err(Halt::NoMemory),
+    }
+}
+
 // What the verdict on a text says, without its program.
 fn judged(alloc: Global, text: &[u8]) -> Result<(), Stop>
-    ensures accepted { OnOk result (Accepted text.now) }
+    ensures accepted { OnOk result ((p : Program) × StandsFor text.now p) }
     ensures refused { IfErr result (IsVerdictOf text.now) }
 {
     verdict(alloc, text)?;

@@ -4,7 +4,6 @@
 
 mod answers;
 mod demos;
-mod halts;
 mod program;
 mod programs;
 mod runs;

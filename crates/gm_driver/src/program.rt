@@ -1,6 +1,6 @@
 //! The one call that does all that the program does.
 
-ghost use Rattle.std.specs.Prelude.{◌≡◌, ◌≢◌, ◌≤◌, ℕ, List, [], Option, Some, IfOk, map, string_bytes};
+ghost use Rattle.std.specs.Prelude.{◌≡◌, ◌≢◌, ◌≤◌, ℕ, List, [], Some, IfOk, map, string_bytes};
 ghost use Rattle.gm_base.specs.declared.statuses.Status.TheVariants.{ReadFault, WriteFault, NoMemory as MemoryOut};
 ghost use Rattle.gm_base.specs.declared.statuses.Status.{Status};
 ghost use Rattle.gm_base.specs.Streams.{Rises, with_more, GrowsByPrefix};
@@ -8,7 +8,7 @@ ghost use Rattle.gm_words.specs.Jobs.{AllAssign, IsRight};
 ghost use Rattle.gm_words.specs.declared.jobs.Job.TheVariants as job;
 ghost use Rattle.gm_observe.specs.declared.notes.Note.{Note};
 ghost use Rattle.gm_input.specs.Outside.{Outside, outside};
-ghost use Rattle.gm_driver.specs.Whole.{IsAnswerStatus, IsJobReply, IsReply, IsUsage, IsWrittenStatus, SomeMiss};
+ghost use Rattle.gm_driver.specs.Whole.{IsAnswerStatus, IsJobReply, IsReply, IsUsage, IsWrittenStatus, NoneMissed, SomeMiss};
 
 use crate::answers::usage;
 use crate::demos::demo;
@@ -24,7 +24,7 @@ use std::alloc::Global;
 // The reply for a job of which nothing is done.
 fn unbuilt(alloc: Global, job: &Job) -> Result<Answer, NoMemory>
     requires { IsUsage (Some job.now) }
-    ensures { IfOk result (λ a. (ways : List (List Note → List ℕ)) → (held : List (List Note)) → (told : Option (List (List ℕ × List ℕ))) → (o : Outside) → IsJobReply (Some job.now) ways held told o o a.text.items a.status) }
+    ensures { IfOk result (λ a. (ways : List (List Note → List ℕ)) → (held : List (List Note)) → (o : Outside) → IsJobReply (Some job.now) ways held o o a.text.items a.status) }
 {
     usage(alloc)
 }
@@ -36,9 +36,8 @@ fn check_job<S: Source, F: Files>(
     input: &mut S,
     files: &mut F,
 ) -> Result<Answer, NoMemory>
-    ensures { IfOk result (λ a. (ways : List (List Note → List ℕ)) → (held : List (List Note)) → IsJobReply (Some (job.Check prog.now)) ways held (F.told files.old)
-        (outside (S.left input.old) (S.read_faults input.old) (F.file_faults files.old) (F.absences files.old))
-        (outside (S.left input.new) (S.read_faults input.new) (F.file_faults files.new) (F.absences files.new)) a.text.items a.status) }
+    ensures { IfOk result (λ a. (ways : List (List Note → List ℕ)) → (held : List (List Note)) → IsJobReply (Some (job.Check prog.now)) ways held
+        (outside S.Source F.Files input.old files.old) (outside S.Source F.Files input.new files.new) a.text.items a.status) }
 {
     check(alloc, prog.as_str(), input, files)
 }
@@ -49,15 +48,14 @@ fn run_job<S: Source, F: Files>(
     prog: &Text,
     graph: &Text,
     args: &Items<Text>,
-    options: Options,
+    options: &Options,
     image: bool,
     input: &mut S,
     files: &mut F,
 ) -> Result<Answer, NoMemory>
     requires { AllAssign args.now }
-    ensures { IfOk result (λ a. (ways : List (List Note → List ℕ)) → (held : List (List Note)) → IsJobReply (Some (job.Run prog.now graph.now args.now options image)) ways held (F.told files.old)
-        (outside (S.left input.old) (S.read_faults input.old) (F.file_faults files.old) (F.absences files.old))
-        (outside (S.left input.new) (S.read_faults input.new) (F.file_faults files.new) (F.absences files.new)) a.text.items a.status) }
+    ensures { IfOk result (λ a. (ways : List (List Note → List ℕ)) → (held : List (List Note)) → IsJobReply (Some (job.Run prog.now graph.now args.now options.now image)) ways held
+        (outside S.Source F.Files input.old files.old) (outside S.Source F.Files input.new files.new) a.text.items a.status) }
 {
     let program = prog.as_str();
     let over = graph.as_str();
@@ -65,7 +63,7 @@ fn run_job<S: Source, F: Files>(
     if image {
         usage(alloc)
     } else {
-        run(alloc, program, over, words, options.turns, input, files)
+        run(alloc, program, over, words, options, input, files)
     }
 }
 
@@ -75,37 +73,26 @@ fn exec_job<S: Source, F: Files>(
     image: &Text,
     graph: &Text,
     args: &Items<Text>,
-    options: Options,
+    options: &Options,
     input: &mut S,
     files: &mut F,
     observers: &mut [Box<dyn Observer>],
 ) -> Result<Answer, NoMemory>
     requires { AllAssign args.now }
-    ensures { IfOk result (λ a. IsJobReply (Some (job.Exec image.now graph.now args.now options)) (map (λ o. says_of o) observers.old) (map (λ o. seen o) observers.old) (F.told files.old)
-        (outside (S.left input.old) (S.read_faults input.old) (F.file_faults files.old) (F.absences files.old))
-        (outside (S.left input.new) (S.read_faults input.new) (F.file_faults files.new) (F.absences files.new)) a.text.items a.status) }
+    ensures { IfOk result (λ a. IsJobReply (Some (job.Exec image.now graph.now args.now options.now)) (map (λ o. says_of o) observers.old) (map (λ o. seen o) observers.old)
+        (outside S.Source F.Files input.old files.old) (outside S.Source F.Files input.new files.new) a.text.items a.status) }
 {
     let text = image.as_str();
     let over = graph.as_str();
     let words = args.as_slice();
-    exec(
-        alloc,
-        text,
-        over,
-        words,
-        options.turns,
-        options.observe,
-        input,
-        files,
-        observers,
-    )
+    exec(alloc, text, over, words, options, input, files, observers)
 }
 
 // The reply for a demonstration.
 fn demo_job(alloc: Global, nodes: u32, options: Options) -> Result<Answer, NoMemory>
     requires some { 1 ≤ nodes }
     requires few { nodes ≤ 1000000 }
-    ensures { IfOk result (λ a. (ways : List (List Note → List ℕ)) → (held : List (List Note)) → (told : Option (List (List ℕ × List ℕ))) → (o : Outside) → IsJobReply (Some (job.Demo nodes options)) ways held told o o a.text.items a.status) }
+    ensures { IfOk result (λ a. (ways : List (List Note → List ℕ)) → (held : List (List Note)) → (o : Outside) → IsJobReply (Some (job.Demo nodes options)) ways held o o a.text.items a.status) }
 {
     demo(alloc, nodes)
 }
@@ -119,9 +106,8 @@ fn reply_for<S: Source, F: Files>(
     observers: &mut [Box<dyn Observer>],
 ) -> Result<Answer, NoMemory>
     requires { IsRight job.now }
-    ensures { IfOk result (λ a. IsJobReply (Some job.now) (map (λ o. says_of o) observers.old) (map (λ o. seen o) observers.old) (F.told files.old)
-        (outside (S.left input.old) (S.read_faults input.old) (F.file_faults files.old) (F.absences files.old))
-        (outside (S.left input.new) (S.read_faults input.new) (F.file_faults files.new) (F.absences files.new)) a.text.items a.status) }
+    ensures { IfOk result (λ a. IsJobReply (Some job.now) (map (λ o. says_of o) observers.old) (map (λ o. seen o) observers.old)
+        (outside S.Source F.Files input.old files.old) (outside S.Source F.Files input.new files.new) a.text.items a.status) }
 {
     match job {
         Job::Run {
@@ -130,7 +116,7 @@ fn reply_for<S: Source, F: Files>(
             args,
             options,
             image,
-        } => run_job(alloc, prog, graph, args, *options, *image, input, files),
+        } => run_job(alloc, prog, graph, args, options, *image, input, files),
         Job::Check { prog } => check_job(alloc, prog, input, files),
         Job::Demo { n, options } => demo_job(alloc, *n, *options),
         Job::Exec {
@@ -138,7 +124,7 @@ fn reply_for<S: Source, F: Files>(
             graph,
             args,
             options,
-        } => exec_job(alloc, image, graph, args, *options, input, files, observers),
+        } => exec_job(alloc, image, graph, args, options, input, files, observers),
         Job::Compile { .. } => unbuilt(alloc, job),
     }
 }
@@ -151,9 +137,8 @@ fn reply<S: Source, F: Files>(
     files: &mut F,
     observers: &mut [Box<dyn Observer>],
 ) -> Result<Answer, NoMemory>
-    ensures { IfOk result (λ a. IsReply (map string_bytes words.now) (map (λ o. says_of o) observers.old) (map (λ o. seen o) observers.old) (F.told files.old)
-        (outside (S.left input.old) (S.read_faults input.old) (F.file_faults files.old) (F.absences files.old))
-        (outside (S.left input.new) (S.read_faults input.new) (F.file_faults files.new) (F.absences files.new)) a.text.items a.status) }
+    ensures { IfOk result (λ a. IsReply (map string_bytes words.now) (map (λ o. says_of o) observers.old) (map (λ o. seen o) observers.old)
+        (outside S.Source F.Files input.old files.old) (outside S.Source F.Files input.new files.new) a.text.items a.status) }
 {
     match read_words(alloc, words) {
         Ok(job) => reply_for(alloc, &job, input, files, observers),
@@ -187,25 +172,21 @@ pub fn gm<S: Source, F: Files, K: Sink>(
     observers: &mut Vec<Box<dyn Observer>>,
 ) -> Status
     // What was written is the reply for these words, for the bytes that the source had left and for the files, whole.
-    ensures written { IsWrittenStatus result → (text : List ℕ) × IsReply (map string_bytes words.now) (map (λ o. says_of o) observers.old.items) (map (λ o. seen o) observers.old.items) (F.told files.old)
-        (outside (S.left input.old) (S.read_faults input.old) (F.file_faults files.old) (F.absences files.old))
-        (outside (S.left input.new) (S.read_faults input.new) (F.file_faults files.new) (F.absences files.new)) text result
+    ensures written { IsWrittenStatus result → (text : List ℕ) × IsReply (map string_bytes words.now) (map (λ o. says_of o) observers.old.items) (map (λ o. seen o) observers.old.items)
+        (outside S.Source F.Files input.old files.old) (outside S.Source F.Files input.new files.new) text result
         × (K.taken out.new ≡ with_more (K.taken out.old) text) }
 
     // No read failed and no file was absent, or the status is that of a read, a write or memory that failed.
-    ensures source_quiet { IsAnswerStatus result → S.read_faults input.new ≡ S.read_faults input.old }
-    ensures files_quiet { IsAnswerStatus result → F.file_faults files.new ≡ F.file_faults files.old }
-    ensures none_absent { IsAnswerStatus result → F.absences files.new ≡ F.absences files.old }
+    ensures none_missed { IsAnswerStatus result → NoneMissed
+        (outside S.Source F.Files input.old files.old) (outside S.Source F.Files input.new files.new) }
     ensures read_fault { result ≡ ReadFault → SomeMiss
-        (outside (S.left input.old) (S.read_faults input.old) (F.file_faults files.old) (F.absences files.old))
-        (outside (S.left input.new) (S.read_faults input.new) (F.file_faults files.new) (F.absences files.new)) }
+        (outside S.Source F.Files input.old files.old) (outside S.Source F.Files input.new files.new) }
     ensures sink_quiet { result ≢ WriteFault → K.write_faults out.new ≡ K.write_faults out.old }
     ensures write_fault { result ≡ WriteFault → Rises (K.write_faults out.old) (K.write_faults out.new) }
 
     // After a failed write a part of the reply was written, from its front; without memory nothing.
-    ensures prefix { result ≡ WriteFault → (text : List ℕ) × ((status : Status) × IsReply (map string_bytes words.now) (map (λ o. says_of o) observers.old.items) (map (λ o. seen o) observers.old.items) (F.told files.old)
-        (outside (S.left input.old) (S.read_faults input.old) (F.file_faults files.old) (F.absences files.old))
-        (outside (S.left input.new) (S.read_faults input.new) (F.file_faults files.new) (F.absences files.new)) text status
+    ensures prefix { result ≡ WriteFault → (text : List ℕ) × ((status : Status) × IsReply (map string_bytes words.now) (map (λ o. says_of o) observers.old.items) (map (λ o. seen o) observers.old.items)
+        (outside S.Source F.Files input.old files.old) (outside S.Source F.Files input.new files.new) text status
         × GrowsByPrefix (K.taken out.old) (K.taken out.new) text) }
     ensures nothing { result ≡ MemoryOut → K.taken out.new ≡ K.taken out.old }
 

@@ -3,12 +3,9 @@
 
 mod answers;
 mod flaws;
-mod graphs;
-mod halts;
 mod images;
 mod laws;
 mod programs;
-mod readings;
 mod replies;
 mod runs;
 mod watches;

@@ -1,22 +1,53 @@
-//! The reply for the run of an image over a graph, wherever the two stand.
+//! The road of an image: it is read and judged, and only where it is sound the graph is read, the arguments are judged and
+//! the image runs.
 
 ghost use Rattle.std.specs.Prelude.{◌≡◌, false, IfOk, map};
 ghost use Rattle.gm_words.specs.Jobs.{AllAssign};
+ghost use Rattle.gm_input.specs.Halts.{IfSaid};
 ghost use Rattle.gm_input.specs.Outside.{outside};
 ghost use Rattle.gm_exec.specs.Replies.{IsExecReply};
 ghost use Rattle.gm_exec.specs.Runs.{IsUntold, audience};
 
-use crate::halts::settled;
-use crate::readings::prepared;
+use crate::images::image_of;
 use crate::runs::run_text;
 use gm_base::{Files, NoMemory, Source, Text};
-use gm_input::Answer;
+use gm_input::{Answer, Halt, read_code, read_graph, settled};
 use gm_observe::Observer;
+use gm_words::Options;
 use std::alloc::Global;
 
+// How many bytes of an image's text are read at most: one more than a text may have, so that a longer one is seen.
+const MOST_IMAGE: usize = 268_435_457;
+
+// The steps of the run of an image, one after the other.
+fn exec_steps<S: Source, F: Files>(
+    alloc: Global,
+    image: &str,
+    graph: &str,
+    words: &[Text],
+    options: &Options,
+    input: &mut S,
+    files: &mut F,
+    observers: &mut [Box<dyn Observer>],
+) -> Result<Answer, Halt>
+    requires { AllAssign words.now }
+    ensures reply { IfSaid result (λ a. IsExecReply image.now graph.now words.now options.now
+        (audience (map (λ o. says_of o) observers.old) (map (λ o. seen o) observers.old) (map (λ o. seen o) observers.new))
+        (outside S.Source F.Files input.old files.old) (outside S.Source F.Files input.new files.new) a.text.items a.status) }
+    ensures untold { IfSaid result (λ a. IsUntold a.status (map (λ o. seen o) observers.old) (map (λ o. seen o) observers.new)) }
+    ensures unwatched { options.now.observe ≡ false → map (λ o. seen o) observers.new ≡ map (λ o. seen o) observers.old }
+    ensures same_ways { map (λ o. says_of o) observers.new ≡ map (λ o. says_of o) observers.old }
+    ensures kept { F.told files.new ≡ F.told files.old }
+{
+    let front = read_code(alloc, image, graph, MOST_IMAGE, input, files)?;
+    let sound = image_of(alloc, front.program)?;
+    let text = read_graph(alloc, image, graph, front.ahead, front.ended, input, files)?;
+    run_text(alloc, &sound, words, options, text, observers)
+}
+
 /// The reply for the run of an image over a graph, by their names. `words` are the words NAME=VALUE for the image's
-/// scalar inputs, `turns` is how many turns may begin, and `watched` says whether the observers are told of the run and
-/// report behind its listing. The name `-` stands for standard input; where both names are `-`, the graph stands behind
+/// scalar inputs; `options` say how many turns may begin, and whether the observers are told of the run and report behind
+/// its listing. The name `-` stands for standard input; where both names are `-`, the graph stands behind
 /// the first line that is exactly `%%`.
 ///
 /// The image is read and judged first: `image TooLong`, `image BadText at line L` or `image RULE at line L` is bad
@@ -27,8 +58,7 @@ pub fn exec<S: Source, F: Files>(
     image: &str,
     graph: &str,
     words: &[Text],
-    turns: u64,
-    watched: bool,
+    options: &Options,
     input: &mut S,
     files: &mut F,
     observers: &mut [Box<dyn Observer>],
@@ -36,28 +66,16 @@ pub fn exec<S: Source, F: Files>(
     requires { AllAssign words.now }
 
     // What is said, by what stands under the names, and what the observers were told where the image ran.
-    ensures reply { IfOk result (λ a. IsExecReply image.now graph.now words.now turns watched
-        (audience (map (λ o. says_of o) observers.old) (map (λ o. seen o) observers.old) (map (λ o. seen o) observers.new)) (F.told files.old)
-        (outside (S.left input.old) (S.read_faults input.old) (F.file_faults files.old) (F.absences files.old))
-        (outside (S.left input.new) (S.read_faults input.new) (F.file_faults files.new) (F.absences files.new)) a.text.items a.status) }
+    ensures reply { IfOk result (λ a. IsExecReply image.now graph.now words.now options.now
+        (audience (map (λ o. says_of o) observers.old) (map (λ o. seen o) observers.old) (map (λ o. seen o) observers.new))
+        (outside S.Source F.Files input.old files.old) (outside S.Source F.Files input.new files.new) a.text.items a.status) }
 
     // Where nothing ran, and where the run is not watched, they were told nothing.
     ensures untold { IfOk result (λ a. IsUntold a.status (map (λ o. seen o) observers.old) (map (λ o. seen o) observers.new)) }
-    ensures unwatched { watched ≡ false → map (λ o. seen o) observers.new ≡ map (λ o. seen o) observers.old }
+    ensures unwatched { options.now.observe ≡ false → map (λ o. seen o) observers.new ≡ map (λ o. seen o) observers.old }
 
     ensures same_ways { map (λ o. says_of o) observers.new ≡ map (λ o. says_of o) observers.old }
     ensures kept { F.told files.new ≡ F.told files.old }
 {
-    match prepared(alloc, image, graph, input, files) {
-        Ok(ready) => run_text(
-            alloc,
-            &ready.image,
-            words,
-            turns,
-            watched,
-            &ready.graph,
-            observers,
-        ),
-        Err(halt) => settled(halt),
-    }
+    settled(exec_steps(alloc, image, graph, words, options, input, files, observers))
 }

@@ -1,50 +1,23 @@
 //! The run of an image over a graph text, with words for its arguments.
 
-ghost use Rattle.std.specs.Prelude.{◌≡◌, false, IfOk, map};
+ghost use Rattle.std.specs.Prelude.{◌≡◌, false, map};
 ghost use Rattle.gm_image.specs.Views.{program};
 ghost use Rattle.gm_words.specs.Jobs.{AllAssign};
-ghost use Rattle.gm_machine.specs.Masters.{FitsGraph};
-ghost use Rattle.gm_exec.specs.Answers.{IsGraphAnswer, IsTextAnswer};
+ghost use Rattle.gm_input.specs.Halts.{IfSaid};
+ghost use Rattle.gm_exec.specs.Answers.{IsTextAnswer};
 ghost use Rattle.gm_exec.specs.Runs.{IsUntold, audience};
 
 use crate::programs::{inputs_of, shape_of};
 use crate::watches::run_with;
-use gm_base::{NoMemory, Text};
-use gm_graph::Graph;
+use gm_base::Text;
 use gm_image::Sound;
-use gm_input::{Answer, GRAPH_LIMITS, bad_argument, bad_graph};
-use gm_loader::parse_graph;
+use gm_input::{Answer, Halt, arguments, graph_of};
 use gm_observe::Observer;
-use gm_words::bind;
+use gm_words::Options;
 use std::alloc::Global;
 
-// The answer of an image over a graph.
-fn run_graph(
-    alloc: Global,
-    image: &Sound,
-    words: &[Text],
-    turns: u64,
-    watched: bool,
-    graph: &Graph,
-    observers: &mut [Box<dyn Observer>],
-) -> Result<Answer, NoMemory>
-    requires assign { AllAssign words.now }
-    requires columns { FitsGraph image.now graph.now }
-    ensures answer { IfOk result (λ a. IsGraphAnswer (program image.now) words.now turns watched
-        (audience (map (λ o. says_of o) observers.old) (map (λ o. seen o) observers.old) (map (λ o. seen o) observers.new)) graph.now a.text.items a.status) }
-    ensures untold { IfOk result (λ a. IsUntold a.status (map (λ o. seen o) observers.old) (map (λ o. seen o) observers.new)) }
-    ensures unwatched { watched ≡ false → map (λ o. seen o) observers.new ≡ map (λ o. seen o) observers.old }
-    ensures same_ways { map (λ o. says_of o) observers.new ≡ map (λ o. says_of o) observers.old }
-{
-    let inputs = inputs_of(alloc, image.image())?;
-    match bind(alloc, &inputs, words, graph) {
-        Ok(args) => run_with(alloc, image, graph, &args, turns, watched, observers),
-        Err(fault) => bad_argument(alloc, &fault),
-    }
-}
-
-/// The answer of an image over a graph text. `words` are the words NAME=VALUE for its scalar inputs, `turns` is how many
-/// turns may begin, and `watched` says whether the observers are told of the run and report.
+/// The answer of an image over a graph text. `words` are the words NAME=VALUE for its scalar inputs; `options` say how
+/// many turns may begin, and whether the observers are told of the run and report.
 ///
 /// The text stands for a graph with a column for each property among the inputs, or the answer is
 /// `graph KIND at line L` or `graph TooLong`; the words give each scalar input a value, or it is `argument KIND NAME`,
@@ -53,21 +26,28 @@ pub fn run_text(
     alloc: Global,
     image: &Sound,
     words: &[Text],
-    turns: u64,
-    watched: bool,
-    text: &[u8],
+    options: &Options,
+    text: Vec<u8>,
     observers: &mut [Box<dyn Observer>],
-) -> Result<Answer, NoMemory>
+) -> Result<Answer, Halt>
     requires { AllAssign words.now }
-    ensures answer { IfOk result (λ a. IsTextAnswer (program image.now) words.now turns watched
-        (audience (map (λ o. says_of o) observers.old) (map (λ o. seen o) observers.old) (map (λ o. seen o) observers.new)) text.now a.text.items a.status) }
-    ensures untold { IfOk result (λ a. IsUntold a.status (map (λ o. seen o) observers.old) (map (λ o. seen o) observers.new)) }
-    ensures unwatched { watched ≡ false → map (λ o. seen o) observers.new ≡ map (λ o. seen o) observers.old }
+    ensures answer { IfSaid result (λ a. IsTextAnswer (program image.now) words.now options.now
+        (audience (map (λ o. says_of o) observers.old) (map (λ o. seen o) observers.old) (map (λ o. seen o) observers.new)) text.items a.text.items a.status) }
+    ensures untold { IfSaid result (λ a. IsUntold a.status (map (λ o. seen o) observers.old) (map (λ o. seen o) observers.new)) }
+    ensures unwatched { options.now.observe ≡ false → map (λ o. seen o) observers.new ≡ map (λ o. seen o) observers.old }
     ensures same_ways { map (λ o. says_of o) observers.new ≡ map (λ o. says_of o) observers.old }
 {
     let shape = shape_of(alloc, image.image())?;
-    match parse_graph(alloc, text, &shape, &GRAPH_LIMITS) {
-        Ok(graph) => run_graph(alloc, image, words, turns, watched, &graph, observers),
-        Err(fault) => bad_graph(alloc, fault),
-    }
+    let graph = graph_of(alloc, text, &shape)?;
+    let inputs = inputs_of(alloc, image.image())?;
+    let args = arguments(alloc, &inputs, words, &graph)?;
+    Ok(run_with(
+        alloc,
+        image,
+        &graph,
+        &args,
+        options.turns,
+        options.observe,
+        observers,
+    )?)
 }

@@ -2,7 +2,7 @@
 
 ghost use Rattle.std.specs.Prelude.{◌<◌};
 
-use gm_base::{MemSource, ReadStop, read_all};
+use gm_base::{MemSource, read_all};
 use gm_input::{FrontStop, read_front, read_rest};
 use std::alloc::{AllocError, Global};
 use std::test::Fail;
@@ -14,7 +14,7 @@ fn parts(
     text: &[u8],
     piece: usize,
     most: usize,
-    limit: u64,
+    limit: usize,
     fails: u64,
 ) -> Result<Vec<u8>, AllocError>
     requires { 0 < piece }
@@ -29,9 +29,8 @@ fn parts(
     shown.extend_from_slice(b"|")?;
     match read_rest(alloc, front.ahead, front.ended, &mut source, limit) {
         Ok(rest) => shown.extend_from_slice(&rest)?,
-        Err(ReadStop::Failed) => shown.extend_from_slice(b"failed")?,
-        Err(ReadStop::TooLong) => shown.extend_from_slice(b"too long")?,
-        Err(ReadStop::NoMemory) => return Err(AllocError),
+        Err(FrontStop::Failed) => shown.extend_from_slice(b"failed")?,
+        Err(FrontStop::NoMemory) => return Err(AllocError),
     }
     Ok(shown)
 }
@@ -71,7 +70,7 @@ fn inputs_are_read_within_their_limits(rt: HostRuntime) -> Result<(), Fail> {
     let table = [
         (5, 3, 0, b"ab\n|1 2".as_slice()),
         (4, 3, 0, b"ab\n|1 2"),
-        (4, 2, 0, b"ab\n|too long"),
+        (4, 2, 0, b"ab\n|1 "),
         (4, 3, 1, b"failed"),
         (4, 3, 3, b"failed"),
         (4, 3, 4, b"ab\n|failed"),

@@ -7,7 +7,7 @@ use gm_base::{Items, MemFiles, MemSource, NoMemory, Status, Text};
 use gm_exec::exec;
 use gm_input::Answer;
 use gm_observe::{Counter, Note, Observer, Table};
-use gm_words::{Job, read_words};
+use gm_words::{Job, Options, read_words};
 use std::alloc::Global;
 use std::cell::Cell;
 use std::rc::Rc;
@@ -83,6 +83,22 @@ fn arguments(alloc: Global, line: &str) -> Result<Items<Text>, Fail>
     }
 }
 
+// The options of a run with this bound on turns, observed or not.
+fn options(alloc: Global, turns: u64, observe: bool) -> Result<Options, Fail> {
+    let line = format!(in alloc; "exec - - --turns {turns}")?;
+    let mut words = Vec::new(alloc);
+    for word in line.as_str().split(' ') {
+        words.push(String::from_str(alloc, word)?)?;
+    }
+    if observe {
+        words.push(String::from_str(alloc, "--observe")?)?;
+    }
+    match read_words(alloc, words.as_slice())? {
+        Job::Exec { options, .. } => Ok(options),
+        _ => Err("no run")?,
+    }
+}
+
 // The answer over a standard input of this text, which is read in pieces of this size, and of which the read of this
 // number fails. A counter and a table watch, or do not.
 fn answer_of(
@@ -109,8 +125,7 @@ fn answer_of(
         "-",
         "-",
         words,
-        turns,
-        watched,
+        &options(alloc, turns, watched)?,
         &mut input,
         &mut files,
         &mut observers,
@@ -348,8 +363,7 @@ fn names_are_read(rt: HostRuntime) -> Result<(), Fail> {
             image,
             graph,
             words.as_slice(),
-            4,
-            false,
+            &options(rt.alloc(), 4, false)?,
             &mut input,
             &mut files,
             &mut observers,
@@ -390,8 +404,7 @@ fn one_without_memory_stops_the_telling(rt: HostRuntime) -> Result<(), Fail> {
         "-",
         "-",
         words.as_slice(),
-        4,
-        false,
+        &options(rt.alloc(), 4, false)?,
         &mut input,
         &mut files,
         &mut observers,
@@ -406,8 +419,7 @@ fn one_without_memory_stops_the_telling(rt: HostRuntime) -> Result<(), Fail> {
         "-",
         "-",
         words.as_slice(),
-        4,
-        true,
+        &options(rt.alloc(), 4, true)?,
         &mut again,
         &mut files,
         &mut observers,

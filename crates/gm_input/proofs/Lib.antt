@@ -3,3 +3,5 @@ pub mod Reading
 pub mod Parting
 pub mod NameReading
 pub mod Naming
+pub mod Answering
+pub mod Roading

@@ -1,11 +1,11 @@
 -- Reading the front of a source or a file piece by piece.
 use Rattle.std.proofs.Common.{◌≡◌, ◌≤◌, ◌<◌, ◌+◌, ℕ, List, [], ◌++◌, Option, length, take, drop, refl, ap, sym, ◌∙◌, arith, append_assoc, append-nil}
 use Rattle.std.specs.Prelude.{Some, None, IsSomeAnd}
-use Rattle.std.proofs.lemmas.List.{take-append-drop, take_all, take_at}
+use Rattle.std.proofs.lemmas.List.{take-append-drop, take_all, take_at, drop_all}
 use Rattle.std.proofs.Math.Seq.{drop-append_seam}
 use Rattle.gm_base.specs.Files.{file_of, Continues, AddsPart}
 use Rattle.gm_base.specs.Streams.{AppendsFront}
-use Rattle.gm_input.specs.Names.{AreFront, AreFileFront}
+use Rattle.gm_input.specs.Names.{AreFileFront, TakesFirst}
 
 -- these bytes were read so far, where it is told
 abbrev pub SoFar : Option (List ℕ) → Option (List ℕ) → List ℕ → Type 0
@@ -32,18 +32,23 @@ so_far_more (Some left) now after bytes more k e p =
     (drop k e.0, q.0, e.2 ∙ rw (q.1, append_assoc, take-append-drop k e.0) refl)
 
 -- nothing came: all was read
-pub front_ended : (old now after : Option (List ℕ)) (bytes more : List ℕ) (most : ℕ) → SoFar old now bytes → AppendsFront now after bytes more 0 → length more ≤ most → AreFront old more most
-front_ended None now after bytes more most e p few = few
+pub front_ended : (old now after : Option (List ℕ)) (bytes more : List ℕ) (most : ℕ) → SoFar old now bytes → AppendsFront now after bytes more 0 → length more ≤ most → TakesFirst old after more most
+front_ended None now after bytes more most e p few =
+    let q : AppendsFront None after bytes more 0 = rw e at p in
+    (q, few)
 front_ended (Some left) now after bytes more most e p few =
     let q : AppendsFront (Some e.0) after bytes more 0 = rw e.1 at p in
     let nothing : e.0 ≡ [] = q.3 refl in
     let whole : left ≡ more = e.2 ∙ rw (q.1, nothing) refl in
-    rw whole (sym (take_all most more few))
+    let rest : drop 0 e.0 ≡ drop most left = nothing ∙ sym (drop_all most left (rw whole few)) in
+    (q.0 ∙ ap Some rest, rw whole (sym (take_all most more few)))
 
 -- there is no more room
-pub front_full : (old now : Option (List ℕ)) (bytes : List ℕ) (most : ℕ) → SoFar old now bytes → length bytes ≡ most → AreFront old bytes most
-front_full None now bytes most e full = omega (arith, full)
-front_full (Some left) now bytes most e full = rw e.2 (sym (take_at bytes e.0 most full))
+pub front_full : (old now : Option (List ℕ)) (bytes : List ℕ) (most : ℕ) → SoFar old now bytes → length bytes ≡ most → TakesFirst old now bytes most
+front_full None now bytes most e full = (e, omega (arith, full))
+front_full (Some left) now bytes most e full =
+    let rest : e.0 ≡ drop most left = rw (e.2, ← full) (sym (drop-append_seam bytes e.0)) in
+    (e.1 ∙ ap Some rest, rw e.2 (sym (take_at bytes e.0 most full)))
 
 -- these are the first bytes of the file
 abbrev Begins : Option (List ℕ) → List ℕ → Type 0

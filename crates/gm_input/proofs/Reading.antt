@@ -1,14 +1,15 @@
 -- Reading an input piece by piece up to its line `%%`.
-use Rattle.std.proofs.Common.{◌≡◌, ◌≤◌, ◌<◌, ◌+◌, ◌-◌, ◌∙◌, ℕ, Bool, true, false, List, [], ◌∷◌, ◌++◌, Option, length, take, drop, min, refl, sym, ap, arith, append_assoc, append-nil, length-append, inl, inr}
+use Rattle.std.proofs.Common.{◌≡◌, ◌≤◌, ◌<◌, ◌+◌, ◌-◌, ◌∙◌, ◌⊎◌, ℕ, Bool, true, false, List, [], ◌∷◌, ◌++◌, Option, length, take, drop, min, refl, sym, ap, subst, arith, append_assoc, append-nil, length-append, inl, inr}
 use Rattle.std.specs.Prelude.{Some, None}
-use Rattle.std.proofs.lemmas.List.{length-take, take-append-le, take_all, take-take}
+use Rattle.std.proofs.lemmas.List.{length-take, length-drop, take-append-le, take_all, take-take, drop_all}
 use Rattle.std.proofs.lemmas.Bool.{cases_lt}
 use Rattle.std.proofs.Math.Seq.{take-append_seam, drop-append_seam}
 use Rattle.gm_input.specs.declared.lines.LineSoFar.{LineSoFar}
 use Rattle.gm_input.specs.declared.lines.LineSoFar.TheVariants.{Empty, OneSign, TwoSigns, SignsAndReturn, Other}
 use Rattle.gm_input.specs.Parts.{program_from, graph_from, program_part, graph_part}
 use Rattle.gm_input.specs.Lines.{AreRead, AreParted, begins, held, held_at_end}
-use Rattle.gm_input.specs.Fronts.{ahead_of, IsFront, GaveAtMost, farthest, Takes, Appends, IsRest, Exceeds}
+use Rattle.gm_input.specs.Fronts.{ahead_of, IsFront, GaveAtMost, GaveRest, ReachesGraph, ReadsBehind, exhausted, farthest, Takes, Appends}
+use Rattle.gm_input.specs.Names.{AreFront}
 
 -- these bytes were read so far, where it is told
 abbrev pub SoFar : Option (List ℕ) → Option (List ℕ) → List ℕ → Type 0
@@ -192,14 +193,58 @@ front_long (Some left) after bytes program ahead most ended e same full = record
   graph_left = λ (short : length program < most). absurd (omega (arith, short, full));
 }
 
--- the state of a reading of all that a source has, behind some bytes
-pub record IsReadingBehind (old now : Option (List ℕ)) (faults_old faults_now : ℕ) (ahead bytes : List ℕ) (limit buffer : ℕ) : Type 0 where
+-- ---- how far was read
+
+-- nothing came: the input ended
+ended_so : (old now after : Option (List ℕ)) (bytes more : List ℕ) → SoFar old now bytes → Appends now after bytes more 0 → after ≡ exhausted old
+ended_so None now after bytes more e p =
+    let t : Takes None after p.more = rw e at p.taken in
+    t
+ended_so (Some left) now after bytes more e p =
+    let t : Takes (Some e.0) after p.more = rw e.1 at p.taken in
+    let nothing : e.0 ≡ [] = t.3 p.count in
+    let none : p.more ≡ [] = no_items p.more p.count in
+    let rest : t.0 ≡ [] = subst (λ (xs : List ℕ). xs ++ t.0 ≡ []) none (sym t.1 ∙ nothing) in
+    t.2 ∙ ap Some rest
+
+pub at_end : (old now after : Option (List ℕ)) (bytes more : List ℕ) → SoFar old now bytes → Appends now after bytes more 0 → after ≡ exhausted old
+at_end = ended_so
+
+-- all was read
+all_reached : (most : ℕ) (old after : Option (List ℕ)) → after ≡ exhausted old → ReachesGraph most old after
+all_reached most None after e = e
+all_reached most (Some left) after e = (length left, omega arith, omega arith, e ∙ ap Some (sym (drop_all (length left) left (omega arith))))
+
+pub far_ended : (old now after : Option (List ℕ)) (bytes more : List ℕ) (most : ℕ) → SoFar old now bytes → Appends now after bytes more 0 → ReachesGraph most old after
+far_ended old now after bytes more most e p = all_reached most old after (ended_so old now after bytes more e p)
+
+-- the line that parts the texts was found
+pub far_parted : (old after : Option (List ℕ)) (bytes : List ℕ) (start end most : ℕ) → SoFar old after bytes → AreParted bytes start end → ReachesGraph most old after
+far_parted None after bytes start end most e p = e
+far_parted (Some left) after bytes start end most e p =
+    let graph : graph_part left ≡ drop end bytes ++ e.0 = ap graph_part e.2 ∙ p.graph e.0 in
+    let tail : length (graph_part left) ≡ length (drop end bytes) + length e.0 = ap length graph ∙ length-append (drop end bytes) e.0 in
+    let dropped : length (drop end bytes) ≡ length bytes - end = length-drop end bytes in
+    let whole : length left ≡ length bytes + length e.0 = ap length e.2 ∙ length-append bytes e.0 in
+    (length bytes, omega (arith, tail, dropped, whole, p.within), omega (arith, whole), e.1 ∙ ap Some (rw e.2 (sym (drop-append_seam bytes e.0))))
+
+-- as many bytes were read as are asked for
+pub far_long : (old after : Option (List ℕ)) (bytes : List ℕ) (most : ℕ) → SoFar old after bytes → most ≤ length bytes → ReachesGraph most old after
+far_long None after bytes most e long = e
+far_long (Some left) after bytes most e long =
+    let whole : length left ≡ length bytes + length e.0 = ap length e.2 ∙ length-append bytes e.0 in
+    (length bytes, omega (arith, long), omega (arith, whole), e.1 ∙ ap Some (rw e.2 (sym (drop-append_seam bytes e.0))))
+
+-- ---- behind some bytes
+
+-- the state of a reading of what a source has, behind some bytes
+pub record IsReadingBehind (old now : Option (List ℕ)) (faults_old faults_now : ℕ) (ahead bytes : List ℕ) (most buffer : ℕ) : Type 0 where
   pub buffer_len : buffer ≡ 65536
   pub quiet : faults_now ≡ faults_old
   pub read : List ℕ
   pub behind : bytes ≡ ahead ++ read
   pub so_far : SoFar old now read
-  pub size : length bytes ≤ limit
+  pub near : length read ≤ (most - length ahead) + 65536
 
 -- one piece more, behind some bytes
 pub behind_more : (old now after : Option (List ℕ)) (ahead read bytes more : List ℕ) (k : ℕ) → bytes ≡ ahead ++ read → SoFar old now read → Appends now after bytes more k
@@ -208,21 +253,59 @@ behind_more old now after ahead read bytes more k e s p =
     let part : Appends now after read (read ++ p.more) k = record { more = p.more; added = refl; count = p.count; taken = p.taken } in
     (read ++ p.more, p.added ∙ rw e (append_assoc ahead read p.more), longer_by now after read (read ++ p.more) k part, so_far_more old now after read (read ++ p.more) k s part)
 
--- nothing came: all was read
-pub behind_ended : (old now after : Option (List ℕ)) (ahead read bytes more : List ℕ) (limit : ℕ) → bytes ≡ ahead ++ read → SoFar old now read → Appends now after bytes more 0
-    → length more ≤ limit → IsRest (ahead_of ahead false old) more limit
-behind_ended None now after ahead read bytes more limit e s p few = few
-behind_ended (Some left) now after ahead read bytes more limit e s p few =
-    let t : Takes (Some s.0) after p.more = rw s.1 at p.taken in
-    let nothing : s.0 ≡ [] = t.3 p.count in
-    let none : p.more ≡ [] = no_items p.more p.count in
-    let whole : left ≡ read = s.2 ∙ rw (nothing, append-nil) refl in
-    (p.added ∙ rw (none, e, whole, append-nil) refl, few)
+some_same : (x y : List ℕ) → Some x ≡ Some y → x ≡ y
+some_same x y e = cc
 
--- there are more bytes than the limit
-pub behind_long : (old after : Option (List ℕ)) (ahead read : List ℕ) (limit : ℕ) → SoFar old after read → limit < length ahead + length read → Exceeds (ahead_of ahead false old) limit
-behind_long None after ahead read limit s long = tt
-behind_long (Some left) after ahead read limit s long =
-    let size : length left ≡ length read + length s.0 = ap length s.2 ∙ length-append read s.0 in
-    let all : length (ahead ++ left) ≡ length ahead + length left = length-append ahead left in
-    omega arith
+-- what was read, where there is enough or nothing is left
+pub behind_done : (old now : Option (List ℕ)) (most : ℕ) (ahead read bytes : List ℕ) → bytes ≡ ahead ++ read → SoFar old now read → length read ≤ (most - length ahead) + 65536
+    → (most ≤ length bytes) ⊎ (now ≡ exhausted old) → ReadsBehind most ahead old now bytes
+behind_done None now most ahead read bytes e s near enough = s
+behind_done (Some left) now most ahead read bytes e s near (inl long) = record { read = read; rest = s.0; all = s.2; put = e; still = s.1; enough = inl long; near = near }
+behind_done (Some left) now most ahead read bytes e s near (inr none) =
+    record { read = read; rest = s.0; all = s.2; put = e; still = s.1; enough = inr (some_same s.0 [] (sym s.1 ∙ none)); near = near }
+
+-- nothing came
+pub behind_ended : (old now after : Option (List ℕ)) (most : ℕ) (ahead read bytes more : List ℕ) → bytes ≡ ahead ++ read → SoFar old now read → Appends now after bytes more 0
+    → length read ≤ (most - length ahead) + 65536 → ReadsBehind most ahead old after more
+behind_ended old now after most ahead read bytes more e s p near =
+    let part : Appends now after read (read ++ p.more) 0 = record { more = p.more; added = refl; count = p.count; taken = p.taken } in
+    let longer = behind_more old now after ahead read bytes more 0 e s p in
+    let size : length longer.0 ≤ (most - length ahead) + 65536 = omega (arith, longer.2, near) in
+    behind_done old after most ahead longer.0 more longer.1 longer.3 size (inr (ended_so old now after read (read ++ p.more) s part))
+
+-- ---- all that stands behind some bytes
+
+few_taken : (most : ℕ) (xs bytes : List ℕ) → bytes ≡ take most xs → length bytes ≤ most
+few_taken most xs bytes e = let size : length bytes ≡ min most (length xs) = ap length e ∙ length-take most xs in omega (arith, size)
+
+-- the input was seen to end before
+pub rest_at_end : (left : Option (List ℕ)) (ahead bytes : List ℕ) (ended : Bool) (most : ℕ) → ended ≡ true → bytes ≡ take most ahead → AreFront (ahead_of ahead ended left) bytes most
+rest_at_end None ahead bytes ended most is e = few_taken most ahead bytes e
+rest_at_end (Some left) ahead bytes ended most is e = rw (is, append-nil) e
+
+pub gave_at_end : (left : Option (List ℕ)) (ahead : List ℕ) (ended : Bool) (most : ℕ) → ended ≡ true → GaveRest most ahead ended left left
+gave_at_end left ahead ended most is = rw is refl
+
+-- it was read on
+pub rest_behind : (left after : Option (List ℕ)) (ahead read bytes : List ℕ) (ended : Bool) (most : ℕ) → ended ≡ false → ReadsBehind most ahead left after read → bytes ≡ take most read
+    → AreFront (ahead_of ahead ended left) bytes most
+rest_behind None after ahead read bytes ended most is r e = few_taken most read bytes e
+rest_behind (Some left) after ahead read bytes ended most is r e =
+    let all : ahead ++ left ≡ read ++ r.rest = ap (λ (xs : List ℕ). ahead ++ xs) r.all ∙ sym (append_assoc ahead r.read r.rest) ∙ ap (λ (xs : List ℕ). xs ++ r.rest) (sym r.put) in
+    let front : take most (read ++ r.rest) ≡ take most read = elim r.enough [
+      | inl long ↦ take-append-le most read r.rest long
+      | inr none ↦ rw (none, append-nil) refl
+    ] in
+    rw is (e ∙ sym front ∙ ap (take most) (sym all))
+
+pub gave_behind : (left after : Option (List ℕ)) (ahead read : List ℕ) (ended : Bool) (most : ℕ) → ended ≡ false → ReadsBehind most ahead left after read → GaveRest most ahead ended left after
+gave_behind None after ahead read ended most is r = rw is r
+gave_behind (Some left) after ahead read ended most is r =
+    let whole : length left ≡ length r.read + length r.rest = ap length r.all ∙ length-append r.read r.rest in
+    let put : length read ≡ length ahead + length r.read = ap length r.put ∙ length-append ahead r.read in
+    let least : min (length left) (most - length ahead) ≤ length r.read = elim r.enough [
+      | inl long ↦ omega (arith, long, put)
+      | inr none ↦ let size : length r.rest ≡ 0 = ap length none in omega (arith, size, whole)
+    ] in
+    let same : after ≡ Some (drop (length r.read) left) = r.still ∙ ap Some (rw r.all (sym (drop-append_seam r.read r.rest))) in
+    rw is ((length r.read, least, omega (arith, whole), same), (length r.read, r.near, same))

@@ -5,3 +5,5 @@ pub mod Texts
 pub mod Answers
 pub mod Outside
 pub mod Names
+pub mod Halts
+pub mod Roads

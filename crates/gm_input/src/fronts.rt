@@ -2,13 +2,14 @@
 
 ghost use Rattle.std.specs.Prelude.{◌≡◌, ◌≢◌, ◌≤◌, ◌<◌, ◌+◌, ◌++◌, ℕ, List, [], true, false, IsTrue, IfOk, Err, length, min, take, drop, vec_len};
 ghost use Rattle.gm_base.specs.Streams.{Rises};
-ghost use Rattle.gm_input.specs.Fronts.{Appends, GaveAtMost, IsFront, IsRest, Exceeds, ahead_of, farthest, piece, read_stop};
+ghost use Rattle.gm_input.specs.Fronts.{Appends, GaveAtMost, GaveRest, IsFront, ReachesGraph, ReadsBehind, ahead_of, exhausted, farthest};
+ghost use Rattle.gm_input.specs.Names.{AreFront};
 ghost use Rattle.gm_input.specs.Lines.{AreRead, AreParted, held};
 ghost use Rattle.gm_input.specs.Parts.{program_part, graph_part};
 ghost use Rattle.gm_input.specs.declared.fronts.FrontStop.TheVariants.{NoMemory};
 
 use crate::lines::{LineSoFar, Sought, seek};
-use gm_base::{Failed, ReadStop, Source};
+use gm_base::{Failed, Source};
 use std::alloc::{AllocError, Global};
 
 // How many bytes are asked for at once.
@@ -39,17 +40,6 @@ impl From<AllocError> for FrontStop {
 
     fn from(_error: AllocError) -> FrontStop {
         FrontStop::NoMemory
-    }
-}
-
-impl From<FrontStop> for ReadStop {
-    ghost from_gives = { λ stop read. read ≡ read_stop stop };
-
-    fn from(stop: FrontStop) -> ReadStop {
-        match stop {
-            FrontStop::Failed => ReadStop::Failed,
-            FrontStop::NoMemory => ReadStop::NoMemory,
-        }
     }
 }
 
@@ -127,6 +117,7 @@ fn longer(alloc: Global, mut bytes: Vec<u8>, line: LineSoFar, most: usize) -> Fr
     requires long { most + length (held line) ≤ vec_len bytes }
     ensures program { (rest : List ℕ) → result.program.items ≡ take most (program_part (bytes.items ++ rest)) }
     ensures full { vec_len result.program ≡ most }
+    ensures going_on { result.ended ≡ false }
 {
     bytes.truncate(most);
     Front {
@@ -147,6 +138,8 @@ fn longer(alloc: Global, mut bytes: Vec<u8>, line: LineSoFar, most: usize) -> Fr
 pub fn read_front<S: Source>(alloc: Global, source: &mut S, most: usize) -> Result<Front, FrontStop>
     ensures ok { IfOk result (λ front. IsFront (S.left source.old) (S.left source.new) most front.program.items front.ahead.items front.ended) }
     ensures no_further { IfOk result (λ front. GaveAtMost (S.left source.old) (S.left source.new) (farthest (vec_len front.program))) }
+    ensures as_far { IfOk result (λ _. ReachesGraph most (S.left source.old) (S.left source.new)) }
+    ensures at_end { IfOk result (λ front. IsTrue front.ended → S.left source.new ≡ exhausted (S.left source.old)) }
     ensures failed { result ≡ Err FrontStop.Failed → Rises (S.read_faults source.old) (S.read_faults source.new) }
     ensures quiet { result ≢ Err FrontStop.Failed → S.read_faults source.new ≡ S.read_faults source.old }
 {
@@ -167,59 +160,59 @@ pub fn read_front<S: Source>(alloc: Global, source: &mut S, most: usize) -> Resu
     Ok(longer(alloc, bytes, line, most))
 }
 
-// Reads a source to its end, behind some bytes.
+// Reads a source behind some bytes, to its end or until there are at least `most` bytes in all.
 fn read_behind<S: Source>(
     alloc: Global,
     ahead: Vec<u8>,
     source: &mut S,
-    limit: u64,
-) -> Result<Vec<u8>, ReadStop>
-    requires { vec_len ahead ≤ limit }
-    ensures ok { IfOk result (λ bytes. IsRest (ahead_of ahead.items false (S.left source.old)) bytes.items limit) }
-    ensures too_long { result ≡ Err ReadStop.TooLong → Exceeds (ahead_of ahead.items false (S.left source.old)) limit }
-    ensures no_further { result ≡ Err ReadStop.TooLong → GaveAtMost (S.left source.old) (S.left source.new) (limit + piece) }
-    ensures failed { result ≡ Err ReadStop.Failed → Rises (S.read_faults source.old) (S.read_faults source.new) }
-    ensures quiet { result ≢ Err ReadStop.Failed → S.read_faults source.new ≡ S.read_faults source.old }
+    most: usize,
+) -> Result<Vec<u8>, FrontStop>
+    ensures ok { IfOk result (λ bytes. ReadsBehind most ahead.items (S.left source.old) (S.left source.new) bytes.items) }
+    ensures failed { result ≡ Err FrontStop.Failed → Rises (S.read_faults source.old) (S.read_faults source.new) }
+    ensures quiet { result ≢ Err FrontStop.Failed → S.read_faults source.new ≡ S.read_faults source.old }
 {
     let mut bytes = ahead;
     let mut buffer = zeros(alloc, PIECE)?;
-    'pieces: loop {
+    'pieces: while bytes.len() < most {
         let count = read_piece(source, &mut buffer, &mut bytes)?;
         if count == 0 {
             return Ok(bytes);
         }
-        if bytes.len() as u64 > limit {
-            return Err(ReadStop::TooLong);
-        }
     }
+    Ok(bytes)
 }
 
-/// Reads what an input has behind its program, to its end: what was read ahead, as `read_front` gave it, and then
-/// what the input has left. An input that was seen to end is not read again.
+// The first so many of some bytes.
+fn first_of(mut bytes: Vec<u8>, most: usize) -> Vec<u8>
+    ensures { result.items ≡ take most bytes.items }
+{
+    bytes.truncate(most);
+    bytes
+}
+
+/// Reads what an input has behind its program, up to `most` bytes: what was read ahead, as `read_front` gave it, and
+/// then what the input has left. An input that was seen to end is not read again, and no piece is read after there are
+/// `most` bytes.
 ///
 /// # Errors
 ///
-/// `TooLong` comes exactly where these are more than `limit` bytes; `Failed` only where the input's count of faults
-/// rose.
+/// `Failed` comes only where the input's count of faults rose.
 pub fn read_rest<S: Source>(
     alloc: Global,
     ahead: Vec<u8>,
     ended: bool,
     source: &mut S,
-    limit: u64,
-) -> Result<Vec<u8>, ReadStop>
-    ensures ok { IfOk result (λ bytes. IsRest (ahead_of ahead.items ended (S.left source.old)) bytes.items limit) }
-    ensures too_long { result ≡ Err ReadStop.TooLong → Exceeds (ahead_of ahead.items ended (S.left source.old)) limit }
-    ensures no_further { result ≡ Err ReadStop.TooLong → GaveAtMost (S.left source.old) (S.left source.new) (limit + piece) }
+    most: usize,
+) -> Result<Vec<u8>, FrontStop>
+    ensures ok { IfOk result (λ bytes. AreFront (ahead_of ahead.items ended (S.left source.old)) bytes.items most) }
+    ensures taken { IfOk result (λ _. GaveRest most ahead.items ended (S.left source.old) (S.left source.new)) }
     ensures at_end { IsTrue ended → source.new ≡ source.old }
-    ensures failed { result ≡ Err ReadStop.Failed → Rises (S.read_faults source.old) (S.read_faults source.new) }
-    ensures quiet { result ≢ Err ReadStop.Failed → S.read_faults source.new ≡ S.read_faults source.old }
+    ensures failed { result ≡ Err FrontStop.Failed → Rises (S.read_faults source.old) (S.read_faults source.new) }
+    ensures quiet { result ≢ Err FrontStop.Failed → S.read_faults source.new ≡ S.read_faults source.old }
 {
-    if ahead.len() as u64 > limit {
-        return Err(ReadStop::TooLong);
-    }
     if ended {
-        return Ok(ahead);
+        Ok(first_of(ahead, most))
+    } else {
+        Ok(first_of(read_behind(alloc, ahead, source, most)?, most))
     }
-    read_behind(alloc, ahead, source, limit)
 }

@@ -3,11 +3,12 @@
 ghost use Rattle.std.specs.Prelude.{◌≡◌, ◌≢◌, ◌≤◌, ◌<◌, ◌+◌, ◌↔◌, IfOk, IfErr, IsTrue, Err, length, vec_len};
 ghost use Rattle.gm_base.specs.Files.{AddsPart, Lacks};
 ghost use Rattle.gm_base.specs.Streams.{AppendsFront, Rises};
-ghost use Rattle.gm_input.specs.Names.{AreFront, AreFileFront, IsFrontOf, IsNameStop};
+ghost use Rattle.gm_input.specs.Names.{AreFileFront, IsFrontOf, IsNameStop, TakesFirst, name_stop};
 ghost use Rattle.gm_input.specs.Outside.{outside};
 ghost use Rattle.gm_input.specs.Texts.{standard_input};
 ghost use Rattle.gm_input.specs.declared.names.NameStop.TheVariants.{NoMemory};
 
+use crate::fronts::FrontStop;
 use gm_base::{Failed, FileFault, Files, Source};
 use std::alloc::{AllocError, Global};
 
@@ -30,6 +31,17 @@ impl From<AllocError> for NameStop {
 
     fn from(_error: AllocError) -> NameStop {
         NameStop::NoMemory
+    }
+}
+
+impl From<FrontStop> for NameStop {
+    ghost from_gives = { λ stop name. name ≡ name_stop stop };
+
+    fn from(stop: FrontStop) -> NameStop {
+        match stop {
+            FrontStop::Failed => NameStop::Failed,
+            FrontStop::NoMemory => NameStop::NoMemory,
+        }
     }
 }
 
@@ -73,7 +85,7 @@ fn read_source_front<S: Source>(
     source: &mut S,
     most: usize,
 ) -> Result<Vec<u8>, NameStop>
-    ensures ok { IfOk result (λ bytes. AreFront (S.left source.old) bytes.items most) }
+    ensures ok { IfOk result (λ bytes. TakesFirst (S.left source.old) (S.left source.new) bytes.items most) }
     ensures failed { result ≡ Err NameStop.Failed → Rises (S.read_faults source.old) (S.read_faults source.new) }
     ensures quiet { result ≢ Err NameStop.Failed → S.read_faults source.new ≡ S.read_faults source.old }
     ensures no_file { result ≢ Err NameStop.Absent }
@@ -180,12 +192,10 @@ pub fn read_named<S: Source, F: Files>(
     files: &mut F,
 ) -> Result<Vec<u8>, NameStop>
     requires { 0 < most }
-    ensures read { IfOk result (λ bytes. IsFrontOf most name.now (F.told files.old)
-        (outside (S.left input.old) (S.read_faults input.old) (F.file_faults files.old) (F.absences files.old))
-        (outside (S.left input.new) (S.read_faults input.new) (F.file_faults files.new) (F.absences files.new)) bytes.items) }
-    ensures unread { IfErr result (IsNameStop name.now (F.told files.old)
-        (outside (S.left input.old) (S.read_faults input.old) (F.file_faults files.old) (F.absences files.old))
-        (outside (S.left input.new) (S.read_faults input.new) (F.file_faults files.new) (F.absences files.new))) }
+    ensures read { IfOk result (λ bytes. IsFrontOf most name.now
+        (outside S.Source F.Files input.old files.old) (outside S.Source F.Files input.new files.new) bytes.items) }
+    ensures unread { IfErr result (IsNameStop name.now
+        (outside S.Source F.Files input.old files.old) (outside S.Source F.Files input.new files.new)) }
     ensures kept { F.told files.new ≡ F.told files.old }
 {
     if is_input(name) {

@@ -1,5 +1,5 @@
 -- What the run of a checked program over a graph text answers: a text and a status.
-use Rattle.std.specs.Prelude.{ℕ, List, Option}
+use Rattle.std.specs.Prelude.{ℕ, List}
 use Rattle.gm_base.specs.declared.statuses.Status.{Status}
 use Rattle.gm_value.specs.declared.values.Value.{Value}
 use Rattle.gm_graph.specs.Graphs.{NumberedGraph}
@@ -10,6 +10,7 @@ use Rattle.gm_ast.specs.Program.{Program}
 use Rattle.gm_source.specs.Outcomes.{mean}
 use Rattle.gm_input.specs.Texts.{Says}
 use Rattle.gm_input.specs.Answers as input
+use Rattle.gm_input.specs.Answers.{edge_list}
 use Rattle.gm_run.specs.Programs.{shape_of, inputs_of, scalar_outputs, property_outputs}
 
 -- the listing of an outcome of a program over a graph
@@ -20,20 +21,6 @@ outcome_text p g outcome = listing (scalar_outputs p) (property_outputs p) g.num
 abbrev pub Ran : Program → ℕ → NumberedGraph → List Value → List ℕ → Status → Type 0
 Ran p turns g args text status = Says text status (outcome_text p g (mean p g args turns)) (status_of (mean p g args turns))
 
--- the answer of a program over a graph, with the words for its arguments and a bound on turns
-abbrev pub IsGraphAnswer : Program → List (List ℕ) → ℕ → NumberedGraph → List ℕ → Status → Type 0
-IsGraphAnswer p words turns g text status = input.IsGraphAnswer (inputs_of p) words (Ran p turns) g text status
-
--- its answer over a graph text, over one that a source has left, over one that was read ahead or is left, and over one
--- in a file
+-- the answer of a program over a graph text, with the words for its arguments and a bound on turns
 abbrev pub IsTextAnswer : Program → List (List ℕ) → ℕ → List ℕ → List ℕ → Status → Type 0
-IsTextAnswer p words turns graph text status = input.IsTextAnswer (shape_of p) (inputs_of p) words (Ran p turns) graph text status
-
-abbrev pub IsSourceAnswer : Program → List (List ℕ) → ℕ → Option (List ℕ) → Option (List ℕ) → List ℕ → Status → Type 0
-IsSourceAnswer p words turns left after text status = input.IsSourceAnswer (shape_of p) (inputs_of p) words (Ran p turns) left after text status
-
-abbrev pub IsRestAnswer : Program → List (List ℕ) → ℕ → Option (List ℕ) → List ℕ → Status → Type 0
-IsRestAnswer p words turns told text status = input.IsRestAnswer (shape_of p) (inputs_of p) words (Ran p turns) told text status
-
-abbrev pub IsFileAnswer : Program → List (List ℕ) → ℕ → Option (List (List ℕ × List ℕ)) → List ℕ → List ℕ → Status → Type 0
-IsFileAnswer p words turns told name text status = input.IsFileAnswer (shape_of p) (inputs_of p) words (Ran p turns) told name text status
+IsTextAnswer p words turns graph text status = input.IsTextAnswer edge_list (shape_of p) (inputs_of p) words (Ran p turns) graph text status

@@ -3,8 +3,9 @@
 ghost use Rattle.std.specs.Prelude.{◌≡◌, IfOk};
 ghost use Rattle.gm_words.specs.Jobs.{AllAssign};
 ghost use Rattle.gm_ast.specs.Tree.{program_of};
+ghost use Rattle.gm_input.specs.Halts.{IfSaid};
 ghost use Rattle.gm_input.specs.Texts.{Says};
-ghost use Rattle.gm_run.specs.Answers.{IsGraphAnswer, IsTextAnswer, Ran, outcome_text};
+ghost use Rattle.gm_run.specs.Answers.{IsTextAnswer, Ran, outcome_text};
 ghost use Rattle.gm_listing.specs.Listing.{status_of as status_of_lem};
 
 use crate::programs::{inputs_of, names_of, output_declarations, shape_of};
@@ -12,12 +13,11 @@ use gm_ast::forms::Work;
 use gm_ast::tree::{Sort, Tree};
 use gm_base::{NoMemory, Text};
 use gm_graph::{Graph, Outcome};
-use gm_input::{Answer, GRAPH_LIMITS, bad_argument, bad_graph};
+use gm_input::{Answer, Halt, arguments, graph_of};
 use gm_listing::{Ending, Outputs, listing, status_of};
-use gm_loader::parse_graph;
 use gm_meaning::evaluate;
 use gm_value::Value;
-use gm_words::bind;
+use gm_words::Options;
 use std::alloc::Global;
 
 // The answer for the outcome of a program over a graph.
@@ -51,26 +51,8 @@ fn run_with(
     listed(alloc, program.tree(), graph, &outcome)
 }
 
-/// The answer of a program over a graph.
-pub fn run_graph(
-    alloc: Global,
-    program: &Work,
-    words: &[Text],
-    turns: u64,
-    graph: &Graph,
-) -> Result<Answer, NoMemory>
-    requires { AllAssign words.now }
-    ensures { IfOk result (λ a. IsGraphAnswer (program_of program.now) words.now turns graph.now a.text.items a.status) }
-{
-    let inputs = inputs_of(alloc, program.tree())?;
-    match bind(alloc, &inputs, words, graph) {
-        Ok(args) => run_with(alloc, program, graph, &args, turns),
-        Err(fault) => bad_argument(alloc, &fault),
-    }
-}
-
 /// The answer of a checked program over a graph text. `words` are the words NAME=VALUE for its scalar inputs, and
-/// `turns` is how many turns may begin.
+/// `options` say how many turns may begin.
 ///
 /// The text stands for a graph with a column for each property among the inputs, or the answer is
 /// `graph KIND at line L` or `graph TooLong`; the words give each scalar input a value, or it is `argument KIND NAME`,
@@ -79,15 +61,15 @@ pub fn run_text(
     alloc: Global,
     program: &Work,
     words: &[Text],
-    turns: u64,
-    text: &[u8],
-) -> Result<Answer, NoMemory>
+    options: &Options,
+    text: Vec<u8>,
+) -> Result<Answer, Halt>
     requires { AllAssign words.now }
-    ensures { IfOk result (λ a. IsTextAnswer (program_of program.now) words.now turns text.now a.text.items a.status) }
+    ensures { IfSaid result (λ a. IsTextAnswer (program_of program.now) words.now options.now.turns text.items a.text.items a.status) }
 {
     let shape = shape_of(alloc, program.tree())?;
-    match parse_graph(alloc, text, &shape, &GRAPH_LIMITS) {
-        Ok(graph) => run_graph(alloc, program, words, turns, &graph),
-        Err(fault) => bad_graph(alloc, fault),
-    }
+    let graph = graph_of(alloc, text, &shape)?;
+    let inputs = inputs_of(alloc, program.tree())?;
+    let args = arguments(alloc, &inputs, words, &graph)?;
+    Ok(run_with(alloc, program, &graph, &args, options.turns)?)
 }

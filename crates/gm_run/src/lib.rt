@@ -4,8 +4,6 @@
 mod answers;
 mod laws;
 mod programs;
-mod runs;
 
 pub use answers::run_text;
 pub use laws::rows_are_worked;
-pub use runs::{RunStop, run_file, run_over, run_rest};

@@ -29,6 +29,8 @@ mod loops;
 #[cfg(test)]
 mod phases;
 #[cfg(test)]
+mod readings;
+#[cfg(test)]
 mod reductions;
 #[cfg(test)]
 mod searches;

@@ -10,4 +10,4 @@ returns-in-Ok c = IfOk-weaker c.fixed_answer.result _ _ (λ a says. accepted c.i
 pub returns-in-Err-Refused : goal.returns-in-Err-Refused
 returns-in-Err-Refused c =
     let stop : IsVerdictOf c.args.text.now (Refused c.in-Err-Refused.refusal) = rw c.in-Err-Refused.field-0-is at c.in-Err-Refused.ensures.refused in
-    IfOk-weaker c.refused.result _ _ (λ a says. refused c.in-Err-Refused.refusal stop says) c.refused.ensures
+    IfOk-weaker c.refused.result _ _ (λ a says. refused (record { refusal = c.in-Err-Refused.refusal; breaks = stop; says = says })) c.refused.ensures

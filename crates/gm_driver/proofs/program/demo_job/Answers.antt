@@ -5,4 +5,4 @@ use Rattle.gm_driver.proofs.program.demo_job.Goals as goal
 
 pub returns : goal.returns
 returns c = IfOk-weaker c.demo.result _ _
-    (λ a d. λ ways held told o. shown c.args.nodes c.args.options refl (record { left = refl; reads = refl }) (record { files = refl; absences = refl }) d) c.demo.ensures
+    (λ a d. λ ways held o. shown c.args.nodes c.args.options refl (record { left = refl; quiet = refl }) (record { map = refl; quiet = refl; found = refl }) d) c.demo.ensures

@@ -9,4 +9,4 @@ exec-requires g c = rw c.as_slice-words.ensures c.requires
 pub returns : goal.returns
 returns g c =
     IfOk-weaker c.exec.result _ _
-    (λ a h. executed c.args.image.now c.args.graph.now c.args.args.now c.args.options _ refl (rw (c.as_str-text.ensures, c.as_str-over.ensures, c.as_slice-words.ensures) at h)) c.exec.ensures.reply
+    (λ a h. executed c.args.image.now c.args.graph.now c.args.args.now c.args.options.now _ refl (rw (c.as_str-text.ensures, c.as_str-over.ensures, c.as_slice-words.ensures) at h)) c.exec.ensures.reply

@@ -25,12 +25,12 @@ returns-in-Check g c = rw c.in-Check.is (IfOk-weaker c.check_job.result _ _ (λ 
 
 pub returns-in-Demo : goal.returns-in-Demo
 returns-in-Demo g c = rw c.in-Demo.is (IfOk-weaker c.demo_job.result _ _
-    (λ a h. h _ _ (g.F.Files.told c.args.files.now) (outside (g.S.Source.left c.args.input.now) (g.S.Source.read_faults c.args.input.now) (g.F.Files.file_faults c.args.files.now) (g.F.Files.absences c.args.files.now)))
+    (λ a h. h _ _ (outside g.S.Source g.F.Files c.args.input.now c.args.files.now))
     c.demo_job.ensures)
 
 pub returns-in-Compile : goal.returns-in-Compile
 returns-in-Compile g c = IfOk-weaker c.unbuilt.result _ _
-    (λ a h. h _ _ (g.F.Files.told c.args.files.now) (outside (g.S.Source.left c.args.input.now) (g.S.Source.read_faults c.args.input.now) (g.F.Files.file_faults c.args.files.now) (g.F.Files.absences c.args.files.now)))
+    (λ a h. h _ _ (outside g.S.Source g.F.Files c.args.input.now c.args.files.now))
     c.unbuilt.ensures
 
 pub returns-in-Exec : goal.returns-in-Exec

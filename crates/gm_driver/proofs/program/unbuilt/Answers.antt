@@ -5,4 +5,4 @@ use Rattle.gm_driver.proofs.program.unbuilt.Goals as goal
 
 pub returns : goal.returns
 returns c = IfOk-weaker c.usage.result _ _
-    (λ a says. λ ways held told o. usage c.requires (record { left = refl; reads = refl }) (record { files = refl; absences = refl }) says) c.usage.ensures
+    (λ a says. λ ways held o. usage c.requires (record { left = refl; quiet = refl }) (record { map = refl; quiet = refl; found = refl }) says) c.usage.ensures

@@ -5,7 +5,7 @@ use Rattle.gm_image.specs.Soundness.{first_broken}
 use Rattle.gm_image.specs.Views.{program}
 use Rattle.gm_image_text.specs.ImageText.{IsTextOf}
 use Rattle.gm_exec.specs.Flaws.{IsImageStop, image_stop, verify_stop}
-use Rattle.gm_exec.proofs.Halting.{passed-on}
+use Rattle.gm_input.proofs.Naming.{passed-on}
 use Rattle.gm_exec.proofs.Judging.{few_lines, short_text, unread_image, unsound_image}
 use Rattle.gm_exec.proofs.images.sound_image.Goals as goal
 

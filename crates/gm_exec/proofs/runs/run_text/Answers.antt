@@ -1,28 +1,51 @@
-use Rattle.std.proofs.Common.{◌∙◌, length, refl, ap, sym}
+use Rattle.std.proofs.Common.{◌≡◌, ◌∙◌, length, refl, ap, sym}
+use Rattle.std.specs.Prelude.{Ok}
 use Rattle.std.proofs.lemmas.Result.{IfOk-weaker}
-use Rattle.gm_loader.specs.GraphText.{StandsFor}
+use Rattle.gm_words.specs.Arguments.{values_bound}
 use Rattle.gm_image.specs.Views.{program}
-use Rattle.gm_input.specs.Answers.{bad_graph, good_graph}
-use Rattle.gm_input.specs.Texts.{graph_limits}
-use Rattle.gm_exec.specs.Programs.{shape_of}
-use Rattle.gm_exec.proofs.Answering.{not_memory}
+use Rattle.gm_machine.specs.Machine.{machine}
+use Rattle.gm_input.specs.Answers.{IsGraphOf, bad_argument, bad_graph, edge_list, good_graph, ran}
+use Rattle.gm_input.proofs.Answering.{said_on, weaker}
+use Rattle.gm_exec.specs.Answers.{IsTextAnswer}
+use Rattle.gm_exec.specs.Runs.{IsUntold}
+use Rattle.gm_exec.specs.Programs.{inputs_of, shape_of}
+use Rattle.gm_exec.proofs.Telling.{ran-told}
 use Rattle.gm_exec.proofs.runs.run_text.Goals as goal
 
-pub run_graph-requires-clause-columns : goal.run_graph-requires-clause-columns
-run_graph-requires-clause-columns g c =
-    sym (c.in-Ok.ensures.columns.of_edges ∙ ap (λ s. length s.edges) c.in_ok-shape.ensures ∙ ap (λ i. length (shape_of (program i)).edges) c.image.ensures.same)
+pub returns-in_err-graph-clause-answer : goal.returns-in_err-graph-clause-answer
+returns-in_err-graph-clause-answer g c =
+    said_on (λ a. IsTextAnswer (program c.args.image.now) c.args.words.now c.args.options.now _ c.args.text.items a.text.items a.status)
+    c.from_residual-in_err-graph.result c.in_err-graph.field-0.0 c.from_residual-in_err-graph.ensures.1
+    (weaker _ _ c.in_err-graph.field-0.0 (λ a said. bad_graph (rw (c.in_ok-shape.ensures, c.image.ensures.same) at said)) c.in_err-graph.ensures.halt)
 
-pub returns-in-Ok-clause-answer : goal.returns-in-Ok-clause-answer
-returns-in-Ok-clause-answer g c =
-    let stands : StandsFor (shape_of (program c.args.image.now)) graph_limits c.args.text.now c.in-Ok.graph =
-    rw (c.in_ok-shape.ensures, c.image.ensures.same) at c.in-Ok.ensures.graph in
-    IfOk-weaker c.run_graph.result _ _ (λ a h. good_graph c.in-Ok.graph stands h) c.run_graph.ensures.answer
+pub returns-in_err-graph-clause-untold : goal.returns-in_err-graph-clause-untold
+returns-in_err-graph-clause-untold g c =
+    said_on (λ a. IsUntold a.status _ _)
+    c.from_residual-in_err-graph.result c.in_err-graph.field-0.0 c.from_residual-in_err-graph.ensures.1
+    (weaker _ _ c.in_err-graph.field-0.0 (λ a said. λ _. refl) c.in_err-graph.ensures.halt)
+
+pub returns-in_err-args-clause-answer : goal.returns-in_err-args-clause-answer
+returns-in_err-args-clause-answer g c =
+    let graph : IsGraphOf edge_list (shape_of (program c.args.image.now)) c.args.text.items c.in_ok-graph.graph = rw (c.in_ok-shape.ensures, c.image.ensures.same) at c.in_ok-graph.ensures.graph in
+    said_on (λ a. IsTextAnswer (program c.args.image.now) c.args.words.now c.args.options.now _ c.args.text.items a.text.items a.status)
+    c.from_residual-in_err-args.result c.in_err-args.field-0.0 c.from_residual-in_err-args.ensures.1
+    (weaker _ _ c.in_err-args.field-0.0
+    (λ a said. good_graph c.in_ok-graph.graph graph (bad_argument (rw (c.deref.ensures.value, c.in_ok-inputs.ensures, c.image-2.ensures.same) at said)))
+    c.in_err-args.ensures.halt)
+
+pub returns-in_err-args-clause-untold : goal.returns-in_err-args-clause-untold
+returns-in_err-args-clause-untold g c =
+    said_on (λ a. IsUntold a.status _ _)
+    c.from_residual-in_err-args.result c.in_err-args.field-0.0 c.from_residual-in_err-args.ensures.1
+    (weaker _ _ c.in_err-args.field-0.0 (λ a said. λ _. refl) c.in_err-args.ensures.halt)
+
+pub run_with-requires : goal.run_with-requires
+run_with-requires g c =
+    sym (c.in_ok-graph.ensures.columns.of_edges ∙ ap (λ s. length s.edges) c.in_ok-shape.ensures ∙ ap (λ i. length (shape_of (program i)).edges) c.image.ensures.same)
 
 pub returns-clause-answer : goal.returns-clause-answer
 returns-clause-answer g c =
-    IfOk-weaker c.bad_graph.result _ _
-    (λ a h. bad_graph c.in-Err.fault (rw (c.in_ok-shape.ensures, c.image.ensures.same) at (c.in-Err.ensures.fault (not_memory c.in-Err.fault h.0))) h.1)
-    c.bad_graph.ensures
-
-pub returns-clause-untold : goal.returns-clause-untold
-returns-clause-untold g c = IfOk-weaker c.bad_graph.result _ _ (λ a h. λ _. refl) c.bad_graph.ensures
+    let graph : IsGraphOf edge_list (shape_of (program c.args.image.now)) c.args.text.items c.in_ok-graph.graph = rw (c.in_ok-shape.ensures, c.image.ensures.same) at c.in_ok-graph.ensures.graph in
+    let values : values_bound (inputs_of (program c.args.image.now)) c.args.words.now c.in_ok-graph.graph.numbers ≡ Ok c.in_ok-args.args.items =
+    rw (c.deref.ensures.value, c.in_ok-inputs.ensures, c.image-2.ensures.same) at c.in_ok-args.ensures.values in
+    good_graph c.in_ok-graph.graph graph (ran c.in_ok-args.args.items values (rw c.deref-2.ensures.value at c.in_ok-run_with.ensures.ran))

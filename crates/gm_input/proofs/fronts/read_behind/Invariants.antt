@@ -1,4 +1,4 @@
-use Rattle.std.proofs.Common.{◌+◌, ◌-◌, vec_len}
+use Rattle.std.proofs.Common.{◌-◌, vec_len}
 use Rattle.gm_input.proofs.Reading.{IsReadingBehind}
 use Rattle.gm_input.proofs.fronts.read_behind.Given as goal
 
@@ -6,7 +6,7 @@ abbrev pub invariant-pieces : goal.invariant-pieces
 invariant-pieces g l = IsReadingBehind
     (g.S.Source.left l.initial.source) (g.S.Source.left l.source)
     (g.S.Source.read_faults l.initial.source) (g.S.Source.read_faults l.source)
-    l.fn.ahead.items l.bytes.items l.fn.limit (vec_len l.buffer)
+    l.fn.ahead.items l.bytes.items l.fn.most (vec_len l.buffer)
 
 abbrev pub decreases-pieces : goal.decreases-pieces
-decreases-pieces g l = l.fn.limit + 1 - vec_len l.bytes
+decreases-pieces g l = l.fn.most - vec_len l.bytes

@@ -2,7 +2,7 @@ use Rattle.std.proofs.Common.{◌≡◌, ◌≤◌, ◌<◌, ◌+◌, ◌-◌, �
 use Rattle.gm_input.specs.Fronts.{Appends, farthest}
 use Rattle.gm_input.specs.Lines.{AreParted, held}
 use Rattle.gm_input.proofs.Searching.{held_few, nothing_read}
-use Rattle.gm_input.proofs.Reading.{so_far_none, so_far_more, longer_by, held_read, gave, front_ended, front_parted, front_long}
+use Rattle.gm_input.proofs.Reading.{so_far_none, so_far_more, longer_by, held_read, gave, front_ended, front_parted, front_long, far_ended, far_parted, far_long, at_end}
 use Rattle.gm_input.proofs.fronts.read_front.Goals as goal
 
 pub pieces-init : goal.pieces-init
@@ -86,3 +86,30 @@ pub returns-clause-no_further : goal.returns-clause-no_further
 returns-clause-no_further g c =
     gave (g.S.Source.left c.args.source.now) (g.S.Source.left c.pieces.source) c.pieces.bytes.items (farthest (vec_len c.longer.result.program))
     c.pieces.invariant.so_far (omega (arith, c.pieces.invariant.size, c.longer.ensures.full))
+
+pub returns-then-count-eq0-clause-as_far : goal.returns-then-count-eq0-clause-as_far
+returns-then-count-eq0-clause-as_far g c =
+    let none : c.in_ok-count.count ≡ 0 = search rules in
+    let part : Appends (g.S.Source.left c.pieces.source) (g.S.Source.left c.read_piece.new.source) c.pieces.bytes.items c.read_piece.new.bytes.items c.in_ok-count.count = c.in_ok-count.ensures.ok in
+    far_ended (g.S.Source.left c.args.source.now) (g.S.Source.left c.pieces.source) (g.S.Source.left c.read_piece.new.source) c.pieces.bytes.items c.read_piece.new.bytes.items c.args.most
+    c.pieces.invariant.so_far (rw none at part)
+
+pub returns-then-count-eq0-clause-at_end : goal.returns-then-count-eq0-clause-at_end
+returns-then-count-eq0-clause-at_end g c =
+    let none : c.in_ok-count.count ≡ 0 = search rules in
+    let part : Appends (g.S.Source.left c.pieces.source) (g.S.Source.left c.read_piece.new.source) c.pieces.bytes.items c.read_piece.new.bytes.items c.in_ok-count.count = c.in_ok-count.ensures.ok in
+    λ ended. at_end (g.S.Source.left c.args.source.now) (g.S.Source.left c.pieces.source) (g.S.Source.left c.read_piece.new.source) c.pieces.bytes.items c.read_piece.new.bytes.items
+    c.pieces.invariant.so_far (rw none at part)
+
+pub returns-in-Mark-clause-as_far : goal.returns-in-Mark-clause-as_far
+returns-in-Mark-clause-as_far g c =
+    let part : Appends (g.S.Source.left c.pieces.source) (g.S.Source.left c.read_piece.new.source) c.pieces.bytes.items c.read_piece.new.bytes.items c.in_ok-count.count = c.in_ok-count.ensures.ok in
+    let parts : AreParted c.read_piece.new.bytes.items c.in-Mark.start c.in-Mark.end × (c.len-before.result < c.in-Mark.end) = rw c.deref.ensures.value at c.in-Mark.ensures in
+    far_parted (g.S.Source.left c.args.source.now) (g.S.Source.left c.read_piece.new.source) c.read_piece.new.bytes.items c.in-Mark.start c.in-Mark.end c.args.most
+    (so_far_more (g.S.Source.left c.args.source.now) (g.S.Source.left c.pieces.source) (g.S.Source.left c.read_piece.new.source) c.pieces.bytes.items c.read_piece.new.bytes.items c.in_ok-count.count c.pieces.invariant.so_far part)
+    parts.0
+
+pub returns-clause-as_far : goal.returns-clause-as_far
+returns-clause-as_far g c =
+    far_long (g.S.Source.left c.args.source.now) (g.S.Source.left c.pieces.source) c.pieces.bytes.items c.args.most c.pieces.invariant.so_far
+    (omega (arith, c.len.ensures, c.held.ensures))
