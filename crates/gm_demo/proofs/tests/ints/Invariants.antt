@@ -1,6 +1,0 @@
-use Rattle.std.proofs.Common.{◌≡◌}
-use Rattle.gm_value.specs.declared.values.VType.TheVariants.{I32}
-use Rattle.gm_demo.proofs.tests.ints.Given as goal
-
-abbrev pub invariant-loop-number : goal.invariant-loop-number
-invariant-loop-number l = l.column.vtype ≡ I32

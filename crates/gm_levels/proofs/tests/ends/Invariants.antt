@@ -1,5 +1,0 @@
-use Rattle.std.proofs.Common.{◌≡◌, length}
-use Rattle.gm_levels.proofs.tests.ends.Given as goal
-
-abbrev pub invariant-loop-edge : goal.invariant-loop-edge
-invariant-loop-edge l = (length l.from.items ≡ l.edge-index) × (length l.to.items ≡ l.edge-index)
