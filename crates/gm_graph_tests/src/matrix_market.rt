@@ -583,19 +583,13 @@ fn edge_lists_give_the_same(rt: HostRuntime) -> Result<(), Fail> {
     let edges = "# a graph\n0 1 4\n0 2 1\n2 1 -2\n2 1 -2\n1 1 0\nv 3 0\n";
     let matrix =
         "%%MatrixMarket matrix coordinate integer general\n% a graph\n4 3 5\n1 2 4\n1 3 1\n3 2 -2\n3 2 -2\n2 2 0\n";
-    let listed = edge_outcome(
-        alloc,
-        parse_graph(alloc, edges.as_bytes(), &shape, &AMPLE),
-        1,
-        1,
-    )?;
-    let matrixed = outcome(
-        alloc,
-        parse_mtx(alloc, matrix.as_bytes(), &shape, &AMPLE),
-        1,
-        1,
-        1,
-    )?;
+    let node_columns = shape.nodes.len();
+    let edge_columns = shape.edges.len();
+    assert!(rt; node_columns < 100 && edge_columns < 100);
+    let listed = parse_graph(alloc, edges.as_bytes(), &shape, &AMPLE);
+    let listed = edge_outcome(alloc, listed, node_columns as u32, edge_columns as u32)?;
+    let matrixed = parse_mtx(alloc, matrix.as_bytes(), &shape, &AMPLE);
+    let matrixed = outcome(alloc, matrixed, 1, node_columns as u32, edge_columns as u32)?;
     assert_eq!(rt;
         listed.as_str(),
         "0:0 0>1/4 1>2/1;1:0 4>1/0;2:0 2>1/-2 3>1/-2;3:0;"
@@ -609,10 +603,14 @@ fn failed_reads_are_told(rt: HostRuntime) -> Result<(), Fail> {
     let alloc = rt.alloc();
     let shape = shape_of(alloc, ("", ""))?;
     let text = "%%MatrixMarket matrix coordinate pattern general\n2 2 1\n1 2\n";
+    let node_columns = shape.nodes.len();
+    let edge_columns = shape.edges.len();
+    assert!(rt; node_columns < 100 && edge_columns < 100);
     for call in [1, 2, 20] {
         let bytes = Vec::from_slice(alloc, text.as_bytes())?;
         let mut source = MemSource::new(bytes, 2, vec![in alloc; call]?);
-        let failed = outcome(alloc, load_mtx(alloc, &mut source, &shape, &AMPLE), 0, 0, 0)?;
+        let failed = load_mtx(alloc, &mut source, &shape, &AMPLE);
+        let failed = outcome(alloc, failed, 0, node_columns as u32, edge_columns as u32)?;
         assert_eq!(rt; failed.as_str(), "ReadFault", "call {call}");
     }
     Ok(())
