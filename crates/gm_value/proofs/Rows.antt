@@ -8,7 +8,7 @@ use Rattle.gm_value.specs.declared.operations.Op2.TheVariants.{Add, Sub, Mul, Di
 use Rattle.gm_value.specs.declared.reductions.Reduce.TheVariants.{Sum, Product, Min, Max, And, Or}
 use Rattle.gm_value.specs.Operations.{result1, result2}
 use Rattle.gm_value.specs.Reductions.{close, reduces}
-use Rattle.gm_value.specs.Tuples.{replaces, best}
+use Rattle.gm_value.specs.Tuples.{replaces, best, close_slots}
 use Rattle.gm_value.specs.Taking.{taken}
 
 -- ---- operations
@@ -145,6 +145,19 @@ nil_is_below_all_nodes = refl
 
 an_equal_tuple_stays_out : replaces Min (pos 4 ∷ pos 0 ∷ []) (pos 4 ∷ pos 0 ∷ []) ≡ false
 an_equal_tuple_stays_out = refl
+
+-- ---- slots: a length of 32 bits and the node that it comes from
+least_with_its_node : close_slots Min (I32 (pos 9) ∷ (At None ∷ [])) ((I32 (pos 4) ∷ (At (Some 3) ∷ [])) ∷ (I32 (pos 4) ∷ (At (Some 1) ∷ [])) ∷ []) ≡ Some (I32 (pos 4) ∷ (At (Some 1) ∷ []))
+least_with_its_node = refl
+
+what_is_held_stays : close_slots Min (I32 (pos 4) ∷ (At (Some 0) ∷ [])) ((I32 (pos 4) ∷ (At (Some 3) ∷ [])) ∷ []) ≡ Some (I32 (pos 4) ∷ (At (Some 0) ∷ []))
+what_is_held_stays = refl
+
+one_slot_sums : close_slots Sum (I32 (pos 4) ∷ []) ((I32 (pos 4) ∷ []) ∷ (I32 (pos 2) ∷ []) ∷ []) ≡ Some (I32 (pos 10) ∷ [])
+one_slot_sums = refl
+
+one_slot_overflows : close_slots Sum (I32 (pos 2147483647) ∷ []) ((I32 (pos 1) ∷ []) ∷ []) ≡ None
+one_slot_overflows = refl
 
 -- ---- taking: a contribution's rank is its tens and its weight its ones, and the held weight may not pass 12
 

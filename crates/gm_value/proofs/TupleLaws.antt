@@ -1,13 +1,20 @@
 -- Which tuple an argument reduction keeps does not depend on the order.
-use Rattle.std.proofs.Common.{◌≡◌, ◌≤◌, Bool, true, false, not, ◌&&◌, ◌||◌, cond, ℤ, List, [], ◌∷◌, refl, sym, ap, ◌∙◌, arith}
+use Rattle.std.proofs.Common.{◌≡◌, ◌≢◌, ◌≤◌, IsTrue, length, Bool, true, false, not, ◌&&◌, ◌||◌, cond, ℤ, Option, Some, None, Result, Ok, Err, IfOk, List, [], ◌∷◌, map, refl, sym, ap, subst, ◌∙◌, arith}
 use Rattle.std.specs.Prelude.{int_lt}
 use Rattle.std.proofs.lemmas.Int.{ints}
 use Rattle.gm_value.specs.declared.reductions.Reduce.{Reduce}
 use Rattle.gm_value.specs.declared.reductions.Reduce.TheVariants.{Sum, Product, Min, Max, And, Or}
-use Rattle.gm_value.specs.Reductions.{combined}
-use Rattle.gm_value.specs.Tuples.{is_before, is_above, replaces, kept, best}
+use Rattle.gm_value.specs.declared.values.VType.{VType}
+use Rattle.gm_value.specs.declared.values.Value.{Value}
+use Rattle.gm_value.specs.declared.faults.FaultKind.{FaultKind}
+use Rattle.gm_value.specs.Numbers.{type_of, number_of, fits, checked, IsOf}
+use Rattle.gm_value.specs.Reductions.{combined, total, close}
+use Rattle.gm_value.specs.Tuples.{is_before, is_above, replaces, kept, best, with_value, values_at, first_or, close_slots}
 use Rattle.gm_value.specs.Bag.{SameBag}
-use Rattle.gm_value.proofs.BagLaws.{SameBag-folded}
+use Rattle.gm_value.specs.Laws.{AreOf, EachAreOf}
+use Rattle.gm_value.proofs.BagLaws.{SameBag-folded, SameBag-map}
+use Rattle.gm_value.proofs.MonoidLaws.{close-permuted}
+use Rattle.gm_value.proofs.NumberLaws.{checked-typed}
 
 lt-asym : (x y : ℤ) → int_lt x y ≡ true → int_lt y x ≡ false
 lt-asym x y l = by (int_lt y x) refl
@@ -57,6 +64,21 @@ module _ {A : Type 0} (less : A → A → Bool) (o : Orders less) where
   by x y b true false l m = passes x y b (less x y) l m refl ∙ ap (λ t. cond t y b) (sym l)
   by x y b false true l m = ap (λ t. cond t x b) m ∙ sym (passes y x b (less y x) m l refl)
   by x y b false false l m = ap (λ t. cond t x b) m ∙ ap (λ t. cond t y b) (sym l)
+
+  -- what is not less than two others is not less than the lesser of them
+  stays : (x y b : A) (r s : Bool) → less x b ≡ false → less y x ≡ false → less y b ≡ r → less x y ≡ s → cond r y b ≡ b
+  stays x y b true true k l m n = never x b (o.trans x y b n m) k
+  stays x y b true false k l m n = never x b (rw (o.total x y n l) m) k
+  stays x y b false s k l m n = refl
+
+  parts-by : (x y b : A) (p q : Bool) → less x b ≡ p → less y x ≡ q → lesser less (cond p x b) y ≡ lesser less b (cond q y x)
+  parts-by x y b true true l m = ap (λ t. cond t y x) m ∙ ap (λ t. cond t y b) (sym (o.trans y x b m l))
+  parts-by x y b true false l m = ap (λ t. cond t y x) m ∙ ap (λ t. cond t x b) (sym l)
+  parts-by x y b false true l m = refl
+  parts-by x y b false false l m = stays x y b (less y b) (less x y) l m refl refl ∙ ap (λ t. cond t x b) (sym l)
+
+  lesser-parts : (b x y : A) → lesser less (lesser less b x) y ≡ lesser less b (lesser less x y)
+  lesser-parts b x y = parts-by x y b (less x b) (less y x) refl refl
 
   lesser-exchange : (x y b : A) → lesser less (lesser less b y) x ≡ lesser less (lesser less b x) y
   lesser-exchange x y b = by x y b (less y b) (less x b) refl refl
@@ -149,6 +171,98 @@ best-permuted Product held same = best-by Product is_before before-orders (λ he
 best-permuted Min held same = best-by Min is_before before-orders (λ held new. refl) held same
 best-permuted And held same = best-by And is_before before-orders (λ held new. refl) held same
 best-permuted Or held same = best-by Or is_before before-orders (λ held new. refl) held same
+
+-- with three tuples it does not matter which two are compared first
+pub kept-parts : (r : Reduce) (held some other : List ℤ) → kept r (kept r held some) other ≡ kept r held (kept r some other)
+kept-parts Max = lesser-parts is_above above-orders
+kept-parts Sum = lesser-parts is_before before-orders
+kept-parts Product = lesser-parts is_before before-orders
+kept-parts Min = lesser-parts is_before before-orders
+kept-parts And = lesser-parts is_before before-orders
+kept-parts Or = lesser-parts is_before before-orders
+
+-- what slots hold does not depend on the order of what is contributed
+pub slots-permuted : (r : Reduce) (held : List Value) (bag other : List (List Value)) → SameBag bag other → close_slots r held bag ≡ close_slots r held other
+slots-permuted r [] bag other same = refl
+slots-permuted r (held ∷ []) bag other same =
+    ap (λ closed. with_value closed (Some [])) (close-permuted r held (SameBag-map (first_or held) same))
+slots-permuted r (held ∷ (next ∷ more)) bag other same =
+    ap (values_at (held ∷ (next ∷ more))) (best-permuted r (map number_of (held ∷ (next ∷ more))) (SameBag-map (map number_of) same))
+
+-- one slot is closed as a value is
+firsts : (held : Value) (bag : List Value) → map (first_or held) (map (λ v. v ∷ []) bag) ≡ bag
+firsts held [] = refl
+firsts held (v ∷ bag) = ap (λ rest. v ∷ rest) (firsts held bag)
+
+pub one-slot : (r : Reduce) (held : Value) (bag : List Value) → close_slots r (held ∷ []) (map (λ v. v ∷ []) bag) ≡ with_value (close r held bag) (Some [])
+one-slot r held bag = ap (λ values. with_value (close r held values) (Some [])) (firsts held bag)
+
+-- slots keep their types
+abbrev IfTyped : Option (List Value) → List VType → Type 0
+IfTyped None ts = Unit {0}
+IfTyped (Some vs) ts = map type_of vs ≡ ts
+
+with-typed : (t : VType) (ts : List VType) (e : Result Value FaultKind) (o : Option (List Value)) → IfOk e (IsOf t) → IfTyped o ts → IfTyped (with_value e o) (t ∷ ts)
+with-typed t ts (Ok v) (Some vs) one rest = ap (λ u. u ∷ map type_of vs) one.0 ∙ ap (λ us. t ∷ us) rest
+with-typed t ts (Ok v) None one rest = tt
+with-typed t ts (Err kind) o one rest = tt
+
+values-typed : (held : List Value) (tuple : List ℤ) → IfTyped (values_at held tuple) (map type_of held)
+values-typed [] tuple = refl
+values-typed (v ∷ held) [] = refl
+values-typed (v ∷ held) (n ∷ tuple) =
+    with-typed (type_of v) (map type_of held) (checked (type_of v) n) (values_at held tuple) (checked-typed (type_of v) n) (values-typed held tuple)
+
+close-typed : (r : Reduce) (held : List Value) (bag : List (List Value)) → IfTyped (close_slots r held bag) (map type_of held)
+close-typed r [] bag = refl
+close-typed r (held ∷ []) bag =
+    with-typed (type_of held) [] (close r held (map (first_or held) bag)) (Some [])
+    (checked-typed (type_of held) (combined r (number_of held) (total r (type_of held) (map (first_or held) bag)))) refl
+close-typed r (held ∷ (next ∷ more)) bag = values-typed (held ∷ (next ∷ more)) (best r (map number_of (held ∷ (next ∷ more))) (map (map number_of) bag))
+
+pub slots-typed : (r : Reduce) (held : List Value) (bag : List (List Value)) (after : List Value) → close_slots r held bag ≡ Some after → map type_of after ≡ map type_of held
+slots-typed r held bag after same = subst (λ o. IfTyped o (map type_of held)) same (close-typed r held bag)
+
+-- several slots take every bag of values of their types
+abbrev AllFit : (held : List Value) → List ℤ → Type 0
+AllFit [] tuple = Unit {0}
+AllFit (v ∷ held) [] = Unit {0}
+AllFit (v ∷ held) (n ∷ tuple) = IsTrue (fits (type_of v) n) × AllFit held tuple
+
+numbers-fit : (ts : List VType) (held vs : List Value) → AreOf ts held → AreOf ts vs → AllFit held (map number_of vs)
+numbers-fit ts [] vs typed other = tt
+numbers-fit [] (v ∷ held) vs typed other = grind arith
+numbers-fit (t ∷ ts) (v ∷ held) [] typed other = tt
+numbers-fit (t ∷ ts) (v ∷ held) (u ∷ vs) typed other =
+    (subst (λ k. IsTrue (fits k (number_of u))) (sym typed.0.0) other.0.1, numbers-fit ts held vs typed.1 other.1)
+
+one-of-two : (held : List Value) (b : Bool) (some other : List ℤ) → AllFit held some → AllFit held other → AllFit held (cond b some other)
+one-of-two held true some other p q = p
+one-of-two held false some other p q = q
+
+best-fits : (r : Reduce) (ts : List VType) (held : List Value) (bag : List (List Value)) → AreOf ts held → EachAreOf ts bag → AllFit held (best r (map number_of held) (map (map number_of) bag))
+best-fits r ts held [] typed each = numbers-fit ts held held typed typed
+best-fits r ts held (vs ∷ bag) typed each =
+    one-of-two held (replaces r (best r (map number_of held) (map (map number_of) bag)) (map number_of vs)) (map number_of vs) (best r (map number_of held) (map (map number_of) bag))
+    (numbers-fit ts held vs typed each.0) (best-fits r ts held bag typed each.1)
+
+with-some : (t : VType) (n : ℤ) (o : Option (List Value)) → IsTrue (fits t n) → o ≢ None → with_value (checked t n) o ≢ None
+with-some t n None fit some = λ same. some refl
+with-some t n (Some vs) fit some = rw fit (λ same. some-no-none same)
+  where
+    some-no-none : {v : Value} → Some (v ∷ vs) ≡ None → ⊥
+    some-no-none same = grind arith
+
+values-some : (held : List Value) (tuple : List ℤ) → AllFit held tuple → values_at held tuple ≢ None
+values-some [] tuple all same = grind arith
+values-some (v ∷ held) [] all same = grind arith
+values-some (v ∷ held) (n ∷ tuple) all same = with-some (type_of v) n (values_at held tuple) all.0 (values-some held tuple all.1) same
+
+pub tuples-fit : (r : Reduce) (ts : List VType) (held : List Value) (bag : List (List Value)) → 2 ≤ length held → AreOf ts held → EachAreOf ts bag → close_slots r held bag ≢ None
+tuples-fit r ts [] bag many typed each = grind arith
+tuples-fit r ts (v ∷ []) bag many typed each = grind arith
+tuples-fit r ts (v ∷ (next ∷ more)) bag many typed each =
+    values-some (v ∷ (next ∷ more)) (best r (map number_of (v ∷ (next ∷ more))) (map (map number_of) bag)) (best-fits r ts (v ∷ (next ∷ more)) bag typed each)
 
 -- with one entry it is the reduction
 pub kept-min : (x y : ℤ) → kept Min (x ∷ []) (y ∷ []) ≡ combined Min x y ∷ []

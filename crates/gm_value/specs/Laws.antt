@@ -1,5 +1,5 @@
 -- The laws of operations, reductions, totals and taking.
-use Rattle.std.specs.Prelude.{◌≡◌, ◌≢◌, ◌^◌, ◌<◌, ◌≤◌, ◌≤ℤ◌, ℕ, ℤ, pos, ◌+ℤ◌, ◌*ℤ◌, int_div, int_rem, unsigned_abs, IsTrue, List, [], ◌∷◌, length, Option, Ok, IfOk}
+use Rattle.std.specs.Prelude.{◌≡◌, ◌≢◌, ◌^◌, ◌<◌, ◌≤◌, ◌≤ℤ◌, ℕ, ℤ, pos, ◌+ℤ◌, ◌*ℤ◌, int_div, int_rem, unsigned_abs, IsTrue, List, [], ◌∷◌, length, map, Option, Some, None, Ok, IfOk}
 use Rattle.gm_value.specs.declared.values.VType.{VType}
 use Rattle.gm_value.specs.declared.values.Value.{Value}
 use Rattle.gm_value.specs.declared.operations.Op1.{Op1}
@@ -13,7 +13,7 @@ use Rattle.gm_value.specs.Operations.{result1, result2, type1, type2}
 use Rattle.gm_value.specs.Bag.{SameBag}
 use Rattle.gm_value.specs.Reductions.{combined, unit_of, total, close, picks}
 use Rattle.gm_value.specs.Totals.{IsTotal, HasType, HasRoom}
-use Rattle.gm_value.specs.Tuples.{kept, best}
+use Rattle.gm_value.specs.Tuples.{kept, best, with_value, close_slots}
 use Rattle.gm_value.specs.Taking.{of_rank, then_take, taken, before, from_on, TakesBags, AreBelow, rank_by, KeepsOrder}
 
 -- an operation on a value gives a value of its result's type
@@ -130,3 +130,35 @@ BestTakesBags = (r : Reduce) (held : List ℤ) (tuples other : List (List ℤ)) 
 -- of tuples of one entry the reduction of the entries is kept
 abbrev pub KeepsReduced : Reduce → Type 0
 KeepsReduced r = (x y : ℤ) → kept r (x ∷ []) (y ∷ []) ≡ combined r x y ∷ []
+
+-- with three tuples it does not matter which two are compared first
+abbrev pub KeepsInParts : Reduce → Type 0
+KeepsInParts r = (held some other : List ℤ) → kept r (kept r held some) other ≡ kept r held (kept r some other)
+
+-- what slots hold after a bag of contributions does not depend on the bag's order
+abbrev pub SlotsTakeBags : Type 0
+SlotsTakeBags = (r : Reduce) (held : List Value) (bag other : List (List Value)) → SameBag bag other → close_slots r held bag ≡ close_slots r held other
+
+-- one slot is closed as a value is
+abbrev pub OneSlotCloses : Type 0
+OneSlotCloses = (r : Reduce) (held : Value) (bag : List Value) → close_slots r (held ∷ []) (map (λ v. v ∷ []) bag) ≡ with_value (close r held bag) (Some [])
+
+-- slots keep their types
+abbrev pub SlotsKeepTypes : Type 0
+SlotsKeepTypes = (r : Reduce) (held : List Value) (bag : List (List Value)) (after : List Value) → close_slots r held bag ≡ Some after → map type_of after ≡ map type_of held
+
+-- the values of some types
+abbrev pub AreOf : List VType → List Value → Type 0
+AreOf [] [] = Unit {0}
+AreOf [] (v ∷ vs) = ⊥
+AreOf (t ∷ ts) [] = ⊥
+AreOf (t ∷ ts) (v ∷ vs) = IsOf t v × AreOf ts vs
+
+-- contributions of values of some types
+abbrev pub EachAreOf : List VType → List (List Value) → Type 0
+EachAreOf ts [] = Unit {0}
+EachAreOf ts (vs ∷ bag) = AreOf ts vs × EachAreOf ts bag
+
+-- several slots take every bag of values of their types: a tuple is kept, and none of it is out of range
+abbrev pub TuplesFit : Type 0
+TuplesFit = (r : Reduce) (ts : List VType) (held : List Value) (bag : List (List Value)) → 2 ≤ length held → AreOf ts held → EachAreOf ts bag → close_slots r held bag ≢ None

@@ -9,7 +9,7 @@ ghost use Rattle.gm_value.specs.Laws.{IsAssociative, IsCommutative, HasUnit, Sta
 ghost use Rattle.gm_value.specs.Laws.{TotalTakesBags, ClosingTakesBags, ClosingNothing, SumOfOne, ProductOfOne};
 ghost use Rattle.gm_value.specs.Laws.{TakingTakesRanks, TakingTakesBags, TakingNothing, TakingInParts, TakingUpTo, TakingToAnyBound, TakingByNewRanks};
 ghost use Rattle.gm_value.specs.Laws.{FewHaveRoom, TotalStandsForBags, TotalIsOne};
-ghost use Rattle.gm_value.specs.Laws.{BestTakesBags, KeepsReduced};
+ghost use Rattle.gm_value.specs.Laws.{BestTakesBags, KeepsReduced, KeepsInParts, SlotsTakeBags, OneSlotCloses, SlotsKeepTypes, TuplesFit};
 
 /// Operations give values of their result's type, and closings values of the held value's type.
 pub fn operations_keep_types()
@@ -69,4 +69,14 @@ pub fn tuples_have_no_order()
     ensures bags { BestTakesBags }
     ensures min { KeepsReduced Min }
     ensures max { KeepsReduced Max }
+    ensures parts { (r : Reduce) → KeepsInParts r }
+{}
+
+/// What the slots of one target hold after contributions does not depend on their order, and keeps its types; one slot
+/// is closed as a value is, and several always take contributions of their types.
+pub fn slots_have_no_order()
+    ensures bags { SlotsTakeBags }
+    ensures one { OneSlotCloses }
+    ensures types { SlotsKeepTypes }
+    ensures fits { TuplesFit }
 {}

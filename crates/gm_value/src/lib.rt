@@ -15,7 +15,7 @@ mod values;
 pub use faults::FaultKind;
 pub use laws::{
     bags_have_no_order, divisions_cut_toward_zero, operations_keep_types, reductions_are_monoids,
-    taking_goes_by_ranks, totals_have_room, tuples_have_no_order,
+    slots_have_no_order, taking_goes_by_ranks, totals_have_room, tuples_have_no_order,
 };
 pub use operations::{Op1, Op2, apply1, apply2};
 pub use reductions::{Reduce, fold_in, unit};
