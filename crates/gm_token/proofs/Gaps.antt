@@ -5,7 +5,7 @@ use Rattle.std.specs.List.{starts_with}
 use Rattle.std.proofs.lemmas.Bool.{false≢true, eqb-true, cases_order}
 use Rattle.std.proofs.lemmas.List.{take-append-drop, take_at, drop_at, take_rest, drop-drop, drop_all, drop_more, length-append, length-take-le}
 use Rattle.std.proofs.lemmas.List.Elements.{All-contains}
-use Rattle.gm_token.specs.declared.limits.TheConstants.{MAX_NUMBER}
+use Rattle.gm_token.specs.Limits.{greatest_number}
 use Rattle.gm_token.specs.declared.words.Word.{Word}
 use Rattle.gm_token.specs.declared.words.Word.TheVariants.{Number}
 use Rattle.gm_token.specs.declared.scanner.Part.TheVariants.{Gap}
@@ -96,22 +96,22 @@ as_longest w n text it = record { token = it.token; longest = longest }
 pub number_digits : (w : Word) (n : ℕ) (text : List ℕ) → IsLongestFront w n text → w ≡ Number → IsNumber (take n text)
 number_digits w n text it is = digits_of_number it.token is
 
-pub too_large : (w : Word) (n : ℕ) (text : List ℕ) (r : Bool) → IsLongestFront w n text → (IsTrue r ↔ ((w ≡ Number) × (MAX_NUMBER < decimal_value (take n text)))) → r ≡ true → IsNumberTooLarge text
+pub too_large : (w : Word) (n : ℕ) (text : List ℕ) (r : Bool) → IsLongestFront w n text → (IsTrue r ↔ ((w ≡ Number) × (greatest_number < decimal_value (take n text)))) → r ≡ true → IsNumberTooLarge text
 too_large w n text r it h e =
     let two = h.0 e in
     (w, (take n text, (drop n text, sym (take-append-drop n text), as_longest w n text it, (number_digits w n text it two.0, two.1))))
 
-pub small : (w : Word) (n : ℕ) (text : List ℕ) (r : Bool) → IsLongestFront w n text → (IsTrue r ↔ ((w ≡ Number) × (MAX_NUMBER < decimal_value (take n text)))) → r ≡ false → IsSmall w (take n text)
-small w n text r it h e is = (number_digits w n text it is, by_order (cases_order (decimal_value (take n text)) MAX_NUMBER))
+pub small : (w : Word) (n : ℕ) (text : List ℕ) (r : Bool) → IsLongestFront w n text → (IsTrue r ↔ ((w ≡ Number) × (greatest_number < decimal_value (take n text)))) → r ≡ false → IsSmall w (take n text)
+small w n text r it h e is = (number_digits w n text it is, by_order (cases_order (decimal_value (take n text)) greatest_number))
   where
-    by_order : (decimal_value (take n text) ≡ MAX_NUMBER) ⊎ ((decimal_value (take n text) < MAX_NUMBER) ⊎ (MAX_NUMBER < decimal_value (take n text))) → decimal_value (take n text) ≤ MAX_NUMBER
+    by_order : (decimal_value (take n text) ≡ greatest_number) ⊎ ((decimal_value (take n text) < greatest_number) ⊎ (greatest_number < decimal_value (take n text))) → decimal_value (take n text) ≤ greatest_number
     by_order (inl same) = omega arith
     by_order (inr (inl lt)) = omega arith
     by_order (inr (inr gt)) = absurd (false≢true (sym e ∙ h.1 (is, gt)))
 
 -- a token that is small is not too large
 pub not_too_large : (w : Word) (bs rest : List ℕ) → IsToken w bs rest → IsSmall w bs → ¬ IsTooLarge bs
-not_too_large w bs rest t s big = let le = (s (number_of_digits t big.0)).1 in absurd (let gt : MAX_NUMBER < decimal_value bs = big.1 in omega arith)
+not_too_large w bs rest t s big = let le = (s (number_of_digits t big.0)).1 in absurd (let gt : greatest_number < decimal_value bs = big.1 in omega arith)
 
 -- ---- neither
 

@@ -7,7 +7,7 @@ use Rattle.std.proofs.lemmas.List.Elements.{All-get_or}
 use Rattle.std.specs.List.{AllPass}
 use Rattle.gm_token.specs.declared.scanned.Row.{Row}
 use Rattle.gm_token.specs.declared.scanned.Tokens.TheInside.{Inside}
-use Rattle.gm_token.specs.declared.limits.TheConstants.{MAX_NUMBER}
+use Rattle.gm_token.specs.Limits.{greatest_number}
 use Rattle.gm_token.specs.declared.words.Word.{Word}
 use Rattle.gm_token.specs.declared.words.Word.TheVariants.{Number}
 use Rattle.gm_token.specs.Bytes.{is_digit}
@@ -37,7 +37,7 @@ token_there value i word n = omega (arith, slice_get_within (words_of value) i w
 
 -- where a listing has a number, the row there has digits that say a number within the limit
 pub number_there : (it : Inside) (value : Listing) (i : ℕ) (row : Row) → listing_of it ≡ value → AreSound it → slice_get (words_of value) i ≡ Some Number → row ≡ get_or it.rows.items i row
-    → IsNumber (row_text it.text.now row) × (decimal_value (row_text it.text.now row) ≤ MAX_NUMBER)
+    → IsNumber (row_text it.text.now row) × (decimal_value (row_text it.text.now row) ≤ greatest_number)
 number_there it value i row e sound n r =
     let within : i < length value.tokens = token_there value i Number n in
     let there : i < length it.rows.items = omega (arith, rows_there it value e) in

@@ -14,7 +14,7 @@ use Rattle.gm_base.specs.declared.rules.Rule.TheVariants.{BadByte, NumberTooLarg
 use Rattle.gm_base.specs.declared.rules.Refusal.{Refusal}
 use Rattle.gm_base.specs.declared.rules.Stop.{Stop}
 use Rattle.gm_base.specs.declared.rules.Stop.TheVariants.{Refused, NoMemory}
-use Rattle.gm_token.specs.declared.limits.TheConstants.{MAX_TEXT}
+use Rattle.gm_token.specs.Limits.{longest_text}
 use Rattle.gm_token.specs.declared.words.Word.{Word}
 use Rattle.gm_token.specs.declared.words.Word.TheVariants.{Slash}
 use Rattle.gm_token.specs.Bytes.{is_blank, is_digit, begins_name, goes_on_name}
@@ -470,18 +470,18 @@ broken_once text r q f g = by_case (compare f.scanned g.scanned refl)
 pub accepted_by : (text : List ℕ) (result : Result Listing Stop) → IfOk result (λ a. IsScanOf text a) → IfErr result (λ stop. IsStopOf text stop) → (it : Listing) → IsScanOf text it → (result ≡ Ok it) ⊎ (result ≡ Err NoMemory)
 accepted_by text (Ok a) ok err it s = inl (ap (λ (x : Listing). let r : Result Listing Stop = Ok x in r) (scan_once text a it ok s))
 accepted_by text (Err NoMemory) ok err it s = inr refl
-accepted_by text (Err (Refused r)) ok (inl long) it s = absurd (let lt : MAX_TEXT < length text = long.0 in let le : length text ≤ MAX_TEXT = s.0 in omega arith)
+accepted_by text (Err (Refused r)) ok (inl long) it s = absurd (let lt : longest_text < length text = long.0 in let le : length text ≤ longest_text = s.0 in omega arith)
 accepted_by text (Err (Refused r)) ok (inr f) it s = absurd (scan_no_broken text it r s f.1)
 
 pub refused_by : (text : List ℕ) (result : Result Listing Stop) → IfOk result (λ a. IsScanOf text a) → IfErr result (λ stop. IsStopOf text stop) → (it : Refusal) → IsRefusalOf text it → (result ≡ Err (Refused it)) ⊎ (result ≡ Err NoMemory)
-refused_by text (Ok a) ok err it (inl long) = absurd (let lt : MAX_TEXT < length text = long.0 in let le : length text ≤ MAX_TEXT = ok.0 in omega arith)
+refused_by text (Ok a) ok err it (inl long) = absurd (let lt : longest_text < length text = long.0 in let le : length text ≤ longest_text = ok.0 in omega arith)
 refused_by text (Ok a) ok err it (inr f) = absurd (scan_no_broken text a it ok f.1)
 refused_by text (Err NoMemory) ok err it r = inr refl
 refused_by text (Err (Refused q)) ok (inl long) it (inl far) = inl (ap (λ (x : Refusal). let r : Result Listing Stop = Err (Refused x) in r) (long.1 ∙ sym far.1))
-refused_by text (Err (Refused q)) ok (inl long) it (inr f) = absurd (let lt : MAX_TEXT < length text = long.0 in let le : length text ≤ MAX_TEXT = f.0 in omega arith)
-refused_by text (Err (Refused q)) ok (inr f) it (inl long) = absurd (let lt : MAX_TEXT < length text = long.0 in let le : length text ≤ MAX_TEXT = f.0 in omega arith)
+refused_by text (Err (Refused q)) ok (inl long) it (inr f) = absurd (let lt : longest_text < length text = long.0 in let le : length text ≤ longest_text = f.0 in omega arith)
+refused_by text (Err (Refused q)) ok (inr f) it (inl long) = absurd (let lt : longest_text < length text = long.0 in let le : length text ≤ longest_text = f.0 in omega arith)
 refused_by text (Err (Refused q)) ok (inr f) it (inr g) = inl (ap (λ (x : Refusal). let r : Result Listing Stop = Err (Refused x) in r) (broken_once text q it f.1 g.1))
 
 -- a text that is too long has one refusal
-pub long_refused : (text : List ℕ) (at : Place) → MAX_TEXT < length text → at ≡ past start (take MAX_TEXT text) → (it : Refusal) → IsRefusalOf text it → let result : Result Listing Stop = Err (Refused (record { rule = TextTooLong; place = at })) in (result ≡ Err (Refused it)) ⊎ (result ≡ Err NoMemory)
+pub long_refused : (text : List ℕ) (at : Place) → longest_text < length text → at ≡ past start (take longest_text text) → (it : Refusal) → IsRefusalOf text it → let result : Result Listing Stop = Err (Refused (record { rule = TextTooLong; place = at })) in (result ≡ Err (Refused it)) ⊎ (result ≡ Err NoMemory)
 long_refused text at long e it r = refused_by text (Err (Refused (record { rule = TextTooLong; place = at }))) tt (inl (long, ap (λ (p : Place). let q : Refusal = record { rule = TextTooLong; place = p } in q) e)) it r

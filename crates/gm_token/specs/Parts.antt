@@ -1,6 +1,6 @@
 -- What the scanner's steps find at the front of a text: a gap or a token.
 use Rattle.std.specs.Prelude.{◌≡◌, ℕ, ◌<◌, ◌≤◌, List, length, take, drop}
-use Rattle.gm_token.specs.declared.limits.TheConstants.{MAX_NUMBER}
+use Rattle.gm_token.specs.Limits.{greatest_number}
 use Rattle.gm_token.specs.declared.words.Word.{Word}
 use Rattle.gm_token.specs.declared.words.Word.TheVariants.{Number}
 use Rattle.gm_token.specs.declared.scanner.Part.{Part}
@@ -11,7 +11,7 @@ use Rattle.gm_token.specs.Fronts.{IsLongestFront}
 
 -- if the token is a number, its digits say a number within the limit
 abbrev pub IsSmall : Word → List ℕ → Type 0
-IsSmall w bs = w ≡ Number → IsNumber bs × (decimal_value bs ≤ MAX_NUMBER)
+IsSmall w bs = w ≡ Number → IsNumber bs × (decimal_value bs ≤ greatest_number)
 
 -- this part stands at the front
 abbrev pub IsPart : List ℕ → Part → Type 0

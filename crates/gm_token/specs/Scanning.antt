@@ -8,7 +8,7 @@ use Rattle.gm_base.specs.declared.rules.Refusal.{Refusal}
 use Rattle.gm_base.specs.declared.rules.Stop.{Stop}
 use Rattle.gm_base.specs.declared.rules.Stop.TheVariants.{Refused, NoMemory}
 use Rattle.gm_token.specs.declared.words.Word.{Word}
-use Rattle.gm_token.specs.declared.limits.TheConstants.{MAX_NUMBER, MAX_TEXT}
+use Rattle.gm_token.specs.Limits.{greatest_number, longest_text}
 use Rattle.gm_token.specs.Bytes.{is_blank}
 use Rattle.gm_token.specs.Places.{start, past}
 use Rattle.gm_token.specs.Spellings.{IsNumber, IsToken, decimal_value}
@@ -50,7 +50,7 @@ pub record IsLongestToken (w : Word) (bs rest : List ℕ) : Type 0 where
 
 -- these bytes are a number above the limit
 abbrev pub IsTooLarge : List ℕ → Type 0
-IsTooLarge bs = IsNumber bs × (MAX_NUMBER < decimal_value bs)
+IsTooLarge bs = IsNumber bs × (greatest_number < decimal_value bs)
 
 -- From this place on the text is these gaps and tokens, up to a place where these bytes are left.
 pub data Scans : Place → List ℕ → List Token → Place → List ℕ → Type 0 where
@@ -61,7 +61,7 @@ pub data Scans : Place → List ℕ → List Token → Place → List ℕ → Ty
 
 -- the text is within the limit, and these are its tokens and the place after its last byte
 abbrev pub IsScanOf : List ℕ → Listing → Type 0
-IsScanOf text it = (length text ≤ MAX_TEXT) × Scans start text it.tokens it.end []
+IsScanOf text it = (length text ≤ longest_text) × Scans start text it.tokens it.end []
 
 -- ---- refusals
 
@@ -96,11 +96,11 @@ pub record IsFirstBroken (text : List ℕ) (it : Refusal) : Type 0 where
 
 -- the refusal of a text that is longer than the limit: at the first byte past it
 abbrev pub too_long : List ℕ → Refusal
-too_long text = record { rule = TextTooLong; place = past start (take MAX_TEXT text) }
+too_long text = record { rule = TextTooLong; place = past start (take longest_text text) }
 
 -- a text is refused so: where it is too long, and else where its first rule is broken
 abbrev pub IsRefusalOf : List ℕ → Refusal → Type 0
-IsRefusalOf text it = ((MAX_TEXT < length text) × (it ≡ too_long text)) ⊎ ((length text ≤ MAX_TEXT) × IsFirstBroken text it)
+IsRefusalOf text it = ((longest_text < length text) × (it ≡ too_long text)) ⊎ ((length text ≤ longest_text) × IsFirstBroken text it)
 
 -- why a text was given no tokens: it is refused so, or there was not enough memory
 abbrev pub IsStopOf : List ℕ → Stop → Type 0

@@ -51,6 +51,7 @@ impl<'a> Model for Tokens<'a> {
 impl<'a> Tokens<'a> {
     ghost use Rattle.gm_token.specs.Words.{kind_of};
     ghost use Rattle.gm_token.specs.Tokens.{words_of, places_of, texts_of};
+    ghost use Rattle.gm_token.specs.Limits.{greatest_number};
     ghost use Rattle.gm_token.specs.Spellings.{decimal_value};
     ghost use Rattle.gm_token.specs.declared.words.Word.TheVariants.{Number};
 
@@ -97,7 +98,7 @@ impl<'a> Tokens<'a> {
     pub fn number(&self, i: usize) -> u64
         requires { slice_get (words_of self.now) i ≡ Some Number }
         ensures value { option_map decimal_value (slice_get (texts_of self.now) i) ≡ Some result }
-        ensures limit { result ≤ MAX_NUMBER }
+        ensures limit { result ≤ greatest_number }
     {
         number_value(bytes_of(self.text, &self.rows[i])).unwrap()
     }

@@ -2,7 +2,7 @@
 
 ghost use Rattle.std.specs.Prelude.{◌≡◌, ◌⊎◌, ◌<◌, ◌≤◌, ◌↔◌, true, false, length, nat_eq, codes, slice_index, IsTrue, IfOk, IfErr};
 ghost use Rattle.std.specs.List.{AllPass, starts_with};
-ghost use Rattle.gm_token.specs.declared.limits.TheConstants.{MAX_NUMBER, MAX_TEXT};
+ghost use Rattle.gm_token.specs.Limits.{greatest_number, longest_text};
 ghost use Rattle.gm_token.specs.declared.words.Word.TheVariants.{Number};
 ghost use Rattle.gm_token.specs.Bytes.{is_blank as is_blank_lem, is_digit};
 ghost use Rattle.gm_token.specs.Spellings.{decimal_value};
@@ -43,7 +43,7 @@ fn block_comment(text: &[u8]) -> Result<Part, Rule>
 // Whether a token is a number above the limit.
 fn is_too_large(word: Word, bytes: &[u8]) -> bool
     requires { word ≡ Number → AllPass is_digit bytes.now }
-    ensures { IsTrue result ↔ ((word ≡ Number) × (MAX_NUMBER < decimal_value bytes.now)) }
+    ensures { IsTrue result ↔ ((word ≡ Number) × (greatest_number < decimal_value bytes.now)) }
 {
     match word {
         Word::Number => number_value(bytes).is_none(),
@@ -92,7 +92,7 @@ fn front_part(text: &[u8]) -> Result<Part, Rule>
 
 // The tokens of a text within the limit.
 fn scan_within(alloc: Global, text: &[u8]) -> Result<Tokens<'_>, Stop>
-    requires { length text.now ≤ MAX_TEXT }
+    requires { length text.now ≤ longest_text }
     ensures tokens { IfOk result (λ tokens. IsScanOf text.now tokens) }
     ensures stop { IfErr result (λ stop. IsStopOf text.now stop) }
 {

@@ -1,7 +1,7 @@
 use Rattle.std.proofs.Common.{◌≡◌, ◌≤◌, ◌∙◌, refl, ap, sym, subst, List, ℕ}
 use Rattle.std.specs.Prelude.{Some, None, Option, SomeIff, IsSome, option_map}
 use Rattle.std.specs.List.{AllPass}
-use Rattle.gm_token.specs.declared.limits.TheConstants.{MAX_NUMBER}
+use Rattle.gm_token.specs.Limits.{greatest_number}
 use Rattle.gm_token.specs.declared.words.Word.TheVariants.{Number}
 use Rattle.gm_token.specs.Bytes.{is_digit}
 use Rattle.gm_token.specs.Spellings.{decimal_value}
@@ -24,7 +24,7 @@ number_value-requires c =
 pub unwrap-requires : goal.unwrap-requires
 unwrap-requires c =
     let there = number_there c.self.inside c.args.self.now c.args.i c.index.result.now c.self.view_is c.self.invariant c.requires c.index.ensures in
-    some_of c.number_value.result _ _ c.number_value.ensures (subst (λ (x : List ℕ). decimal_value x ≤ MAX_NUMBER) (sym c.bytes_of.ensures) there.1)
+    some_of c.number_value.result _ _ c.number_value.ensures (subst (λ (x : List ℕ). decimal_value x ≤ greatest_number) (sym c.bytes_of.ensures) there.1)
 
 pub returns-clause-value : goal.returns-clause-value
 returns-clause-value c =
@@ -34,5 +34,5 @@ returns-clause-value c =
 pub returns-clause-limit : goal.returns-clause-limit
 returns-clause-limit c =
     let there = number_there c.self.inside c.args.self.now c.args.i c.index.result.now c.self.view_is c.self.invariant c.requires c.index.ensures in
-    subst (λ (n : ℕ). n ≤ MAX_NUMBER) (value_of c.number_value.result _ _ c.unwrap.result c.number_value.ensures c.unwrap.ensures)
-    (subst (λ (x : List ℕ). decimal_value x ≤ MAX_NUMBER) (sym c.bytes_of.ensures) there.1)
+    subst (λ (n : ℕ). n ≤ greatest_number) (value_of c.number_value.result _ _ c.unwrap.result c.number_value.ensures c.unwrap.ensures)
+    (subst (λ (x : List ℕ). decimal_value x ≤ greatest_number) (sym c.bytes_of.ensures) there.1)
