@@ -3,6 +3,8 @@
 #![tactic(auto)]
 
 #[cfg(test)]
+mod argument_reductions;
+#[cfg(test)]
 mod calls;
 #[cfg(test)]
 mod checks;
