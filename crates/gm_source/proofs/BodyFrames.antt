@@ -1,5 +1,5 @@
 -- A statement of a body reads what it names alone.
-use Rattle.std.proofs.Common.{◌≡◌, ◌<◌, ℕ, Bool, true, false, List, [], ◌∷◌, ◌++◌, map, refl, sym, ap, subst, ◌∙◌, Option, Some, None, Result, Ok, Err}
+use Rattle.std.proofs.Common.{◌≡◌, ◌<◌, ℕ, Bool, true, false, cond, List, [], ◌∷◌, ◌++◌, map, refl, sym, ap, subst, ◌∙◌, Option, Some, None, Result, Ok, Err}
 use Rattle.std.proofs.Math.Path.{fun_ext}
 use Rattle.std.specs.Prelude.{IfOk}
 use Rattle.gm_base.specs.declared.places.Place.{Place}
@@ -10,22 +10,22 @@ use Rattle.gm_value.specs.declared.reductions.Reduce.TheVariants.{Sum, Product, 
 use Rattle.gm_value.specs.Numbers.{zero_of}
 use Rattle.gm_value.specs.Operations.{is_true}
 use Rattle.gm_value.specs.Reductions.{close}
+use Rattle.gm_value.specs.Tuples.{close_slots}
 use Rattle.gm_graph.specs.Graphs.{Step}
 use Rattle.gm_ast.specs.declared.tree.Key.{Key}
 use Rattle.gm_ast.specs.declared.tree.TotalKey.{TotalKey}
 use Rattle.gm_ast.specs.declared.tree.Target.{Target}
 use Rattle.gm_ast.specs.declared.tree.Target.TheVariants as T
 use Rattle.gm_ast.specs.Program.{Expr, Stmt, Skip, Then, Declare, DeclareEdge, Assign, Defer, Combine, Group, Foreach, For, If, While, Do, InBfs, InBfsBoth, Return}
-use Rattle.gm_source.specs.declared.contributions.Contribution.{Contribution}
 use Rattle.gm_source.specs.declared.faults.Fault.{Fault}
 use Rattle.gm_source.specs.declared.slots.Slot.{Slot}
 use Rattle.gm_source.specs.declared.slots.Slot.TheVariants.{Scalar, Node}
-use Rattle.gm_source.specs.Stores.{Store, read, write}
-use Rattle.gm_source.specs.Faults.{least, then_with, unless_fault, somes, joined}
-use Rattle.gm_source.specs.Expressions.{View, Evaluated, node_of, two_of, evaluated, value, settled, steps_in}
-use Rattle.gm_source.specs.Contributions.{to_slot, taken_onto, value_or, fault_in, slot_fault, settled_store, total_faults}
-use Rattle.gm_source.specs.Iterations.{Ends, AtOnce, WithInner, WithOutermost, Loop, Iteration, begun, failed, unless_failed, go_on, with_ok, one_way, as_it_is, Mode, Outermost, AtEdge, view_in, slot_of, assigned, target_value, combined_by, at_once, ends_of, wrote, contribution, gave_inner, gave_outermost, deferred_to, reduced, outer_only, inner_done, turn_at, does}
-use Rattle.gm_source.specs.Frames.{Agree, ReadsBelow, TargetBelow, NamesBelow, SlotBelow, GivesBelow, Alike}
+use Rattle.gm_source.specs.Stores.{Store, has_slot, read, reads, write, write_all}
+use Rattle.gm_source.specs.Faults.{least, first, then_with, unless_fault, somes, joined}
+use Rattle.gm_source.specs.Expressions.{View, Evaluated, AllEvaluated, and_all, node_of, two_of, evaluated, evaluated_all, value, settled, steps_in}
+use Rattle.gm_source.specs.Contributions.{Contribution, to_target, target_of, taken_onto, values_or, fault_in, value_among, value_after, target_fault, settled_store, total_faults}
+use Rattle.gm_source.specs.Iterations.{Ends, AtOnce, WithInner, WithOutermost, Loop, Iteration, begun, failed, unless_failed, go_on, with_ok, one_way, as_it_is, Mode, Outermost, AtEdge, view_in, slot_of, slots_of, assigned, assigned_all, target_value, combined_by, tuple_held, closed_by, together, alone, at_once, ends_of_all, wrote, wrote_all, contribution, gave_inner, gave_outermost, deferred_to, reduced, outer_only, inner_done, turn_at, does}
+use Rattle.gm_source.specs.Frames.{Agree, ReadsBelow, AllReadBelow, TargetBelow, TargetsBelow, NamesBelow, SlotBelow, SlotsBelow, GivesBelow, Alike}
 use Rattle.gm_source.proofs.ExpressionFrames.{agree-write, located-moved, node_of-frame, steps_in-frame, evaluated-frame}
 
 module _ (k : ℕ) where
@@ -51,39 +51,100 @@ module _ (k : ℕ) where
   combined-moved And w t at a b = refl
   combined-moved Or w t at a b = refl
 
-  pub at_once-frame : (w : View) (t : Store) (at : Place) (r : Reduce) (target : Target) (e : Expr) → TargetBelow k target → ReadsBelow k e → Agree k w.store t →
-      at_once (record w { store = t }) at r target e ≡ at_once w at r target e
-  at_once-frame w t at r target e bt be h =
+  single-frame : (w : View) (t : Store) (at : Place) (r : Reduce) (target : Target) (e : Expr) → TargetBelow k target → ReadsBelow k e → Agree k w.store t →
+      at_once (record w { store = t }) at r (target ∷ []) (e ∷ []) ≡ at_once w at r (target ∷ []) (e ∷ [])
+  single-frame w t at r target e bt be h =
       let u : View = record w { store = t } in
-      assigned-frame w t target (combined_by r u at (evaluated (target_value target) u) (evaluated e u)) bt h
+      ap alone
+      (assigned-frame w t target (combined_by r u at (evaluated (target_value target) u) (evaluated e u)) bt h
       ∙ ap (assigned w target) (combined-moved r w t at (evaluated (target_value target) u) (evaluated e u))
       ∙ ap (λ a. assigned w target (combined_by r w at a (evaluated e u))) (evaluated-frame k (target_value target) w t (target_value-below target bt) h)
-      ∙ ap (λ b. assigned w target (combined_by r w at (evaluated (target_value target) w) b)) (evaluated-frame k e w t be h)
+      ∙ ap (λ b. assigned w target (combined_by r w at (evaluated (target_value target) w) b)) (evaluated-frame k e w t be h))
+
+  -- the same of several targets and expressions
+  slots_of-frame : (w : View) (t : Store) (targets : List Target) → TargetsBelow k targets → Agree k w.store t → slots_of (record w { store = t }) targets ≡ slots_of w targets
+  slots_of-frame w t [] b h = refl
+  slots_of-frame w t (target ∷ targets) b h =
+      ap (λ r. then_with r (λ s. then_with (slots_of (record w { store = t }) targets) (λ ss. Ok (s ∷ ss)))) (slot_of-frame w t target b.0 h)
+      ∙ ap (λ r. then_with (slot_of w target) (λ s. then_with r (λ ss. Ok (s ∷ ss)))) (slots_of-frame w t targets b.1 h)
+
+  pub evaluated_all-frame : (es : List Expr) (w : View) (t : Store) → AllReadBelow k es → Agree k w.store t → evaluated_all es (record w { store = t }) ≡ evaluated_all es w
+  evaluated_all-frame [] w t b h = refl
+  evaluated_all-frame (e ∷ es) w t b h =
+      ap (λ a. and_all a (evaluated_all es (record w { store = t }))) (evaluated-frame k e w t b.0 h) ∙ ap (and_all (evaluated e w)) (evaluated_all-frame es w t b.1 h)
+
+  assigned_all-moved : (w : View) (t : Store) (targets : List Target) (v : AllEvaluated) → TargetsBelow k targets → Agree k w.store t →
+      assigned_all (record w { store = t }) targets v ≡ assigned_all w targets v
+  assigned_all-moved w t targets v b h = ap (λ r. unless_fault v.hoisted (then_with r (λ ss. then_with v.rest (λ xs. Ok (ss, xs))))) (slots_of-frame w t targets b h)
+
+  pub assign_all-frame : (w : View) (t : Store) (targets : List Target) (es : List Expr) → TargetsBelow k targets → AllReadBelow k es → Agree k w.store t →
+      assigned_all (record w { store = t }) targets (evaluated_all es (record w { store = t })) ≡ assigned_all w targets (evaluated_all es w)
+  assign_all-frame w t targets es bt be h =
+      assigned_all-moved w t targets (evaluated_all es (record w { store = t })) bt h ∙ ap (assigned_all w targets) (evaluated_all-frame es w t be h)
+
+  target_values-below : (targets : List Target) → TargetsBelow k targets → AllReadBelow k (map target_value targets)
+  target_values-below [] b = tt
+  target_values-below (target ∷ targets) b = (target_value-below target b.0, target_values-below targets b.1)
+
+  tuple-moved : (w : View) (t : Store) (at : Place) (o : Option (List Value)) → tuple_held (record w { store = t }) at o ≡ tuple_held w at o
+  tuple-moved w t at (Some vs) = refl
+  tuple-moved w t at None = refl
+
+  closed-moved : (r : Reduce) (w : View) (t : Store) (at : Place) (a b : AllEvaluated) → closed_by r (record w { store = t }) at a b ≡ closed_by r w at a b
+  closed-moved r w t at a b =
+      ap (λ f. record { hoisted = first a.hoisted b.hoisted; rest = then_with a.rest (λ held. then_with b.rest (f held)) })
+      (fun_ext (λ held. fun_ext (λ vs. tuple-moved w t at (close_slots r held (vs ∷ [])))))
+
+  together-frame : (w : View) (t : Store) (at : Place) (r : Reduce) (targets : List Target) (es : List Expr) → TargetsBelow k targets → AllReadBelow k es → Agree k w.store t →
+      together (record w { store = t }) at r targets es ≡ together w at r targets es
+  together-frame w t at r targets es bt be h =
+      let u : View = record w { store = t } in
+      assigned_all-moved w t targets (closed_by r u at (evaluated_all (map target_value targets) u) (evaluated_all es u)) bt h
+      ∙ ap (assigned_all w targets) (closed-moved r w t at (evaluated_all (map target_value targets) u) (evaluated_all es u))
+      ∙ ap (λ a. assigned_all w targets (closed_by r w at a (evaluated_all es u))) (evaluated_all-frame (map target_value targets) w t (target_values-below targets bt) h)
+      ∙ ap (λ b. assigned_all w targets (closed_by r w at (evaluated_all (map target_value targets) w) b)) (evaluated_all-frame es w t be h)
+
+  pub at_once-frame : (w : View) (t : Store) (at : Place) (r : Reduce) (targets : List Target) (es : List Expr) → TargetsBelow k targets → AllReadBelow k es → Agree k w.store t →
+      at_once (record w { store = t }) at r targets es ≡ at_once w at r targets es
+  at_once-frame w t at r [] es bt be h = together-frame w t at r [] es bt be h
+  at_once-frame w t at r (x ∷ []) [] bt be h = together-frame w t at r (x ∷ []) [] bt be h
+  at_once-frame w t at r (x ∷ []) (e ∷ []) bt be h = single-frame w t at r x e bt.0 be.0 h
+  at_once-frame w t at r (x ∷ []) (e ∷ (d ∷ es)) bt be h = together-frame w t at r (x ∷ []) (e ∷ (d ∷ es)) bt be h
+  at_once-frame w t at r (x ∷ (y ∷ xs)) es bt be h = together-frame w t at r (x ∷ (y ∷ xs)) es bt be h
 
   pub assign-frame : (w : View) (t : Store) (target : Target) (e : Expr) → TargetBelow k target → ReadsBelow k e → Agree k w.store t →
       assigned (record w { store = t }) target (evaluated e (record w { store = t })) ≡ assigned w target (evaluated e w)
   assign-frame w t target e bt be h =
       assigned-frame w t target (evaluated e (record w { store = t })) bt h ∙ ap (assigned w target) (evaluated-frame k e w t be h)
 
-  -- an assignment's slot is its target's
-  abbrev Below : Result (Slot × Value) Fault → Type 0
-  Below r = IfOk r (λ q. SlotBelow k q.0)
+  -- the slots of targets are the targets'
+  slot_of-below : (w : View) (target : Target) → TargetBelow k target → IfOk (slot_of w target) (SlotBelow k)
+  slot_of-below w (T.Scalar x at) b = b
+  slot_of-below w (T.Property x p at) b = node-below (node_of w x at)
+    where
+      node-below : (r : Result ℕ Fault) → IfOk (then_with r (λ n. Ok (Node p n))) (SlotBelow k)
+      node-below (Ok n) = b.1
+      node-below (Err f) = tt
 
-  unless-below : (o : Option Fault) (r : Result (Slot × Value) Fault) → Below r → Below (unless_fault o r)
-  unless-below None r h = h
-  unless-below (Some f) r h = tt
+  both-below : (r : Result Slot Fault) (rs : Result (List Slot) Fault) → IfOk r (SlotBelow k) → IfOk rs (SlotsBelow k) →
+      IfOk (then_with r (λ s. then_with rs (λ ss. Ok (s ∷ ss)))) (SlotsBelow k)
+  both-below (Ok s) (Ok ss) b bs = (b, bs)
+  both-below (Ok s) (Err f) b bs = tt
+  both-below (Err f) rs b bs = tt
 
-  rest-below : (s : Slot) (rest : Result Value Fault) → SlotBelow k s → Below (then_with rest (λ x. Ok (s, x)))
-  rest-below s (Ok x) b = b
-  rest-below s (Err f) b = tt
+  slots_of-below : (w : View) (targets : List Target) → TargetsBelow k targets → IfOk (slots_of w targets) (SlotsBelow k)
+  slots_of-below w [] b = tt
+  slots_of-below w (target ∷ targets) b = both-below (slot_of w target) (slots_of w targets) (slot_of-below w target b.0) (slots_of-below w targets b.1)
 
-  node-below : (p : ℕ) (r : Result ℕ Fault) (rest : Result Value Fault) → p < k → Below (then_with (then_with r (λ n. Ok (Node p n))) (λ s. then_with rest (λ x. Ok (s, x))))
-  node-below p (Ok n) rest b = rest-below (Node p n) rest b
-  node-below p (Err f) rest b = tt
+  parts-below : (o : Option Fault) (rs : Result (List Slot) Fault) (vs : Result (List Value) Fault) → IfOk rs (SlotsBelow k) →
+      IfOk {T = List Slot × List Value} (unless_fault o (then_with rs (λ ss. then_with vs (λ xs. Ok (ss, xs))))) (λ q. SlotsBelow k q.0)
+  parts-below (Some f) rs vs b = tt
+  parts-below None (Err f) vs b = tt
+  parts-below None (Ok ss) (Err f) b = tt
+  parts-below None (Ok ss) (Ok xs) b = b
 
-  pub assigned-below : (w : View) (target : Target) (v : Evaluated) → TargetBelow k target → Below (assigned w target v)
-  assigned-below w (T.Scalar x at) v b = unless-below v.hoisted _ (rest-below (Scalar x) v.rest b)
-  assigned-below w (T.Property x p at) v b = unless-below v.hoisted _ (node-below p (node_of w x at) v.rest b.1)
+  pub assigned_all-below : (w : View) (targets : List Target) (v : AllEvaluated) → TargetsBelow k targets → IfOk (assigned_all w targets v) (λ q. SlotsBelow k q.0)
+  assigned_all-below w targets v b = parts-below v.hoisted (slots_of w targets) v.rest (slots_of-below w targets b)
 
   -- contributions to slots below the number
   below-append : (xs ys : List Contribution) → GivesBelow k xs → GivesBelow k ys → GivesBelow k (xs ++ ys)
@@ -129,7 +190,23 @@ module _ (k : ℕ) where
     outermost_below = h.outermost_below;
   }
 
-  gave_inner-alike : (a b : Iteration) (c : Contribution) → SlotBelow k c.slot → Alike k a b → Alike k (gave_inner a c) (gave_inner b c)
+  pub agree-write_all : (s t : Store) (slots : List Slot) (values : List Value) → Agree k s t → Agree k (write_all s slots values) (write_all t slots values)
+  agree-write_all s t [] values h = h
+  agree-write_all s t (x ∷ xs) [] h = h
+  agree-write_all s t (x ∷ xs) (v ∷ vs) h = agree-write_all (write s x v) (write t x v) xs vs (agree-write k s t x v h)
+
+  wrote_all-alike : (a b : Iteration) (p : List Slot × List Value) → Alike k a b → Alike k (wrote_all a p) (wrote_all b p)
+  wrote_all-alike a b p h = record {
+    store = agree-write_all a.store b.store p.0 p.1 h.store;
+    with_inner = h.with_inner;
+    with_outermost = h.with_outermost;
+    deferred = h.deferred;
+    fault = h.fault;
+    inner_below = h.inner_below;
+    outermost_below = h.outermost_below;
+  }
+
+  gave_inner-alike : (a b : Iteration) (c : Contribution) → SlotsBelow k c.slots → Alike k a b → Alike k (gave_inner a c) (gave_inner b c)
   gave_inner-alike a b c s h = record {
     store = h.store;
     with_inner = ap (λ cs. cs ++ c ∷ []) h.with_inner;
@@ -140,7 +217,7 @@ module _ (k : ℕ) where
     outermost_below = h.outermost_below;
   }
 
-  gave_outermost-alike : (a b : Iteration) (c : Contribution) → SlotBelow k c.slot → Alike k a b → Alike k (gave_outermost a c) (gave_outermost b c)
+  gave_outermost-alike : (a b : Iteration) (c : Contribution) → SlotsBelow k c.slots → Alike k a b → Alike k (gave_outermost a c) (gave_outermost b c)
   gave_outermost-alike a b c s h = record {
     store = h.store;
     with_inner = h.with_inner;
@@ -178,24 +255,44 @@ module _ (k : ℕ) where
   outer_only-alike (AtEdge e) f g a b h each = h
 
   -- taking contributions onto stores that agree
-  pub settled-agree : (s t : Store) (cs : List Contribution) → Agree k s t → Agree k (settled_store s cs) (settled_store t cs)
-  settled-agree s t cs h = record {
-    scalar = λ x b. ap (λ v. value_or v (taken_onto v (to_slot (Scalar x) cs))) (h.scalar x b);
-    node = λ p n b. ap (λ v. value_or v (taken_onto v (to_slot (Node p n) cs))) (h.node p n b);
-    edge = h.edge;
-  }
-
   read-agree : (s t : Store) (slot : Slot) → SlotBelow k slot → Agree k s t → read t slot ≡ read s slot
   read-agree s t (Scalar x) b h = h.scalar x b
   read-agree s t (Node p n) b h = h.node p n b
 
-  slot_fault-agree : (s t : Store) (cs : List Contribution) (slot : Slot) → SlotBelow k slot → Agree k s t → slot_fault t cs slot ≡ slot_fault s cs slot
-  slot_fault-agree s t cs slot b h = ap (λ v. fault_in (to_slot slot cs) (taken_onto v (to_slot slot cs))) (read-agree s t slot b h)
+  reads-agree : (s t : Store) (slots : List Slot) → SlotsBelow k slots → Agree k s t → reads t slots ≡ reads s slots
+  reads-agree s t [] b h = refl
+  reads-agree s t (x ∷ xs) b h = ap (λ v. v ∷ reads t xs) (read-agree s t x b.0 h) ∙ ap (λ vs. read s x ∷ vs) (reads-agree s t xs b.1 h)
 
-  faults-agree : (s t : Store) (cs ds : List Contribution) → GivesBelow k ds → Agree k s t → map (λ c. slot_fault t cs c.slot) ds ≡ map (λ c. slot_fault s cs c.slot) ds
+  -- a slot's target is below the number where the slot and the contributions are
+  chosen-below : (b : Bool) (xs ys : List Slot) → SlotsBelow k xs → SlotsBelow k ys → SlotsBelow k (cond b xs ys)
+  chosen-below true xs ys h g = h
+  chosen-below false xs ys h g = g
+
+  target_of-below : (slot : Slot) (cs : List Contribution) → SlotBelow k slot → GivesBelow k cs → SlotsBelow k (target_of slot cs)
+  target_of-below slot [] b g = (b, tt)
+  target_of-below slot (c ∷ cs) b g = chosen-below (has_slot slot c.slots) c.slots (target_of slot cs) g.0 (target_of-below slot cs b g.1)
+
+  value_after-agree : (s t : Store) (cs : List Contribution) (slot : Slot) → SlotBelow k slot → GivesBelow k cs → Agree k s t → value_after t cs slot ≡ value_after s cs slot
+  value_after-agree s t cs slot b g h =
+      let slots = target_of slot cs in
+      let mine = to_target slots cs in
+      ap (λ held. value_among slot slots (values_or held (taken_onto held mine)) (read t slot)) (reads-agree s t slots (target_of-below slot cs b g) h)
+      ∙ ap (value_among slot slots (values_or (reads s slots) (taken_onto (reads s slots) mine))) (read-agree s t slot b h)
+
+  pub settled-agree : (s t : Store) (cs : List Contribution) → GivesBelow k cs → Agree k s t → Agree k (settled_store s cs) (settled_store t cs)
+  settled-agree s t cs g h = record {
+    scalar = λ x b. value_after-agree s t cs (Scalar x) b g h;
+    node = λ p n b. value_after-agree s t cs (Node p n) b g h;
+    edge = h.edge;
+  }
+
+  target_fault-agree : (s t : Store) (cs : List Contribution) (slots : List Slot) → SlotsBelow k slots → Agree k s t → target_fault t cs slots ≡ target_fault s cs slots
+  target_fault-agree s t cs slots b h = ap (λ held. fault_in (to_target slots cs) (taken_onto held (to_target slots cs))) (reads-agree s t slots b h)
+
+  faults-agree : (s t : Store) (cs ds : List Contribution) → GivesBelow k ds → Agree k s t → map (λ c. target_fault t cs c.slots) ds ≡ map (λ c. target_fault s cs c.slots) ds
   faults-agree s t cs [] b h = refl
   faults-agree s t cs (d ∷ ds) b h =
-      ap (λ o. o ∷ map (λ c. slot_fault t cs c.slot) ds) (slot_fault-agree s t cs d.slot b.0 h) ∙ ap (λ os. slot_fault s cs d.slot ∷ os) (faults-agree s t cs ds b.1 h)
+      ap (λ o. o ∷ map (λ c. target_fault t cs c.slots) ds) (target_fault-agree s t cs d.slots b.0 h) ∙ ap (λ os. target_fault s cs d.slots ∷ os) (faults-agree s t cs ds b.1 h)
 
   pub total_faults-agree : (s t : Store) (cs : List Contribution) → GivesBelow k cs → Agree k s t → total_faults t cs ≡ total_faults s cs
   total_faults-agree s t cs b h = ap somes (faults-agree s t cs cs b h)
@@ -248,7 +345,7 @@ module _ (k : ℕ) where
   inner_done-alike a b xs ys h each =
       let cs = joined (map (λ (t : Iteration). t.with_inner) xs) in
       record {
-        store = subst (λ ds. Agree k (settled_store a.store cs) (settled_store b.store ds)) (sym (inner-joined xs ys each)) (settled-agree a.store b.store cs h.store);
+        store = subst (λ ds. Agree k (settled_store a.store cs) (settled_store b.store ds)) (sym (inner-joined xs ys each)) (settled-agree a.store b.store cs (inner-all_below xs ys each) h.store);
         with_inner = h.with_inner;
         with_outermost = ap (λ os. os ++ joined (map (λ t. t.with_outermost) ys)) h.with_outermost ∙ ap (λ os. a.with_outermost ++ os) (outermost-joined xs ys each);
         deferred = h.deferred;
@@ -271,18 +368,19 @@ module _ (k : ℕ) where
       with_value-alike a c (value test (view_in loop m a key)) (value test (view_in loop m c key)) (λ v. one_way (is_true v) body as_it_is a) (λ v. one_way (is_true v) body as_it_is c) start
       (value-frame test (view_in loop m a key) c.store b start.store) (λ v. one_way-alike (is_true v) body as_it_is body as_it_is a c (each a c start) start)
 
-  reduced-alike : (ends : Ends) (loop : Loop) (m : Mode) (key : Key) (total : TotalKey) (r : Reduce) (target : Target) (e : Expr) (a b : Iteration) → TargetBelow k target → ReadsBelow k e → Alike k a b →
-      Alike k (reduced ends (view_in loop m a key) a total r target e) (reduced ends (view_in loop m b key) b total r target e)
-  reduced-alike AtOnce loop m key total r target e a b bt be h =
-      with_value-alike a b _ _ (wrote a) (wrote b) h (at_once-frame (view_in loop m a key) b.store total.place r target e bt be h.store) (λ p. wrote-alike a b p h)
-  reduced-alike WithInner loop m key total r target e a b bt be h =
+  reduced-alike : (ends : Ends) (loop : Loop) (m : Mode) (key : Key) (total : TotalKey) (r : Reduce) (targets : List Target) (es : List Expr) (a b : Iteration) →
+      TargetsBelow k targets → AllReadBelow k es → Alike k a b →
+      Alike k (reduced ends (view_in loop m a key) a total r targets es) (reduced ends (view_in loop m b key) b total r targets es)
+  reduced-alike AtOnce loop m key total r targets es a b bt be h =
+      with_value-alike a b _ _ (wrote_all a) (wrote_all b) h (at_once-frame (view_in loop m a key) b.store total.place r targets es bt be h.store) (λ p. wrote_all-alike a b p h)
+  reduced-alike WithInner loop m key total r targets es a b bt be h =
       let w = view_in loop m a key in
-      with_ok-alike (λ q. SlotBelow k q.0) a b _ _ (λ p. gave_inner a (contribution total r p)) (λ p. gave_inner b (contribution total r p)) h (assign-frame w b.store target e bt be h.store)
-      (assigned-below w target (evaluated e w) bt) (λ p s. gave_inner-alike a b (contribution total r p) s h)
-  reduced-alike WithOutermost loop m key total r target e a b bt be h =
+      with_ok-alike (λ q. SlotsBelow k q.0) a b _ _ (λ p. gave_inner a (contribution total r p)) (λ p. gave_inner b (contribution total r p)) h (assign_all-frame w b.store targets es bt be h.store)
+      (assigned_all-below w targets (evaluated_all es w) bt) (λ p s. gave_inner-alike a b (contribution total r p) s h)
+  reduced-alike WithOutermost loop m key total r targets es a b bt be h =
       let w = view_in loop m a key in
-      with_ok-alike (λ q. SlotBelow k q.0) a b _ _ (λ p. gave_outermost a (contribution total r p)) (λ p. gave_outermost b (contribution total r p)) h (assign-frame w b.store target e bt be h.store)
-      (assigned-below w target (evaluated e w) bt) (λ p s. gave_outermost-alike a b (contribution total r p) s h)
+      with_ok-alike (λ q. SlotsBelow k q.0) a b _ _ (λ p. gave_outermost a (contribution total r p)) (λ p. gave_outermost b (contribution total r p)) h (assign_all-frame w b.store targets es bt be h.store)
+      (assigned_all-below w targets (evaluated_all es w) bt) (λ p s. gave_outermost-alike a b (contribution total r p) s h)
 
   -- the frame of a body
   pub does-alike : (s : Stmt) (m : Mode) (loop : Loop) (a b : Iteration) → NamesBelow k s → Alike k a b → Alike k (does s m loop a) (does s m loop b)
@@ -297,11 +395,7 @@ module _ (k : ℕ) where
   does-alike (Defer key t e) m loop a b n h =
       outer_only-alike m _ _ a b h (λ c d g.
       with_value-alike c d _ _ (deferred_to c) (deferred_to d) g (assign-frame (view_in loop m c key) d.store t e n.0 n.1 g.store) (λ p. deferred-alike c d p g))
-  does-alike (Combine key total r [] es) m loop a b n h = h
-  does-alike (Combine key total r (t ∷ []) []) m loop a b n h = h
-  does-alike (Combine key total r (t ∷ []) (e ∷ [])) m loop a b n h = reduced-alike (ends_of m loop t) loop m key total r t e a b n.0.0 n.1.0 h
-  does-alike (Combine key total r (t ∷ []) (e ∷ (d ∷ es))) m loop a b n h = h
-  does-alike (Combine key total r (t ∷ (u ∷ ts)) es) m loop a b n h = h
+  does-alike (Combine key total r ts es) m loop a b n h = reduced-alike (ends_of_all m loop ts) loop m key total r ts es a b n.0 n.1 h
   does-alike (Group key at g p e) m loop a b n h = h
   does-alike (Foreach key at head test body) m loop a b n h =
       outer_only-alike m _ _ a b h (λ c d g.

@@ -8,10 +8,12 @@ pub mod Deferred
 pub mod DeferredUnseen
 pub mod EdgeReadWithTheMessage
 pub mod EmptyGraphSum
+pub mod GreatestWithItsLeastNode
 pub mod GuardedDivision
 pub mod HoistedSumFaultsFirst
 pub mod HoistingUnderAnd
 pub mod LeastFaultOfTwo
+pub mod LeastWithItsNode
 pub mod MixedBody
 pub mod ParallelEdges
 pub mod ProductOverflows
@@ -29,3 +31,6 @@ pub mod SpinDone
 pub mod SumOverflows
 pub mod SumTotalFits
 pub mod TotalsByStatement
+pub mod TupleAtOnce
+pub mod TupleEndsWithItsLatestTarget
+pub mod TuplesByStatement

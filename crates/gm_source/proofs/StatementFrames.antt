@@ -16,16 +16,16 @@ use Rattle.gm_source.specs.declared.slots.Slot.{Slot}
 use Rattle.gm_source.specs.declared.slots.Slot.TheVariants.{Scalar}
 use Rattle.gm_source.specs.declared.slots.Write.{Write}
 use Rattle.gm_source.specs.Levels.{nodes, level_of, levels, no_levels}
-use Rattle.gm_source.specs.Stores.{Store, write, overlaid}
+use Rattle.gm_source.specs.Stores.{Store, write, write_all, overlaid}
 use Rattle.gm_source.specs.Faults.{least, unless_fault, somes, joined}
 use Rattle.gm_source.specs.Contributions.{settled_store, total_faults}
 use Rattle.gm_source.specs.Expressions.{Answer, value, settled}
 use Rattle.gm_source.specs.Iterations.{Loop, Iteration, Outermost, does}
 use Rattle.gm_source.specs.Loops.{iteration, left_at, own_left, loop_done, parallel}
-use Rattle.gm_source.specs.Statements.{Run, State, Course, Goes, Returns, Faults, Stops, variable_at, loop_of, view_of, with_value, then_do, either_way, with_store, stopped, begin_turn, repeated, in_turns, writes, loops, declared, sequential}
+use Rattle.gm_source.specs.Statements.{Run, State, Course, Goes, Returns, Faults, Stops, variable_at, loop_of, view_of, with_value, then_do, either_way, with_store, stopped, begin_turn, repeated, in_turns, writes, writes_all, loops, declared, sequential}
 use Rattle.gm_source.specs.Frames.{Agree, ReadsBelow, NamesBelow, AlikeStores, AlikeStates, AlikeCourses}
 use Rattle.gm_source.proofs.ExpressionFrames.{agree-write, node_of-frame, evaluated-frame}
-use Rattle.gm_source.proofs.BodyFrames.{at_once-frame, assign-frame, settled-agree, total_faults-agree, EachAlike, each-mapped, outermost-joined, deferred-joined, faults-mapped, outermost-all_below, turn-alike, does-alike}
+use Rattle.gm_source.proofs.BodyFrames.{agree-write_all, at_once-frame, assign-frame, settled-agree, total_faults-agree, EachAlike, each-mapped, outermost-joined, deferred-joined, faults-mapped, outermost-all_below, turn-alike, does-alike}
 
 module _ (k : ℕ) where
   left-agree : (ks : List ℕ) (xs ys : List Iteration) (s t : Store) → EachAlike k xs ys → Agree k s t → (p n : ℕ) → p < k → left_at ks ys t p n ≡ left_at ks xs s p n
@@ -61,7 +61,7 @@ module _ (k : ℕ) where
       subst (λ q. AlikeStores k (unless_fault o (Ok (overlaid (settled_store own cs) ws))) (unless_fault q (Ok (overlaid (settled_store own' ds) us)))) (sym faults)
       (subst (λ ds. AlikeStores k (unless_fault o (Ok (overlaid (settled_store own cs) ws))) (unless_fault o (Ok (overlaid (settled_store own' ds) us)))) (sym (outermost-joined k xs ys each))
       (subst (λ us. AlikeStores k (unless_fault o (Ok (overlaid (settled_store own cs) ws))) (unless_fault o (Ok (overlaid (settled_store own' cs) us)))) (sym (deferred-joined k xs ys each))
-      (stores-alike o _ _ (overlaid-agree ws _ _ (settled-agree k own own' cs agree)))))
+      (stores-alike o _ _ (overlaid-agree ws _ _ (settled-agree k own own' cs (outermost-all_below k xs ys each) agree)))))
 
   -- the frame of a parallel loop
   pub parallel-alike : (loop : Loop) (key : Key) (test : Expr) (body : Stmt) (ks : List ℕ) (s t : Store) → ReadsBelow k test → NamesBelow k body → Agree k s t →
@@ -106,6 +106,9 @@ module _ (k : ℕ) where
 
   courses-writes : (s t : State) (r q : Result (Slot × Value) Fault) → q ≡ r → AlikeStates k s t → AlikeCourses k (writes s r) (writes t q)
   courses-writes s t r q e h = courses-with r q _ _ e (λ p. goes-write s t p.0 p.1 h)
+
+  courses-writes_all : (s t : State) (r q : Result (List Slot × List Value) Fault) → q ≡ r → AlikeStates k s t → AlikeCourses k (writes_all s r) (writes_all t q)
+  courses-writes_all s t r q e h = courses-with r q _ _ e (λ p. record { store = agree-write_all k s.store t.store p.0 p.1 h.store; turns = h.turns })
 
   courses-turn : (run : Run) (f g : State → Course) (s t : State) → AlikeStates k s t → ((a b : State) → AlikeStates k a b → AlikeCourses k (f a) (g b)) → AlikeCourses k (begin_turn run f s) (begin_turn run g t)
   courses-turn run f g s t h each =
@@ -159,12 +162,8 @@ module _ (k : ℕ) where
   sequential-alike (DeclareEdge x y at) run a b n h = h
   sequential-alike (Assign key t e) run a b n h = courses-writes a b _ _ (assign-frame k (view_of run a key) b.store t e n.0 n.1 h.store) h
   sequential-alike (Defer key t e) run a b n h = h
-  sequential-alike (Combine key total r [] es) run a b n h = h
-  sequential-alike (Combine key total r (t ∷ []) []) run a b n h = h
-  sequential-alike (Combine key total r (t ∷ []) (e ∷ [])) run a b n h =
-      courses-writes a b _ _ (at_once-frame k (view_of run a key) b.store total.place r t e n.0.0 n.1.0 h.store) h
-  sequential-alike (Combine key total r (t ∷ []) (e ∷ (d ∷ es))) run a b n h = h
-  sequential-alike (Combine key total r (t ∷ (u ∷ ts)) es) run a b n h = h
+  sequential-alike (Combine key total r ts es) run a b n h =
+      courses-writes_all a b _ _ (at_once-frame k (view_of run a key) b.store total.place r ts es n.0 n.1 h.store) h
   sequential-alike (Group key at g p e) run a b n h =
       courses-loops run no_levels g key always (Assign key (T.Property g p at) e) (nodes run.graph) a b tt ((n.0, n.1), n.2) h
   sequential-alike (Foreach key at head test body) run a b n h = courses-loops run no_levels head.iterator key test body (nodes run.graph) a b n.2 n.3 h

@@ -180,3 +180,17 @@ evaluated (Folded f head test e) w =
 -- the value of an expression, or its fault
 abbrev pub value : Expr → View → Answer
 value e w = settled (evaluated e w)
+
+-- the meaning of several expressions in two parts, in order
+pub record AllEvaluated : Type 0 where
+  pub hoisted : Option Fault
+  pub rest : Result (List Value) Fault
+
+-- one more expression before others: what is hoisted of all comes before the rest of all
+abbrev pub and_all : Evaluated → AllEvaluated → AllEvaluated
+and_all a b = record { hoisted = first a.hoisted b.hoisted; rest = then_with a.rest (λ x. then_with b.rest (λ xs. Ok (x ∷ xs))) }
+
+-- the meaning of several expressions, from left to right
+abbrev pub evaluated_all : List Expr → View → AllEvaluated
+evaluated_all [] w = record { hoisted = None; rest = Ok [] }
+evaluated_all (e ∷ es) w = and_all (evaluated e w) (evaluated_all es w)

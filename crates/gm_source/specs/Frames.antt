@@ -4,12 +4,12 @@ use Rattle.gm_ast.specs.declared.tree.Key.{Key}
 use Rattle.gm_ast.specs.declared.tree.Target.{Target}
 use Rattle.gm_ast.specs.declared.tree.Target.TheVariants as T
 use Rattle.gm_ast.specs.Program.{Expr, Const, Var, Property, EdgeProperty, Degree, NodeCount, EdgeCount, Live, Unary, Binary, Both, Either, Choose, Folded, Stmt, Skip, Then, Declare, DeclareEdge, Assign, Defer, Combine, Group, Foreach, For, If, While, Do, InBfs, InBfsBoth, Return}
-use Rattle.gm_source.specs.declared.contributions.Contribution.{Contribution}
 use Rattle.gm_source.specs.declared.faults.Fault.{Fault}
 use Rattle.gm_source.specs.declared.slots.Slot.{Slot}
 use Rattle.gm_source.specs.declared.slots.Slot.TheVariants.{Scalar, Node}
 use Rattle.gm_source.specs.Stores.{Store}
 use Rattle.gm_source.specs.Expressions.{View, evaluated}
+use Rattle.gm_source.specs.Contributions.{Contribution}
 use Rattle.gm_source.specs.Iterations.{Loop, Mode, Iteration, does}
 use Rattle.gm_source.specs.Loops.{parallel}
 use Rattle.gm_source.specs.Statements.{Run, State, Course, Goes, Returns, Faults, Stops, sequential}
@@ -82,10 +82,15 @@ abbrev pub SlotBelow : ℕ → Slot → Type 0
 SlotBelow k (Scalar x) = x < k
 SlotBelow k (Node p n) = p < k
 
+-- slots of such variables
+abbrev pub SlotsBelow : ℕ → List Slot → Type 0
+SlotsBelow k [] = Unit {0}
+SlotsBelow k (x ∷ xs) = SlotBelow k x × SlotsBelow k xs
+
 -- contributions to such slots
 abbrev pub GivesBelow : ℕ → List Contribution → Type 0
 GivesBelow k [] = Unit {0}
-GivesBelow k (c ∷ cs) = SlotBelow k c.slot × GivesBelow k cs
+GivesBelow k (c ∷ cs) = SlotsBelow k c.slots × GivesBelow k cs
 
 -- two iterations are alike: their stores agree, and they gave, deferred and faulted the same
 pub record Alike (k : ℕ) (a b : Iteration) : Type 0 where

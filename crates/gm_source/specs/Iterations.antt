@@ -4,26 +4,27 @@ use Rattle.gm_base.specs.declared.places.Place.{Place}
 use Rattle.gm_value.specs.declared.values.VType.{VType}
 use Rattle.gm_value.specs.declared.values.Value.{Value}
 use Rattle.gm_value.specs.declared.values.Value.TheVariants.{At}
+use Rattle.gm_value.specs.declared.faults.FaultKind.TheVariants.{Overflow}
 use Rattle.gm_value.specs.declared.reductions.Reduce.{Reduce}
 use Rattle.gm_value.specs.declared.reductions.Reduce.TheVariants.{And, Or}
 use Rattle.gm_value.specs.Numbers.{zero_of}
 use Rattle.gm_value.specs.Operations.{is_true}
 use Rattle.gm_value.specs.Reductions.{close}
+use Rattle.gm_value.specs.Tuples.{close_slots}
 use Rattle.gm_graph.specs.Graphs.{NumberedGraph}
 use Rattle.gm_ast.specs.declared.tree.Key.{Key}
 use Rattle.gm_ast.specs.declared.tree.TotalKey.{TotalKey}
 use Rattle.gm_ast.specs.declared.tree.Target.{Target}
 use Rattle.gm_ast.specs.declared.tree.Target.TheVariants as T
 use Rattle.gm_ast.specs.Program.{Expr, Var, Property, Stmt, Skip, Then, Declare, Assign, Defer, Combine, Foreach, If}
-use Rattle.gm_source.specs.declared.contributions.Contribution.{Contribution}
 use Rattle.gm_source.specs.declared.faults.Fault.{Fault}
 use Rattle.gm_source.specs.declared.slots.Slot.{Slot}
 use Rattle.gm_source.specs.declared.slots.Slot.TheVariants.{Scalar, Node}
 use Rattle.gm_source.specs.declared.slots.Write.{Write}
-use Rattle.gm_source.specs.Stores.{Store, write}
-use Rattle.gm_source.specs.Faults.{least, then_with, unless_fault, somes, joined}
-use Rattle.gm_source.specs.Expressions.{View, Evaluated, evaluated, value, steps_in, node_of, located, two_of, both, either}
-use Rattle.gm_source.specs.Contributions.{settled_store, total_faults}
+use Rattle.gm_source.specs.Stores.{Store, write, write_all}
+use Rattle.gm_source.specs.Faults.{least, first, then_with, unless_fault, somes, joined}
+use Rattle.gm_source.specs.Expressions.{View, Evaluated, AllEvaluated, evaluated, evaluated_all, value, steps_in, node_of, located, fault_at, two_of, both, either}
+use Rattle.gm_source.specs.Contributions.{Contribution, settled_store, total_faults}
 
 -- when a reduction assignment takes effect
 pub data Ends : Type 0 where
@@ -111,9 +112,39 @@ combined_by And w at a b = both a b
 combined_by Or w at a b = either a b
 combined_by r w at a b = two_of a b (λ x y. located w at (close r x (y ∷ [])))
 
--- a reduction assignment that is done at once: `x = x op e` word for word, with the operator at a place
-abbrev pub at_once : View → Place → Reduce → Target → Expr → Result (Slot × Value) Fault
-at_once w at r t e = assigned w t (combined_by r w at (evaluated (target_value t) w) (evaluated e w))
+-- the slots of targets, or NilNode at the first node variable that holds none
+abbrev pub slots_of : View → List Target → Result (List Slot) Fault
+slots_of w [] = Ok []
+slots_of w (t ∷ ts) = then_with (slot_of w t) (λ s. then_with (slots_of w ts) (λ ss. Ok (s ∷ ss)))
+
+-- slots and the values for them: what is hoisted of the values, then the targets, then the rest of the values
+abbrev pub assigned_all : View → List Target → AllEvaluated → Result (List Slot × List Value) Fault
+assigned_all w ts v = unless_fault v.hoisted (then_with (slots_of w ts) (λ ss. then_with v.rest (λ xs. Ok (ss, xs))))
+
+-- held values after one tuple was taken, or Overflow at a place
+abbrev pub tuple_held : View → Place → Option (List Value) → Result (List Value) Fault
+tuple_held w at (Some vs) = Ok vs
+tuple_held w at None = Err (fault_at w at Overflow)
+
+-- held values closed with a tuple at a place
+abbrev pub closed_by : Reduce → View → Place → AllEvaluated → AllEvaluated → AllEvaluated
+closed_by r w at a b = record {
+  hoisted = first a.hoisted b.hoisted;
+  rest = then_with a.rest (λ held. then_with b.rest (λ vs. tuple_held w at (close_slots r held (vs ∷ []))));
+}
+
+-- one slot and its value as lists
+abbrev pub alone : Result (Slot × Value) Fault → Result (List Slot × List Value) Fault
+alone answer = then_with answer (λ p. Ok (p.0 ∷ [], p.1 ∷ []))
+
+-- several targets that take the tuple of the values at once, or keep the one that they hold
+abbrev pub together : View → Place → Reduce → List Target → List Expr → Result (List Slot × List Value) Fault
+together w at r ts es = assigned_all w ts (closed_by r w at (evaluated_all (map target_value ts) w) (evaluated_all es w))
+
+-- a reduction assignment that is done at once, with the operator at a place: of one target it is `x = x op e` word for word
+abbrev pub at_once : View → Place → Reduce → List Target → List Expr → Result (List Slot × List Value) Fault
+at_once w at r (t ∷ []) (e ∷ []) = alone (assigned w t (combined_by r w at (evaluated (target_value t) w) (evaluated e w)))
+at_once w at r ts es = together w at r ts es
 
 -- when a reduction to a scalar ends, by the loops around the scalar's declaration: to a local of the same body at once, to one of the outer body with the inner loop
 abbrev pub scalar_ends : Mode → ℕ → Ends
@@ -133,13 +164,29 @@ abbrev pub ends_of : Mode → Loop → Target → Ends
 ends_of m loop (T.Scalar x at) = scalar_ends m (loop.depth x)
 ends_of m loop (T.Property x p at) = if nat_eq x loop.outer then own_ends m (loop.pushed p) else WithOutermost
 
+-- the later of two ends
+abbrev pub later : Ends → Ends → Ends
+later e AtOnce = e
+later AtOnce e = e
+later WithOutermost WithInner = WithOutermost
+later e f = f
+
+-- when a reduction to targets ends: as late as the latest of them would
+abbrev pub ends_of_all : Mode → Loop → List Target → Ends
+ends_of_all m loop [] = AtOnce
+ends_of_all m loop (t ∷ ts) = later (ends_of m loop t) (ends_of_all m loop ts)
+
 -- a write that the iteration sees from then on
 abbrev pub wrote : Iteration → Slot × Value → Iteration
 wrote it p = record it { store = write it.store p.0 p.1 }
 
+-- writes that the iteration sees from then on
+abbrev pub wrote_all : Iteration → List Slot × List Value → Iteration
+wrote_all it p = record it { store = write_all it.store p.0 p.1 }
+
 -- a contribution
-abbrev pub contribution : TotalKey → Reduce → Slot × Value → Contribution
-contribution total r p = record { total = total; reduce = r; slot = p.0; value = p.1 }
+abbrev pub contribution : TotalKey → Reduce → List Slot × List Value → Contribution
+contribution total r p = record { total = total; reduce = r; slots = p.0; values = p.1 }
 
 -- one more contribution that ends with the inner loop, or with the outermost one
 abbrev pub gave_inner : Iteration → Contribution → Iteration
@@ -153,10 +200,10 @@ abbrev pub deferred_to : Iteration → Slot × Value → Iteration
 deferred_to it p = record it { deferred = it.deferred ++ record { slot = p.0; value = p.1 } ∷ [] }
 
 -- a reduction assignment: a write at once, or a contribution
-abbrev pub reduced : Ends → View → Iteration → TotalKey → Reduce → Target → Expr → Iteration
-reduced AtOnce w it total r t e = with_ok it (at_once w total.place r t e) (wrote it)
-reduced WithInner w it total r t e = with_ok it (assigned w t (evaluated e w)) (λ p. gave_inner it (contribution total r p))
-reduced WithOutermost w it total r t e = with_ok it (assigned w t (evaluated e w)) (λ p. gave_outermost it (contribution total r p))
+abbrev pub reduced : Ends → View → Iteration → TotalKey → Reduce → List Target → List Expr → Iteration
+reduced AtOnce w it total r ts es = with_ok it (at_once w total.place r ts es) (wrote_all it)
+reduced WithInner w it total r ts es = with_ok it (assigned_all w ts (evaluated_all es w)) (λ p. gave_inner it (contribution total r p))
+reduced WithOutermost w it total r ts es = with_ok it (assigned_all w ts (evaluated_all es w)) (λ p. gave_outermost it (contribution total r p))
 
 -- what an outer body alone does
 abbrev pub outer_only : Mode → (Iteration → Iteration) → Iteration → Iteration
@@ -188,7 +235,7 @@ does (Declare key x (Some e)) m loop it = with_ok it (value e (view_in loop m it
 does (Assign key t e) m loop it = let w = view_in loop m it key in with_ok it (assigned w t (evaluated e w)) (wrote it)
 does (Defer key t e) m loop it =
     outer_only m (λ it. let w = view_in loop m it key in with_ok it (assigned w t (evaluated e w)) (deferred_to it)) it
-does (Combine key total r (t ∷ []) (e ∷ [])) m loop it = reduced (ends_of m loop t) (view_in loop m it key) it total r t e
+does (Combine key total r ts es) m loop it = reduced (ends_of_all m loop ts) (view_in loop m it key) it total r ts es
 does (If key test a b) m loop it =
     with_ok it (value test (view_in loop m it key)) (λ v. one_way (is_true v) (does a m loop) (does b m loop) it)
 does (Foreach key at head test body) m loop it =

@@ -1,14 +1,13 @@
 -- What passes may know of the meaning beside its definition.
-use Rattle.std.specs.Prelude.{◌≡◌, ℕ, List, map}
+use Rattle.std.specs.Prelude.{◌≡◌, ℕ, IsTrue, List, map}
 use Rattle.gm_value.specs.Bag.{SameBag, IsIn}
-use Rattle.gm_source.specs.declared.contributions.Contribution.{Contribution}
 use Rattle.gm_source.specs.declared.faults.Fault.{Fault}
 use Rattle.gm_source.specs.declared.slots.Slot.{Slot}
 use Rattle.gm_source.specs.declared.slots.Slot.TheVariants.{Scalar, Node}
 use Rattle.gm_source.specs.declared.slots.Write.{Write}
-use Rattle.gm_source.specs.Stores.{Store}
+use Rattle.gm_source.specs.Stores.{Store, has_slot}
 use Rattle.gm_source.specs.Faults.{least, joined}
-use Rattle.gm_source.specs.Contributions.{settled_store, total_faults}
+use Rattle.gm_source.specs.Contributions.{Contribution, settled_store, total_faults}
 use Rattle.gm_source.specs.Iterations.{Iteration, inner_done}
 use Rattle.gm_source.specs.Loops.{loop_done}
 
@@ -16,9 +15,11 @@ use Rattle.gm_source.specs.Loops.{loop_done}
 abbrev pub LeastTakesBags : Type 0
 LeastTakesBags = (faults other : List Fault) → SameBag faults other → least faults ≡ least other
 
--- contributions to one slot are by one reduction, as the rules of races leave them
+-- contributions to one slot are by one reduction to one target, as the rules of races leave them
 abbrev pub OneReduction : List Contribution → Type 0
-OneReduction cs = (c d : Contribution) → IsIn c cs → IsIn d cs → c.slot ≡ d.slot → c.reduce ≡ d.reduce
+OneReduction cs =
+    (c d : Contribution) (slot : Slot) → IsIn c cs → IsIn d cs → IsTrue (has_slot slot c.slots) → IsTrue (has_slot slot d.slots)
+    → (c.reduce ≡ d.reduce) × (c.slots ≡ d.slots)
 
 -- what contributions leave does not depend on their order
 abbrev pub SettlingTakesBags : Type 0

@@ -3,6 +3,7 @@ pub mod Stores
 pub mod Faults
 pub mod Expressions
 pub mod Contributions
+pub mod Singles
 pub mod Iterations
 pub mod Loops
 pub mod Statements

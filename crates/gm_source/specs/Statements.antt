@@ -18,7 +18,7 @@ use Rattle.gm_source.specs.declared.faults.Fault.{Fault}
 use Rattle.gm_source.specs.declared.slots.Slot.{Slot}
 use Rattle.gm_source.specs.declared.slots.Slot.TheVariants.{Scalar}
 use Rattle.gm_source.specs.Levels.{nodes, level_of, levels, no_levels}
-use Rattle.gm_source.specs.Stores.{Store, write, fill}
+use Rattle.gm_source.specs.Stores.{Store, write, write_all, fill}
 use Rattle.gm_source.specs.Expressions.{View, Answer, evaluated, value, node_of}
 use Rattle.gm_source.specs.Iterations.{Loop, assigned, at_once}
 use Rattle.gm_source.specs.Loops.{parallel, pushes}
@@ -113,6 +113,10 @@ in_turns run (a ∷ rest) body s = begin_turn run (λ t. then_do (body a t) (in_
 abbrev pub writes : State → Result (Slot × Value) Fault → Course
 writes s answer = with_value answer (λ p. with_store s (write s.store p.0 p.1))
 
+-- writes to several slots, or a fault
+abbrev pub writes_all : State → Result (List Slot × List Value) Fault → Course
+writes_all s answer = with_value answer (λ p. with_store s (write_all s.store p.0 p.1))
+
 -- a parallel loop over nodes
 abbrev pub loops : Run → (ℕ → Option ℕ) → ℕ → Key → Expr → Stmt → List ℕ → State → Course
 loops run levels x key test body ks s = with_value (parallel (loop_of run levels x body) key test body ks s.store) (with_store s)
@@ -135,7 +139,7 @@ sequential (Declare key x None) run s =
     let v = variable_at run.declarations x in with_store s (declared v.sort v.vtype x s.store)
 sequential (Declare key x (Some e)) run s = with_value (value e (view_of run s key)) (λ v. with_store s (write s.store (Scalar x) v))
 sequential (Assign key t e) run s = let w = view_of run s key in writes s (assigned w t (evaluated e w))
-sequential (Combine key total r (t ∷ []) (e ∷ [])) run s = writes s (at_once (view_of run s key) total.place r t e)
+sequential (Combine key total r ts es) run s = writes_all s (at_once (view_of run s key) total.place r ts es)
 sequential (Group key at g p e) run s =
     let body = Assign key (T.Property g p at) e in loops run no_levels g key always body (nodes run.graph) s
 sequential (Foreach key at head test body) run s = loops run no_levels head.iterator key test body (nodes run.graph) s

@@ -1,7 +1,6 @@
 //! What a program means: definitions alone, with the small types that they share with the code that computes it.
 #![tactic(auto)]
 
-pub mod contributions;
 pub mod faults;
 pub mod laws;
 pub mod slots;
