@@ -17,11 +17,47 @@ use std::test::Fail;
 const TOTAL: &str =
     "gm-image 1\nname total\ninputs 1\nnode I v 0\noutputs 1\nnode I s 1\nresult -\nglobals 0\nfields 2\nI\nI\nregisters 0\ncolumns 0\nkinds 1\n- I\nplaces 1\n2 32\nblocks 2\nblock 0\nbody 2\neach out 1\nsend 0 nb f 0\nblock 1\non 0 1\nfold sum 0 1 m 0\nbody 0\nmaster 3\nstep 0\nstep 1\nend\n";
 
+// Each node offers its value and itself to its out-neighbours, which keep the least value and the first node that has it.
+const BEST: &str =
+    "gm-image 2\nname best\ninputs 1\nnode I v 0\noutputs 2\nnode I m 1\nnode N w 2\nresult -\nglobals 0\nfields 3\nI\nI\nN\nregisters 0\ncolumns 0\nkinds 1\n- I N\nplaces 1\n4 34\nblocks 2\nblock 0\nbody 3\nset 1 c I 9\neach out 1\nsend 0 nb f 0 id\nblock 1\non 0 1\npick min 0 2 1 m 0 2 m 1\nbody 0\nmaster 3\nstep 0\nstep 1\nend\n";
+
+// All nodes offer their value and themselves to two globals, and each keeps the greatest pair of its own values besides.
+const MOST: &str =
+    "gm-image 2\nname most\ninputs 1\nnode I v 0\noutputs 3\nscalar I best 0\nscalar N who 1\nnode I w 1\nresult -\nglobals 2\nI\nN\nfields 3\nI\nI\nB\nregisters 0\ncolumns 0\nkinds 0\nplaces 2\n3 5\n4 5\nblocks 1\nblock 0\nbody 2\npick max 0 2 1 f 0 2 c B True\npickput max 1 2 0 f 0 1 id\nmaster 2\nstep 0\nend\n";
+
+// The first of these under the header of the first version, which has no such lines.
+const BEST_OF_OLD: &str =
+    "gm-image 1\nname best\ninputs 1\nnode I v 0\noutputs 2\nnode I m 1\nnode N w 2\nresult -\nglobals 0\nfields 3\nI\nI\nN\nregisters 0\ncolumns 0\nkinds 1\n- I N\nplaces 1\n4 34\nblocks 2\nblock 0\nbody 3\nset 1 c I 9\neach out 1\nsend 0 nb f 0 id\nblock 1\non 0 1\npick min 0 2 1 m 0 2 m 1\nbody 0\nmaster 3\nstep 0\nstep 1\nend\n";
+
 // A graph for it, behind the line that parts the two.
 const VALUES: &str = "%%\n0 1\n0 1\n1 1\nv 0 5\nv 1 7\n";
 
 // Images that run, and images that break a rule at a line.
-const IMAGES: [(&str, &str, &str, &str); 13] = [
+const IMAGES: [(&str, &str, &str, &str); 17] = [
+    (
+        "exec - -",
+        BEST,
+        "%%\n0 3\n1 3\n2 3\nv 0 4\nv 1 2\nv 2 2\n",
+        "node m w\n0 9 NIL\n1 9 NIL\n2 9 NIL\n3 2 1\nsupersteps 2 messages 3 turns 0\n",
+    ),
+    (
+        "exec - -",
+        BEST,
+        "%%\n0 1\n0 1\n1 1\nv 0 12\nv 1 9\n",
+        "node m w\n0 9 NIL\n1 9 NIL\nsupersteps 2 messages 3 turns 0\n",
+    ),
+    (
+        "exec - -",
+        MOST,
+        "%%\n0 1\n1 2\nv 0 3\nv 1 8\nv 2 8\n",
+        "best = 8\nwho = 1\nnode w\n0 3\n1 8\n2 8\nsupersteps 1 messages 0 turns 0\n",
+    ),
+    (
+        "exec - -",
+        BEST_OF_OLD,
+        VALUES,
+        "image BadText at line 28\n",
+    ),
     (
         "exec - - --observe",
         TOTAL,
@@ -242,9 +278,26 @@ fn is_watched(
 
 const DONE: &str = "node s\n0 0\n1 17\nsupersteps 2 messages 3 turns 0\n";
 
+const USAGE: &str =
+    "usage: gm run PROG GRAPH | check PROG | compile PROG | exec IMAGE GRAPH | demo N\n";
+
+// An image of which each node divides by its value less five, and one that turns forever.
+const DIVIDES: &str =
+    "gm-image 1\nname d\ninputs 1\nnode I v 0\noutputs 0\nresult -\nglobals 0\nfields 1\nI\nregisters 0\ncolumns 0\nkinds 0\nplaces 2\n2 4\n3 4\nblocks 1\nblock 0\nbody 1\nset 0 / 1 c I 1 - 0 f 0 c I 5\nmaster 2\nstep 0\nend\n";
+
+const SPINS: &str =
+    "gm-image 1\nname s\ninputs 0\noutputs 0\nresult -\nglobals 0\nfields 0\nregisters 0\ncolumns 0\nkinds 0\nplaces 0\nblocks 0\nmaster 3\nloop 2 c B True\nback 0\nend\n";
+
+// Programs that end, fault and turn forever.
+const ONES: &str = "Procedure p(G: Graph; a: Int) { a = Count(n: G.Nodes); }\n";
+
+const FAULTS: &str = "Procedure p(G: Graph; a: Int) { a = 1 / a; }\n";
+
+const TURNS: &str = "Procedure p(G: Graph; a: Int) { While (True) { a += 1; } }\n";
+
 // The words, the image, for how many notes the first observer has memory, the write that fails, the status, and what is
 // written. The image takes two supersteps, so two notes.
-const WATCHED: [(&str, &str, usize, u64, Status, &str); 8] = [
+const WATCHED: [(&str, &str, usize, u64, Status, &str); 16] = [
     ("exec - - --observe", TOTAL, 1, 0, Status::NoMemory, ""),
     ("exec - - --observe", TOTAL, 0, 0, Status::NoMemory, ""),
     ("exec - - --observe", TOTAL, 2, 0, Status::Done, DONE),
@@ -259,7 +312,7 @@ const WATCHED: [(&str, &str, usize, u64, Status, &str); 8] = [
     ),
     (
         "exec - - --observe",
-        "gm-image 2\n",
+        "gm-image 3\n",
         9,
         0,
         Status::BadInput,
@@ -280,6 +333,56 @@ const WATCHED: [(&str, &str, usize, u64, Status, &str); 8] = [
         0,
         Status::ReadFault,
         "absent nofile\n",
+    ),
+    (
+        "exec - - --observe",
+        DIVIDES,
+        9,
+        0,
+        Status::Fault,
+        "fault DivideByZero at 3:4\n",
+    ),
+    (
+        "exec - - --observe --turns=2",
+        SPINS,
+        9,
+        0,
+        Status::Cut,
+        "cut after 2 turns\n",
+    ),
+    ("run - -", ONES, 9, 0, Status::Done, "a = 2\nturns 0\n"),
+    (
+        "run - -",
+        FAULTS,
+        9,
+        0,
+        Status::Fault,
+        "fault DivideByZero at 1:39\n",
+    ),
+    (
+        "run - - --turns=1",
+        TURNS,
+        9,
+        0,
+        Status::Cut,
+        "cut after 1 turns\n",
+    ),
+    (
+        "run - -",
+        "Procedure",
+        9,
+        0,
+        Status::Refused,
+        "refused Syntax at 1:10\n",
+    ),
+    ("run -", ONES, 9, 0, Status::Usage, USAGE),
+    (
+        "exec - - --observe --observe",
+        TOTAL,
+        9,
+        0,
+        Status::Usage,
+        USAGE,
     ),
 ];
 
