@@ -8,7 +8,7 @@ use Rattle.gm_value.specs.declared.reductions.Reduce.{Reduce}
 use Rattle.gm_value.specs.Bag.{IsIn, SameBag, same_nil, same_cons, same_swap, same_trans}
 use Rattle.gm_value.specs.Taking.{of_rank, then_take, taken_bag, taken, TakesBags}
 use Rattle.gm_value.proofs.BagLaws.{SameBag-map, SameBag-filter, SameBag-sym, SameBag-refl, SameBag-folded}
-use Rattle.gm_value.proofs.TakingLaws.{taken-bags, then_take-ok}
+use Rattle.gm_value.proofs.TakingLaws.{taken-bags}
 use Rattle.gm_value.proofs.TupleLaws.{slots-permuted}
 use Rattle.gm_source.specs.declared.faults.Fault.{Fault}
 use Rattle.gm_source.specs.declared.slots.Slot.{Slot}
@@ -120,7 +120,7 @@ taken-empty : (r : Reduce) (n : ℕ) (cs : List Contribution) → taken statemen
 taken-empty r zero cs = refl
 taken-empty r (suc n) cs = ap (λ e. then_take e (λ v. taken_bag (close_by r) n v (of_rank statement_of n cs))) (taken-empty r n cs) ∙ bag-empty r n (of_rank statement_of n cs)
 
-taken_onto-empty : (cs : List Contribution) → taken_onto [] cs ≡ Ok []
+pub taken_onto-empty : (cs : List Contribution) → taken_onto [] cs ≡ Ok []
 taken_onto-empty [] = refl
 taken_onto-empty (c ∷ cs) = taken-empty c.reduce (statement_bound (c ∷ cs)) (c ∷ cs)
 

@@ -8,12 +8,12 @@ use Rattle.gm_value.specs.declared.reductions.Reduce.{Reduce}
 use Rattle.gm_value.specs.Bag.{IsIn}
 use Rattle.gm_value.specs.Reductions.{close}
 use Rattle.gm_value.specs.Taking.{of_rank, then_take, at_rank, taken_bag, taken}
-use Rattle.gm_value.specs.Tuples.{first_or, with_value, close_slots}
+use Rattle.gm_value.specs.Tuples.{first_or, with_value}
 use Rattle.gm_ast.specs.declared.tree.Target.{Target}
 use Rattle.gm_ast.specs.Program.{Expr}
 use Rattle.gm_source.specs.declared.faults.Fault.{Fault}
 use Rattle.gm_source.specs.declared.slots.Slot.{Slot}
-use Rattle.gm_source.specs.Stores.{Store, slot_eq, slots_eq, has_slot, read, reads}
+use Rattle.gm_source.specs.Stores.{Store, slots_eq, has_slot, read, reads}
 use Rattle.gm_source.specs.Faults.{first, then_with, unless_fault}
 use Rattle.gm_source.specs.Expressions.{View, Answer, evaluated, evaluated_all}
 use Rattle.gm_source.specs.Contributions.{Contribution, statement_of, to_target, target_of, close_by, statement_bound, taken_onto, values_or, fault_in, target_taken, value_among, value_after, target_fault}

@@ -16,7 +16,7 @@ use Rattle.gm_source.specs.declared.slots.Slot.{Slot}
 use Rattle.gm_source.specs.declared.slots.Slot.TheVariants.{Scalar}
 use Rattle.gm_source.specs.declared.slots.Write.{Write}
 use Rattle.gm_source.specs.Levels.{nodes, level_of, levels, no_levels}
-use Rattle.gm_source.specs.Stores.{Store, write, write_all, overlaid}
+use Rattle.gm_source.specs.Stores.{Store, write, overlaid}
 use Rattle.gm_source.specs.Faults.{least, unless_fault, somes, joined}
 use Rattle.gm_source.specs.Contributions.{settled_store, total_faults}
 use Rattle.gm_source.specs.Expressions.{Answer, value, settled}

@@ -1,13 +1,14 @@
 -- What passes may know of the meaning beside its definition.
-use Rattle.std.specs.Prelude.{◌≡◌, ℕ, IsTrue, List, map}
+use Rattle.std.specs.Prelude.{◌≡◌, ℕ, IsTrue, false, List, [], ◌∷◌, map, Ok}
 use Rattle.gm_value.specs.Bag.{SameBag, IsIn}
 use Rattle.gm_source.specs.declared.faults.Fault.{Fault}
 use Rattle.gm_source.specs.declared.slots.Slot.{Slot}
 use Rattle.gm_source.specs.declared.slots.Slot.TheVariants.{Scalar, Node}
 use Rattle.gm_source.specs.declared.slots.Write.{Write}
-use Rattle.gm_source.specs.Stores.{Store, has_slot}
+use Rattle.gm_value.specs.declared.values.Value.{Value}
+use Rattle.gm_source.specs.Stores.{Store, has_slot, read, reads}
 use Rattle.gm_source.specs.Faults.{least, joined}
-use Rattle.gm_source.specs.Contributions.{Contribution, settled_store, total_faults}
+use Rattle.gm_source.specs.Contributions.{Contribution, target_taken, settled_store, total_faults}
 use Rattle.gm_source.specs.Iterations.{Iteration, inner_done}
 use Rattle.gm_source.specs.Loops.{loop_done}
 
@@ -28,6 +29,24 @@ SettlingTakesBags = (s : Store) (cs other : List Contribution) → OneReduction 
 -- nor does the least fault of their totals
 abbrev pub TotalsTakeBags : Type 0
 TotalsTakeBags = (s : Store) (cs other : List Contribution) → OneReduction cs → SameBag cs other → least (total_faults s cs) ≡ least (total_faults s other)
+
+-- no slot stands twice
+abbrev pub Distinct : List Slot → Type 0
+Distinct [] = Unit {0}
+Distinct (slot ∷ slots) = (has_slot slot slots ≡ false) × Distinct slots
+
+-- the slots of a target hold what was taken onto them, whole
+abbrev pub TargetsAreWhole : Type 0
+TargetsAreWhole = (s : Store) (cs : List Contribution) (c : Contribution) (values : List Value) → OneReduction cs → IsIn c cs → Distinct c.slots
+    → target_taken s cs c.slots ≡ Ok values → reads (settled_store s cs) c.slots ≡ values
+
+-- no contribution is to a slot
+abbrev pub Away : Slot → List Contribution → Type 0
+Away slot cs = (c : Contribution) → IsIn c cs → has_slot slot c.slots ≡ false
+
+-- a slot to which nothing is given holds what it held
+abbrev pub OthersStay : Type 0
+OthersStay = (s : Store) (cs : List Contribution) (slot : Slot) → Away slot cs → read (settled_store s cs) slot ≡ read s slot
 
 -- a slot at a node
 abbrev pub IsAt : ℕ → Slot → Type 0

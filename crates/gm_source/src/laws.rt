@@ -1,7 +1,7 @@
 //! Laws of the meaning, as contracts of calls that do nothing.
 
 ghost use Rattle.gm_source.specs.Frames.{FrameOfBodies, FrameOfExpressions, FrameOfLoops, FrameOfStatements};
-ghost use Rattle.gm_source.specs.Laws.{InnerLoopTakesBags, LeastTakesBags, LoopTakesBags, SettlingTakesBags, TotalsTakeBags};
+ghost use Rattle.gm_source.specs.Laws.{InnerLoopTakesBags, LeastTakesBags, LoopTakesBags, OthersStay, SettlingTakesBags, TargetsAreWhole, TotalsTakeBags};
 
 /// What contributions leave, and which fault of them is the least, does not depend on the order in which they were
 /// given.
@@ -9,6 +9,12 @@ pub fn contributions_have_no_order()
     ensures faults { LeastTakesBags }
     ensures settling { SettlingTakesBags }
     ensures totals { TotalsTakeBags }
+{}
+
+/// What is taken onto a target stands in its slots whole, and a slot to which nothing is given holds what it held.
+pub fn targets_are_whole()
+    ensures whole { TargetsAreWhole }
+    ensures others { OthersStay }
 {}
 
 /// A loop does not depend on the order of its iterations, nor an inner loop on the order of its edges.
