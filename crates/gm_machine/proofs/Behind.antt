@@ -6,7 +6,7 @@ use Rattle.gm_graph.specs.Graphs.{Step}
 use Rattle.gm_image.specs.Program.{Line, SetField, Fold, SetRegister, Put, Send, Skip, Each}
 use Rattle.gm_image.specs.Folds.{sets_no_field}
 use Rattle.gm_machine.specs.declared.faults.Fault.{Fault}
-use Rattle.gm_machine.specs.declared.contributions.Contribution.{Contribution}
+use Rattle.gm_machine.specs.Taking.{Contribution}
 use Rattle.gm_machine.specs.Faults.{lesser}
 use Rattle.gm_machine.specs.Expressions.{value, values}
 use Rattle.gm_machine.specs.Taking.{settled}

@@ -1,8 +1,8 @@
 -- The step of a vertex takes the messages of each combinable kind by their total.
 use Rattle.std.proofs.Common.{inl, inr, ◌≡◌, ◌≢◌, ◌<◌, ◌≤◌, ◌+◌, ℕ, zero, suc, ℤ, true, cond, nat_eq, Option, Some, None, Result, Ok, Err, List, [], ◌∷◌, ◌++◌, map, find, length, refl, sym, ap, subst, ◌∙◌, arith, ⊎_elim}
-use Rattle.std.specs.Prelude.{◌⊎◌, IsTrue, slice_get, slice_index_or}
+use Rattle.std.specs.Prelude.{◌⊎◌, ◌==◌, ◌&&◌, ◌||◌, Bool, false, IsTrue, slice_get, slice_index_or}
 use Rattle.std.specs.Option.{option_and_then}
-use Rattle.std.specs.List.{list_all, flat_map, range_with_len, enumerate_from}
+use Rattle.std.specs.List.{list_all, list_any, flat_map, range_with_len, enumerate_from}
 use Rattle.std.proofs.lemmas.Bool.{and_parts, cases_eq, eq-eqb, ne_eqb, eqb-true}
 use Rattle.std.proofs.lemmas.List.{map-append}
 use Rattle.std.proofs.lemmas.List.Concat.{flat_map-append}
@@ -14,6 +14,9 @@ use Rattle.gm_value.specs.declared.reductions.Reduce.TheVariants as reduce
 use Rattle.gm_value.specs.Bag.{SameBag, same_nil, same_cons, same_trans}
 use Rattle.gm_value.specs.Numbers.{number_of, type_of, zero_of, checked}
 use Rattle.gm_value.specs.Reductions.{combined, unit_of, total}
+use Rattle.gm_value.specs.Tuples.{first_or}
+use Rattle.gm_value.proofs.TakingLaws.{taken-bags}
+use Rattle.gm_image.specs.Parts.{is_among}
 use Rattle.gm_value.specs.Taking.{of_rank, then_take, at_rank, taken_bag, taken}
 use Rattle.gm_value.proofs.BagLaws.{SameBag-sym, SameBag-filter, SameBag-map, SameBag-folded}
 use Rattle.gm_value.proofs.MonoidLaws.{combined_assoc, combined_comm, combined_exchange}
@@ -22,23 +25,23 @@ use Rattle.gm_image.specs.declared.images.Kind.{Kind}
 use Rattle.gm_image.specs.Term as T
 use Rattle.gm_image.specs.Program.{Program, Block, Handler, Line, Fold}
 use Rattle.gm_image.specs.Rows.{Row, Plain, HandlerRow, block_rows, handlers_rows, handler_rows, handled_lines, body_rows, outside}
-use Rattle.gm_image.specs.Folds.{same_reduce, is_its_value, is_combining, combines, handles, of_other_kinds}
+use Rattle.gm_image.specs.Folds.{Reduction, same_numbers, same_reduce, is_its_value, is_combining, combines, handles, of_other_kinds}
 use Rattle.gm_image.specs.Soundness.{keeps, keeps_all, image_rules, is_sound}
 use Rattle.gm_machine.specs.declared.faults.Fault.{Fault}
-use Rattle.gm_machine.specs.declared.contributions.Contribution.{Contribution}
-use Rattle.gm_machine.specs.Faults.{lesser, least_from}
-use Rattle.gm_machine.specs.Taking.{to_slot, answer_of, closed, overflow_at, slot_after, value_or, fault_of, value_after, fault_after, settled, Settled}
-use Rattle.gm_machine.specs.Expressions.{value, values}
+use Rattle.gm_machine.specs.Faults.{lesser, least_from, then_go}
+use Rattle.gm_machine.specs.Taking.{Contribution, has_slot, first_reduction, to_target, closed, overflow_at, entry_of, slot_by, slot_after, value_or, fault_of, value_after, fault_after, settled, Settled}
+use Rattle.gm_machine.specs.Expressions.{value, values, value_at}
 use Rattle.gm_machine.specs.Vertex.{Message, VertexContext, VertexState, After, goes_on, lines_after, ended, handler_lines, lines_of, handler_run, gathered, begun, body_after, vertex_after}
 use Rattle.gm_machine.specs.Machine.{block_at, no_block}
-use Rattle.gm_machine.specs.Settling.{place_of}
+use Rattle.gm_machine.specs.Settling.{answer_of, are_some}
 use Rattle.gm_machine.specs.Laws.{SameStep, LinesFoldBy, HandlersFoldBy}
 use Rattle.gm_machine.proofs.LeastLaws.{lesser-assoc, least_right, least_from-right, least-permuted}
 use Rattle.gm_machine.proofs.SoundHandlers.{all_front, all_back, all_first, all_rest, all_at, blocks_pass}
 use Rattle.gm_machine.proofs.SoundFolds.{reduction_in, same_reduce-is, sound-folds}
 use Rattle.gm_machine.specs.Combining.{combiner, carried, of_kind, more_exact, exact_of, SameKind, SameInboxes}
 use Rattle.gm_machine.proofs.BagLemmas.{same_as, SameBag-both, flat_map-permuted, flat_map-map, map-map, flat-loses, flat-none}
-use Rattle.gm_machine.proofs.OrderLaws.{AreBy, lines-by, handler-by, runs-by, slot-all, taken-all, map-each, idle, goes-permuted}
+use Rattle.gm_machine.proofs.OrderLaws.{AreBy, lines-by, handler-by, runs-by, first-by, slot-among, any-permuted, closed-bags, map-each, idle, goes-permuted}
+use Rattle.gm_machine.proofs.SingleSteps.{firsts_of, closed_first, in_list, taken-single}
 
 -- exact totals: those of two bags together
 abbrev joined : Reduce → Option ℤ → Option ℤ → Option ℤ
@@ -73,15 +76,15 @@ total-exact r t (v ∷ bag) = ap (combined r (number_of v)) (total-exact r t bag
   by None = refl
   by (Some e) = sym (combined_assoc r (number_of v) e (unit_of r t))
 
--- a closing takes its contributions by their exact total
-bag-same : (r : Reduce) (s : ℕ) (held : Value) (cs ds : List Contribution) → exact_of r (map (λ c. c.value) cs) ≡ exact_of r (map (λ c. c.value) ds) →
-    taken_bag (closed r) s held cs ≡ taken_bag (closed r) s held ds
+-- a closing of one slot takes its contributions by their exact total
+bag-same : (r : Reduce) (s : ℕ) (held : Value) (cs ds : List Contribution) → exact_of r (firsts_of held cs) ≡ exact_of r (firsts_of held ds) →
+    taken_bag (closed_first r) s held cs ≡ taken_bag (closed_first r) s held ds
 bag-same r s held [] [] e = refl
 bag-same r s held [] (d ∷ ds) e = cc
 bag-same r s held (c ∷ cs) [] e = cc
 bag-same r s held (c ∷ cs) (d ∷ ds) e =
-    let totals : total r (type_of held) (map (λ c. c.value) (c ∷ cs)) ≡ total r (type_of held) (map (λ c. c.value) (d ∷ ds)) =
-    total-exact r (type_of held) (map (λ c. c.value) (c ∷ cs)) ∙ ap (total_of r (type_of held)) e ∙ sym (total-exact r (type_of held) (map (λ c. c.value) (d ∷ ds))) in
+    let totals : total r (type_of held) (firsts_of held (c ∷ cs)) ≡ total r (type_of held) (firsts_of held (d ∷ ds)) =
+    total-exact r (type_of held) (firsts_of held (c ∷ cs)) ∙ ap (total_of r (type_of held)) e ∙ sym (total-exact r (type_of held) (firsts_of held (d ∷ ds))) in
     ap (λ z. at_rank s (answer_of (checked (type_of held) (combined r (number_of held) z)))) totals
 
 taken-each : {C V : Type 0} (rank : C → ℕ) (close : V → List C → Option V) (n : ℕ) (held : V) (cs ds : List C) →
@@ -94,6 +97,14 @@ taken-each rank close (suc n) held cs ds same =
     each : (r : Result _ ℕ) → then_take r (λ v. taken_bag close n v (of_rank rank n cs)) ≡ then_take r (λ v. taken_bag close n v (of_rank rank n ds))
     each (Ok v) = same n v
     each (Err e) = refl
+
+and-off : (b : Bool) → b && false ≡ false
+and-off true = refl
+and-off false = refl
+
+or-off : (b : Bool) → b || false ≡ b
+or-off true = refl
+or-off false = refl
 
 -- messages by their kinds
 abbrev top : List Message → ℕ
@@ -213,15 +224,15 @@ module _ (p : Program) (k : ℕ) (r : Reduce) (has : combiner p k ≡ Some r) wh
   sound-shape sound q = blocks-shape p.blocks (blocks_pass p sound) q
 
 -- what the handler of a combinable kind does for each of its messages
-pub record Does (reduction : ℕ → Reduce) (r : Reduce) (run : Message → After) (k : ℕ) : Type 0 where
+pub record Does (reduction : ℕ → Reduction) (r : Reduce) (run : Message → After) (k : ℕ) : Type 0 where
   pub given : Value → List Contribution
-  pub shape : ((v : Value) → given v ≡ []) ⊎ ((place : ℕ) × (slot : ℕ) × ((r ≡ reduction slot) × ((v : Value) → given v ≡ record { place = place; reduce = r; slot = slot; value = v } ∷ [])))
+  pub shape : ((v : Value) → given v ≡ []) ⊎ ((place : ℕ) × (slot : ℕ) × ((record { reduce = r; slots = slot ∷ [] } ≡ reduction slot) × ((v : Value) → given v ≡ record { place = place; reduce = r; slots = slot ∷ []; values = v ∷ [] } ∷ [])))
   pub folds : (m : Message) → m.kind ≡ k → (run m).state.folds ≡ given (carried m)
   pub messages : (m : Message) → m.kind ≡ k → (run m).state.messages ≡ []
   pub puts : (m : Message) → m.kind ≡ k → (run m).state.puts ≡ []
   pub fault : (m : Message) → m.kind ≡ k → (run m).fault ≡ None
 
-does-by : (reduction : ℕ → Reduce) (r : Reduce) (s : VertexContext) (hs : List Handler) (start : VertexState) (k : ℕ) → start.folds ≡ [] → start.messages ≡ [] → start.puts ≡ [] →
+does-by : (reduction : ℕ → Reduction) (r : Reduce) (s : VertexContext) (hs : List Handler) (start : VertexState) (k : ℕ) → start.folds ≡ [] → start.messages ≡ [] → start.puts ≡ [] →
     {ls : List Line} → Shape r ls → handler_lines hs k ≡ ls → LinesFoldBy reduction ls → Does reduction r (handler_run s hs start) k
 does-by reduction r s hs start k none_folded none_sent none_put no_lines is by = record {
   given = λ v. [];
@@ -232,44 +243,45 @@ does-by reduction r s hs start k none_folded none_sent none_put no_lines is by =
   fault = λ m at. ap (λ ls. (lines_after (record s { message = m.values }) ls 0 start).fault) (ap (handler_lines hs) at ∙ is);
 }
 does-by reduction r s hs start k none_folded none_sent none_put (one_line place slot) is by = record {
-  given = λ v. record { place = place; reduce = r; slot = slot; value = v } ∷ [];
+  given = λ v. record { place = place; reduce = r; slots = slot ∷ []; values = v ∷ [] } ∷ [];
   shape = inr (place, slot, (by.0.0, λ v. refl));
   folds = λ m at.
       ap (λ ls. (lines_after (record s { message = m.values }) ls 0 start).state.folds) (ap (handler_lines hs) at ∙ is)
-      ∙ ap (λ fs. fs ++ record { place = place; reduce = r; slot = slot; value = carried m } ∷ []) none_folded;
+      ∙ ap (λ fs. fs ++ record { place = place; reduce = r; slots = slot ∷ []; values = carried m ∷ [] } ∷ []) none_folded;
   messages = λ m at. ap (λ ls. (lines_after (record s { message = m.values }) ls 0 start).state.messages) (ap (handler_lines hs) at ∙ is) ∙ none_sent;
   puts = λ m at. ap (λ ls. (lines_after (record s { message = m.values }) ls 0 start).state.puts) (ap (handler_lines hs) at ∙ is) ∙ none_put;
   fault = λ m at. ap (λ ls. (lines_after (record s { message = m.values }) ls 0 start).fault) (ap (handler_lines hs) at ∙ is);
 }
 
--- the values that contributions give to a slot at a place
-module _ (slot s : ℕ) where
+-- the first values that contributions give to a slot alone at a place
+module _ (slot s : ℕ) (h : Value) where
   abbrev values_at : List Contribution → List Value
-  values_at cs = map (λ c. c.value) (of_rank place_of s (to_slot slot cs))
+  values_at cs = firsts_of h (of_rank (λ c. c.place) s (to_target (slot ∷ []) cs))
 
   values-append : (cs ds : List Contribution) → values_at (cs ++ ds) ≡ values_at cs ++ values_at ds
   values-append cs ds =
-      ap (λ l. map (λ c. c.value) (of_rank place_of s l)) (filter-append (λ c. nat_eq c.slot slot) cs ds)
-      ∙ ap (map (λ c. c.value)) (filter-append (λ c. nat_eq (place_of c) s) (to_slot slot cs) (to_slot slot ds))
-      ∙ map-append (λ c. c.value) (of_rank place_of s (to_slot slot cs)) (of_rank place_of s (to_slot slot ds))
+      ap (λ l. firsts_of h (of_rank (λ c. c.place) s l)) (filter-append (λ c. same_numbers c.slots (slot ∷ [])) cs ds)
+      ∙ ap (firsts_of h) (filter-append (λ c. nat_eq c.place s) (to_target (slot ∷ []) cs) (to_target (slot ∷ []) ds))
+      ∙ ap (map (first_or h)) (map-append (λ c. c.values) (of_rank (λ c. c.place) s (to_target (slot ∷ []) cs)) (of_rank (λ c. c.place) s (to_target (slot ∷ []) ds)))
+      ∙ map-append (first_or h) (map (λ c. c.values) (of_rank (λ c. c.place) s (to_target (slot ∷ []) cs))) (map (λ c. c.values) (of_rank (λ c. c.place) s (to_target (slot ∷ []) ds)))
 
   -- contributions that are all to one slot and at one place
-  module _ (r : Reduce) (place other : ℕ) (given : Value → List Contribution) (is : (v : Value) → given v ≡ record { place = place; reduce = r; slot = other; value = v } ∷ []) where
+  module _ (r : Reduce) (place other : ℕ) (given : Value → List Contribution) (is : (v : Value) → given v ≡ record { place = place; reduce = r; slots = other ∷ []; values = v ∷ [] } ∷ []) where
     abbrev one : Value → Contribution
-    one v = record { place = place; reduce = r; slot = other; value = v }
+    one v = record { place = place; reduce = r; slots = other ∷ []; values = v ∷ [] }
 
     one-hit : other ≡ slot → place ≡ s → (v : Value) → values_at (one v ∷ []) ≡ v ∷ []
     one-hit here now v =
-        ap (λ b. map (λ c. c.value) (of_rank place_of s (cond b (one v ∷ []) []))) (eq-eqb other slot here)
-        ∙ ap (λ b. map (λ c. c.value) (cond b (one v ∷ []) [])) (eq-eqb place s now)
+        ap (λ b. firsts_of h (of_rank (λ c. c.place) s (cond (b && true) (one v ∷ []) []))) (eq-eqb other slot here)
+        ∙ ap (λ b. firsts_of h (cond b (one v ∷ []) [])) (eq-eqb place s now)
 
     one-elsewhere : (other ≡ slot → ⊥) → (v : Value) → values_at (one v ∷ []) ≡ []
-    one-elsewhere away v = ap (λ b. map (λ c. c.value) (of_rank place_of s (cond b (one v ∷ []) []))) (ne_eqb other slot away)
+    one-elsewhere away v = ap (λ b. firsts_of h (of_rank (λ c. c.place) s (cond (b && true) (one v ∷ []) []))) (ne_eqb other slot away)
 
     one-later : other ≡ slot → (place ≡ s → ⊥) → (v : Value) → values_at (one v ∷ []) ≡ []
     one-later here away v =
-        ap (λ b. map (λ c. c.value) (of_rank place_of s (cond b (one v ∷ []) []))) (eq-eqb other slot here)
-        ∙ ap (λ b. map (λ c. c.value) (cond b (one v ∷ []) [])) (ne_eqb place s away)
+        ap (λ b. firsts_of h (of_rank (λ c. c.place) s (cond (b && true) (one v ∷ []) []))) (eq-eqb other slot here)
+        ∙ ap (λ b. firsts_of h (cond b (one v ∷ []) [])) (ne_eqb place s away)
 
     all-hit : ((v : Value) → values_at (one v ∷ []) ≡ v ∷ []) → (vs : List Value) → values_at (flat_map given vs) ≡ vs
     all-hit each [] = refl
@@ -286,6 +298,35 @@ module _ (slot s : ℕ) where
         ∙ ap (λ l. values_at l ++ values_at (flat_map given vs)) (is v)
         ∙ ap (λ l. l ++ values_at (flat_map given vs)) (each v)
         ∙ all-miss each vs
+
+-- whether contributions to one slot have a slot: one does, and all do
+one-has : (slot other place : ℕ) (r : Reduce) (given : Value → List Contribution) → ((v : Value) → given v ≡ record { place = place; reduce = r; slots = other ∷ []; values = v ∷ [] } ∷ []) →
+    (vs : List Value) → list_any (has_slot slot) (flat_map given vs) ≡ (other == slot && are_some vs)
+one-has slot other place r given is [] = and_off (other == slot) where
+  and_off : (b : Bool) → false ≡ b && false
+  and_off true = refl
+  and_off false = refl
+one-has slot other place r given is (v ∷ vs) =
+    ap (λ l. list_any (has_slot slot) (l ++ flat_map given vs)) (is v)
+    ∙ ap (λ b. ((other == slot) || false) || b) (one-has slot other place r given is vs)
+    ∙ by (other == slot) (are_some vs)
+  where
+    by : (b some : Bool) → (b || false) || (b && some) ≡ (b && true)
+    by true some = refl
+    by false some = refl
+
+exact-some : (r : Reduce) (vs ws : List Value) → exact_of r vs ≡ exact_of r ws → are_some vs ≡ are_some ws
+exact-some r [] [] e = refl
+exact-some r [] (w ∷ ws) e = cc
+exact-some r (v ∷ vs) [] e = cc
+exact-some r (v ∷ vs) (w ∷ ws) e = refl
+
+any-append : {A : Type 0} (test : A → Bool) (xs ys : List A) → list_any test (xs ++ ys) ≡ (list_any test xs || list_any test ys)
+any-append test [] ys = refl
+any-append test (x ∷ xs) ys = ap (λ b. test x || b) (any-append test xs ys) ∙ by (test x) (list_any test xs) (list_any test ys) where
+  by : (a b c : Bool) → a || (b || c) ≡ (a || b) || c
+  by true b c = refl
+  by false b c = refl
 
 none-given : (given : Value → List Contribution) → ((v : Value) → given v ≡ []) → (vs : List Value) → flat_map given vs ≡ []
 none-given given none [] = refl
@@ -336,7 +377,7 @@ least-joins (f ∷ fs) gs = ap (lesser f) (least-joins fs gs) ∙ sym (lesser-as
 least-bags : {fs gs : List (Option Fault)} → SameBag fs gs → least_right fs ≡ least_right gs
 least-bags {fs} {gs} same = sym (least_from-right None fs) ∙ least-permuted same ∙ least_from-right None gs
 
-module _ (p : Program) (reduction : ℕ → Reduce) (run : Message → After) (does : (k : ℕ) (r : Reduce) → combiner p k ≡ Some r → Does reduction r run k)
+module _ (p : Program) (reduction : ℕ → Reduction) (run : Message → After) (does : (k : ℕ) (r : Reduce) → combiner p k ≡ Some r → Does reduction r run k)
     (ms ns : List Message) (alike : SameInboxes p ms ns) where
   abbrev folds : List Message → List Contribution
   folds xs = flat_map (λ m. (run m).state.folds) xs
@@ -363,78 +404,157 @@ module _ (p : Program) (reduction : ℕ → Reduce) (run : Message → After) (d
       one k None is same = least-bags (SameBag-map (λ m. (run m).fault) same)
       one k (Some r) is same = no-faults k run (does k r is).fault ms ∙ sym (no-faults k run (does k r is).fault ns)
 
-  module _ (slot s : ℕ) where
+  -- whether a slot is folded
+  any-alike : (slot : ℕ) → list_any (has_slot slot) (folds ms) ≡ list_any (has_slot slot) (folds ns)
+  any-alike slot =
+      by-kinds (λ xs. list_any (has_slot slot) (folds xs)) (λ a b. a || b)
+      (λ xs ys. ap (list_any (has_slot slot)) (flat_map-append (λ m. (run m).state.folds) xs ys) ∙ any-append (has_slot slot) (folds xs) (folds ys))
+      bags ms ns (λ k. one k (combiner p k) refl (alike k))
+    where
+      bags : (xs ys : List Message) → SameBag xs ys → list_any (has_slot slot) (folds xs) ≡ list_any (has_slot slot) (folds ys)
+      bags xs ys same = any-permuted (has_slot slot) (flat_map-permuted (λ m. (run m).state.folds) same)
+
+      made : (k : ℕ) (r : Reduce) (is : combiner p k ≡ Some r) (xs : List Message) → list_any (has_slot slot) (folds (of_kind k xs)) ≡ list_any (has_slot slot) (flat_map (does k r is).given (map carried (of_kind k xs)))
+      made k r is xs = ap (list_any (has_slot slot)) (gathers k (λ m. (run m).state.folds) (does k r is).given (does k r is).folds xs)
+
+      by : (k : ℕ) (r : Reduce) (is : combiner p k ≡ Some r) → exact_of r (map carried (of_kind k ms)) ≡ exact_of r (map carried (of_kind k ns)) →
+          ((v : Value) → (does k r is).given v ≡ []) ⊎ ((place : ℕ) × (other : ℕ) × ((record { reduce = r; slots = other ∷ [] } ≡ reduction other) × ((v : Value) → (does k r is).given v ≡ record { place = place; reduce = r; slots = other ∷ []; values = v ∷ [] } ∷ []))) →
+          list_any (has_slot slot) (folds (of_kind k ms)) ≡ list_any (has_slot slot) (folds (of_kind k ns))
+      by k r is same (inl none) =
+          made k r is ms ∙ ap (list_any (has_slot slot)) (none-given (does k r is).given none (map carried (of_kind k ms)))
+          ∙ sym (made k r is ns ∙ ap (list_any (has_slot slot)) (none-given (does k r is).given none (map carried (of_kind k ns))))
+      by k r is same (inr h) =
+          made k r is ms
+          ∙ one-has slot h.1 h.0 r (does k r is).given h.2.1 (map carried (of_kind k ms))
+          ∙ ap (λ b. h.1 == slot && b) (exact-some r (map carried (of_kind k ms)) (map carried (of_kind k ns)) same)
+          ∙ sym (made k r is ns ∙ one-has slot h.1 h.0 r (does k r is).given h.2.1 (map carried (of_kind k ns)))
+
+      one : (k : ℕ) (o : Option Reduce) → combiner p k ≡ o → SameKind o (of_kind k ms) (of_kind k ns) → list_any (has_slot slot) (folds (of_kind k ms)) ≡ list_any (has_slot slot) (folds (of_kind k ns))
+      one k None is same = bags (of_kind k ms) (of_kind k ns) same
+      one k (Some r) is same = by k r is same (does k r is).shape
+
+  -- the contributions to several slots: no combinable kind gives any
+  bags-alike : (slots : List ℕ) → ((slot : ℕ) → same_numbers (slot ∷ []) slots ≡ false) → SameBag (to_target slots (folds ms)) (to_target slots (folds ns))
+  bags-alike slots several =
+      same_trans (same_as (target-each ms))
+      (same_trans (lists-alike (λ m. to_target slots (run m).state.folds) (λ k r is m at. ap (to_target slots) ((does k r is).folds m at) ∙ none k r is (carried m) (does k r is).shape)) (same_as (sym (target-each ns))))
+    where
+      target-each : (xs : List Message) → to_target slots (folds xs) ≡ flat_map (λ m. to_target slots (run m).state.folds) xs
+      target-each [] = refl
+      target-each (m ∷ xs) =
+          filter-append (λ c. same_numbers c.slots slots) (run m).state.folds (folds xs) ∙ ap (λ l. to_target slots (run m).state.folds ++ l) (target-each xs)
+
+      none : (k : ℕ) (r : Reduce) (is : combiner p k ≡ Some r) (v : Value) →
+          ((v : Value) → (does k r is).given v ≡ []) ⊎ ((place : ℕ) × (other : ℕ) × ((record { reduce = r; slots = other ∷ [] } ≡ reduction other) × ((v : Value) → (does k r is).given v ≡ record { place = place; reduce = r; slots = other ∷ []; values = v ∷ [] } ∷ []))) →
+          to_target slots ((does k r is).given v) ≡ []
+      none k r is v (inl nothing) = ap (to_target slots) (nothing v)
+      none k r is v (inr h) =
+          ap (to_target slots) (h.2.1 v)
+          ∙ ap (λ b. cond b (record { place = h.0; reduce = r; slots = h.1 ∷ []; values = v ∷ [] } ∷ []) []) (several h.1)
+
+  module _ (slot : ℕ) (q : Reduce) (own : reduction slot ≡ record { reduce = q; slots = slot ∷ [] }) (s : ℕ) (h : Value) where
     abbrev exact_at : List Message → Option ℤ
-    exact_at xs = exact_of (reduction slot) (values_at slot s (folds xs))
+    exact_at xs = exact_of q (values_at slot s h (folds xs))
 
     exact-kind : (k : ℕ) (r : Reduce) → combiner p k ≡ Some r → exact_of r (map carried (of_kind k ms)) ≡ exact_of r (map carried (of_kind k ns)) → exact_at (of_kind k ms) ≡ exact_at (of_kind k ns)
-    exact-kind k r is same = by d.shape where
-      d : Does reduction r run k
-      d = does k r is
+    exact-kind k r is same = by (does k r is).shape where
+      made : (xs : List Message) → exact_at (of_kind k xs) ≡ exact_of q (values_at slot s h (flat_map (does k r is).given (map carried (of_kind k xs))))
+      made xs = ap (λ l. exact_of q (values_at slot s h l)) (gathers k (λ m. (run m).state.folds) (does k r is).given (does k r is).folds xs)
 
-      made : (xs : List Message) → exact_at (of_kind k xs) ≡ exact_of (reduction slot) (values_at slot s (flat_map (does k r is).given (map carried (of_kind k xs))))
-      made xs = ap (λ l. exact_of (reduction slot) (values_at slot s l)) (gathers k (λ m. (run m).state.folds) (does k r is).given (does k r is).folds xs)
-
-      nothing : ((vs : List Value) → values_at slot s (flat_map (does k r is).given vs) ≡ []) → exact_at (of_kind k ms) ≡ exact_at (of_kind k ns)
+      nothing : ((vs : List Value) → values_at slot s h (flat_map (does k r is).given vs) ≡ []) → exact_at (of_kind k ms) ≡ exact_at (of_kind k ns)
       nothing none =
-          made ms ∙ ap (exact_of (reduction slot)) (none (map carried (of_kind k ms)))
-          ∙ sym (made ns ∙ ap (exact_of (reduction slot)) (none (map carried (of_kind k ns))))
+          made ms ∙ ap (exact_of q) (none (map carried (of_kind k ms)))
+          ∙ sym (made ns ∙ ap (exact_of q) (none (map carried (of_kind k ns))))
 
-      by : ((v : Value) → (does k r is).given v ≡ []) ⊎ ((place : ℕ) × (slot : ℕ) × ((r ≡ reduction slot) × ((v : Value) → (does k r is).given v ≡ record { place = place; reduce = r; slot = slot; value = v } ∷ []))) →
+      by : ((v : Value) → (does k r is).given v ≡ []) ⊎ ((place : ℕ) × (other : ℕ) × ((record { reduce = r; slots = other ∷ [] } ≡ reduction other) × ((v : Value) → (does k r is).given v ≡ record { place = place; reduce = r; slots = other ∷ []; values = v ∷ [] } ∷ []))) →
           exact_at (of_kind k ms) ≡ exact_at (of_kind k ns)
-      by (inl none) = nothing (λ vs. ap (values_at slot s) (none-given (does k r is).given none vs))
-      by (inr h) =
+      by (inl none) = nothing (λ vs. ap (values_at slot s h) (none-given (does k r is).given none vs))
+      by (inr g) =
           ⊎_elim
-          (λ (here : h.1 ≡ slot).
+          (λ (here : g.1 ≡ slot).
           ⊎_elim
-          (λ (now : h.0 ≡ s).
-          let all : (vs : List Value) → values_at slot s (flat_map (does k r is).given vs) ≡ vs =
-          all-hit slot s r h.0 h.1 (does k r is).given h.2.1 (one-hit slot s r h.0 h.1 (does k r is).given h.2.1 here now) in
-          let same_reduction : reduction slot ≡ r = ap reduction (sym here) ∙ sym h.2.0 in
+          (λ (now : g.0 ≡ s).
+          let all : (vs : List Value) → values_at slot s h (flat_map (does k r is).given vs) ≡ vs =
+          all-hit slot s h r g.0 g.1 (does k r is).given g.2.1 (one-hit slot s h r g.0 g.1 (does k r is).given g.2.1 here now) in
+          let same_reduction : q ≡ r = sym (ap (λ (x : Reduction). x.reduce) (g.2.0 ∙ ap reduction here ∙ own)) in
           made ms
-          ∙ ap (exact_of (reduction slot)) (all (map carried (of_kind k ms)))
-          ∙ ap (λ q. exact_of q (map carried (of_kind k ms))) same_reduction
+          ∙ ap (exact_of q) (all (map carried (of_kind k ms)))
+          ∙ ap (λ x. exact_of x (map carried (of_kind k ms))) same_reduction
           ∙ same
           ∙ sym (
           made ns
-          ∙ ap (exact_of (reduction slot)) (all (map carried (of_kind k ns)))
-          ∙ ap (λ q. exact_of q (map carried (of_kind k ns))) same_reduction))
-          (λ (away : h.0 ≡ s → ⊥). nothing (all-miss slot s r h.0 h.1 (does k r is).given h.2.1 (one-later slot s r h.0 h.1 (does k r is).given h.2.1 here away)))
-          (cases_eq h.0 s))
-          (λ (away : h.1 ≡ slot → ⊥). nothing (all-miss slot s r h.0 h.1 (does k r is).given h.2.1 (one-elsewhere slot s r h.0 h.1 (does k r is).given h.2.1 away)))
-          (cases_eq h.1 slot)
+          ∙ ap (exact_of q) (all (map carried (of_kind k ns)))
+          ∙ ap (λ x. exact_of x (map carried (of_kind k ns))) same_reduction))
+          (λ (away : g.0 ≡ s → ⊥). nothing (all-miss slot s h r g.0 g.1 (does k r is).given g.2.1 (one-later slot s h r g.0 g.1 (does k r is).given g.2.1 here away)))
+          (cases_eq g.0 s))
+          (λ (away : g.1 ≡ slot → ⊥). nothing (all-miss slot s h r g.0 g.1 (does k r is).given g.2.1 (one-elsewhere slot s h r g.0 g.1 (does k r is).given g.2.1 away)))
+          (cases_eq g.1 slot)
 
     exact-alike : exact_at ms ≡ exact_at ns
     exact-alike =
-        by-kinds exact_at (joined (reduction slot))
+        by-kinds exact_at (joined q)
         (λ xs ys.
-        ap (λ l. exact_of (reduction slot) (values_at slot s l)) (flat_map-append (λ m. (run m).state.folds) xs ys)
-        ∙ ap (exact_of (reduction slot)) (values-append slot s (folds xs) (folds ys))
-        ∙ exact-append (reduction slot) (values_at slot s (folds xs)) (values_at slot s (folds ys)))
+        ap (λ l. exact_of q (values_at slot s h l)) (flat_map-append (λ m. (run m).state.folds) xs ys)
+        ∙ ap (exact_of q) (values-append slot s h (folds xs) (folds ys))
+        ∙ exact-append q (values_at slot s h (folds xs)) (values_at slot s h (folds ys)))
         bags ms ns (λ k. one k (combiner p k) refl (alike k))
       where
         bags : (xs ys : List Message) → SameBag xs ys → exact_at xs ≡ exact_at ys
-        bags xs ys same = exact-permuted (reduction slot) (SameBag-map (λ c. c.value) (SameBag-filter (λ c. nat_eq (place_of c) s) (SameBag-filter (λ c. nat_eq c.slot slot) (flat_map-permuted (λ m. (run m).state.folds) same))))
+        bags xs ys same = exact-permuted q (SameBag-map (first_or h) (SameBag-map (λ c. c.values) (SameBag-filter (λ c. nat_eq c.place s) (SameBag-filter (λ c. same_numbers c.slots (slot ∷ [])) (flat_map-permuted (λ m. (run m).state.folds) same)))))
 
         one : (k : ℕ) (o : Option Reduce) → combiner p k ≡ o → SameKind o (of_kind k ms) (of_kind k ns) → exact_at (of_kind k ms) ≡ exact_at (of_kind k ns)
         one k None is same = bags (of_kind k ms) (of_kind k ns) same
         one k (Some r) is same = exact-kind k r is same
 
   module _ (by : AreBy reduction (folds ms)) (also : AreBy reduction (folds ns)) (places : ℕ) where
-    slot-alike : (slot : ℕ) (held : Value) → slot_after places (folds ms) slot held ≡ slot_after places (folds ns) slot held
+    abbrev taken_by : Reduction → List Value → List Contribution → Result (List Value) ℕ
+    taken_by q held cs = taken (λ c. c.place) (closed q.reduce) places (map (value_at held) q.slots) (to_target q.slots cs)
+
+    -- what the slots of a slot's reduction hold
+    target-alike : (slot : ℕ) (held : List Value) → is_among slot (reduction slot).slots ≡ true → taken_by (reduction slot) held (folds ms) ≡ taken_by (reduction slot) held (folds ns)
+    target-alike slot held among = each (reduction slot) refl among where
+      each : (q : Reduction) → reduction slot ≡ q → is_among slot q.slots ≡ true → taken_by q held (folds ms) ≡ taken_by q held (folds ns)
+      each q is has = of_slots q.slots refl where
+        several : (slots : List ℕ) → q.slots ≡ slots → ((other : ℕ) → same_numbers (other ∷ []) slots ≡ false) → taken_by q held (folds ms) ≡ taken_by q held (folds ns)
+        several slots are lone =
+            taken-bags (λ c. c.place) (closed q.reduce) (closed-bags q.reduce) places (map (value_at held) q.slots) (to_target q.slots (folds ms)) (to_target q.slots (folds ns))
+            (bags-alike q.slots (λ other. ap (same_numbers (other ∷ [])) are ∙ lone other))
+
+        of_slots : (slots : List ℕ) → q.slots ≡ slots → taken_by q held (folds ms) ≡ taken_by q held (folds ns)
+        of_slots [] are = several [] are (λ other. refl)
+        of_slots (t ∷ (u ∷ more)) are = several (t ∷ (u ∷ more)) are (λ other. and-off (nat_eq other t))
+        of_slots (t ∷ []) are =
+            let here : t ≡ slot = eqb-true t slot (sym (or-off (t == slot)) ∙ sym (ap (is_among slot) are) ∙ has) in
+            let slots_are : q.slots ≡ slot ∷ [] = are ∙ ap (λ x. x ∷ []) here in
+            let made : List ℕ → Reduction = λ slots. record { reduce = q.reduce; slots = slots } in
+            let own : reduction slot ≡ record { reduce = q.reduce; slots = slot ∷ [] } = is ∙ ap made slots_are in
+            ap (λ slots. taken (λ c. c.place) (closed q.reduce) places (map (value_at held) slots) (to_target slots (folds ms))) slots_are
+            ∙ taken-single q.reduce places (value_at held slot) (to_target (slot ∷ []) (folds ms))
+            ∙ ap in_list (taken-each (λ c. c.place) (closed_first q.reduce) places (value_at held slot) (to_target (slot ∷ []) (folds ms)) (to_target (slot ∷ []) (folds ns))
+            (λ s v. bag-same q.reduce s v (of_rank (λ c. c.place) s (to_target (slot ∷ []) (folds ms))) (of_rank (λ c. c.place) s (to_target (slot ∷ []) (folds ns))) (exact-alike slot q.reduce own s v)))
+            ∙ sym (
+            ap (λ slots. taken (λ c. c.place) (closed q.reduce) places (map (value_at held) slots) (to_target slots (folds ns))) slots_are
+            ∙ taken-single q.reduce places (value_at held slot) (to_target (slot ∷ []) (folds ns)))
+
+    slot-alike : (slot : ℕ) (held : List Value) → slot_after places (folds ms) held slot ≡ slot_after places (folds ns) held slot
     slot-alike slot held =
-        taken-all (reduction slot) places held (to_slot slot (folds ms)) (slot-all reduction slot (folds ms) by)
-        ∙ ap overflow_at (taken-each place_of (closed (reduction slot)) places held (to_slot slot (folds ms)) (to_slot slot (folds ns))
-        (λ s v. bag-same (reduction slot) s v (of_rank place_of s (to_slot slot (folds ms))) (of_rank place_of s (to_slot slot (folds ns))) (exact-alike slot s)))
-        ∙ sym (taken-all (reduction slot) places held (to_slot slot (folds ns)) (slot-all reduction slot (folds ns) also))
+        ap (slot_by places (folds ms) held slot) (first-by reduction slot (folds ms) by)
+        ∙ each (list_any (has_slot slot) (folds ms)) refl
+        ∙ ap (λ b. slot_by places (folds ns) held slot (cond b (Some (reduction slot)) None)) (any-alike slot)
+        ∙ sym (ap (slot_by places (folds ns) held slot) (first-by reduction slot (folds ns) also))
+      where
+        each : (b : Bool) → list_any (has_slot slot) (folds ms) ≡ b → slot_by places (folds ms) held slot (cond b (Some (reduction slot)) None) ≡ slot_by places (folds ns) held slot (cond b (Some (reduction slot)) None)
+        each true any =
+            ap (λ r. then_go (overflow_at r) (λ vs. Ok (entry_of slot (reduction slot).slots vs (value_at held slot)))) (target-alike slot held (slot-among reduction slot (folds ms) by any))
+        each false any = refl
 
     settled-alike : (held : List Value) → settled places (folds ms) held ≡ settled places (folds ns) held
     settled-alike held =
         let made : List Value → List (Option Fault) → Settled = λ vs fs. record { values = vs; fault = least_from None fs } in
-        ap (λ vs. made vs (map (fault_after places (folds ms)) (enumerate_from 0 held)))
-        (map-each (value_after places (folds ms)) (value_after places (folds ns)) (enumerate_from 0 held) (λ at. ap (value_or at.1) (slot-alike at.0 at.1)))
-        ∙ ap (made (map (value_after places (folds ns)) (enumerate_from 0 held)))
-        (map-each (fault_after places (folds ms)) (fault_after places (folds ns)) (enumerate_from 0 held) (λ at. ap fault_of (slot-alike at.0 at.1)))
+        ap (λ vs. made vs (map (fault_after places (folds ms) held) (enumerate_from 0 held)))
+        (map-each (value_after places (folds ms) held) (value_after places (folds ns) held) (enumerate_from 0 held) (λ at. ap (value_or at.1) (slot-alike at.0 held)))
+        ∙ ap (made (map (value_after places (folds ns) held) (enumerate_from 0 held)))
+        (map-each (fault_after places (folds ms) held) (fault_after places (folds ns) held) (enumerate_from 0 held) (λ at. ap fault_of (slot-alike at.0 held)))
 
 -- the step of a vertex takes the messages of each combinable kind by their total
 pub vertex-combined : (p : Program) (q : ℕ) (s : VertexContext) (inbox other : List Message) (fields : List Value) → IsTrue (is_sound p) → SameInboxes p inbox other →
@@ -443,7 +563,7 @@ vertex-combined p q s inbox other fields sound alike =
     let b : Block = block_at p q in
     let start : VertexState = begun p.registers fields in
     let run : Message → After = handler_run s b.handlers start in
-    let reduction : ℕ → Reduce = reduction_in (handled_lines b) in
+    let reduction : ℕ → Reduction = reduction_in (handled_lines b) in
     let by : HandlersFoldBy reduction b.handlers = sound-folds p sound q in
     let does : (k : ℕ) (r : Reduce) → combiner p k ≡ Some r → Does reduction r run k =
     λ k r is. does-by reduction r s b.handlers start k refl refl refl (sound-shape p k r is sound q) refl (handler-by reduction b.handlers k by) in

@@ -7,7 +7,7 @@ use Rattle.gm_value.specs.declared.values.Value.{Value}
 use Rattle.gm_value.specs.Numbers.{zero_of}
 use Rattle.gm_image.specs.Program.{Line, Handler}
 use Rattle.gm_machine.specs.declared.faults.Fault.{Fault}
-use Rattle.gm_machine.specs.declared.contributions.Contribution.{Contribution}
+use Rattle.gm_machine.specs.Taking.{Contribution}
 use Rattle.gm_machine.specs.declared.batches.MessageHeader.{MessageHeader}
 use Rattle.gm_machine.specs.Faults.{lesser, least_from}
 use Rattle.gm_machine.specs.Batches.{message_of}

@@ -2,6 +2,7 @@ pub mod LineSteps
 pub mod Outside
 pub mod LeastLaws
 pub mod BagLemmas
+pub mod SingleSteps
 pub mod OrderLaws
 pub mod SoundHandlers
 pub mod SoundFolds
@@ -11,8 +12,11 @@ pub mod Samples
 mod Rows
 pub mod Messages
 pub mod TakingSteps
+pub mod TargetSteps
 pub mod TotalSteps
 pub mod SlotSteps
+pub mod ContributionLemmas
+pub mod GivenSteps
 pub mod Behind
 pub mod Handlers
 pub mod VertexSteps

@@ -7,7 +7,7 @@ use Rattle.std.proofs.lemmas.List.{take_more_set, drop-set-lt, drop_more, drop_a
 use Rattle.gm_value.specs.declared.values.Value.{Value}
 use Rattle.gm_machine.specs.declared.batches.MessageHeader.{MessageHeader}
 use Rattle.gm_machine.specs.declared.faults.Fault.{Fault}
-use Rattle.gm_machine.specs.declared.contributions.Contribution.{Contribution}
+use Rattle.gm_machine.specs.Taking.{Contribution}
 use Rattle.gm_graph.specs.Graphs.{NumberedGraph}
 use Rattle.gm_image.specs.Program.{Program, Block}
 use Rattle.gm_image.specs.Views.{program}

@@ -1,62 +1,64 @@
 -- A vertex's step depends on its inbox as a bag alone.
 use Rattle.std.proofs.Common.{◌≡◌, ℕ, zero, suc, Bool, true, false, cond, nat_eq, Option, Some, None, Result, Ok, Err, List, [], ◌∷◌, ◌++◌, map, find, length, refl, sym, ap, ◌∙◌, subst, ⊎_elim}
-use Rattle.std.specs.List.{flat_map, enumerate_from}
-use Rattle.std.proofs.lemmas.Bool.{cases_eq, eq-eqb, ne_eqb}
+use Rattle.std.specs.List.{flat_map, enumerate_from, list_any}
+use Rattle.std.specs.Option.{option_map}
+use Rattle.std.specs.Prelude.{◌==◌, ◌||◌}
+use Rattle.std.proofs.lemmas.Bool.{cases_eq, cases_Bool, ne_eqb}
 use Rattle.std.proofs.lemmas.List.{append-nil}
 use Rattle.gm_value.specs.declared.values.Value.{Value}
 use Rattle.gm_value.specs.declared.reductions.Reduce.{Reduce}
 use Rattle.gm_value.specs.Numbers.{zero_of}
 use Rattle.gm_value.specs.Bag.{SameBag}
-use Rattle.gm_value.specs.Taking.{taken, TakesBags}
-use Rattle.gm_value.proofs.BagLaws.{SameBag-append_right, SameBag-filter, SameBag-map}
-use Rattle.gm_value.proofs.MonoidLaws.{close-permuted}
-use Rattle.gm_value.proofs.TakingLaws.{taken-bags, taken-nothing}
+use Rattle.gm_value.specs.Taking.{TakesBags}
+use Rattle.gm_image.specs.Parts.{terms_of, slots_of, is_among}
+use Rattle.gm_image.specs.Folds.{Reduction, same_numbers}
+use Rattle.gm_value.proofs.BagLaws.{SameBag-append_right, SameBag-filter, SameBag-map, SameBag-folded}
+use Rattle.gm_value.proofs.TakingLaws.{taken-bags}
+use Rattle.gm_value.proofs.TupleLaws.{slots-permuted}
 use Rattle.gm_image.specs.Program.{Program, Block, Handler, Line, Target, SetField, Fold, SetRegister, Put, Send, Skip, Each}
 use Rattle.gm_machine.specs.declared.faults.Fault.{Fault}
-use Rattle.gm_machine.specs.declared.contributions.Contribution.{Contribution}
 use Rattle.gm_machine.specs.Faults.{lesser, least_from, then_go}
-use Rattle.gm_machine.specs.Expressions.{View, value, values}
-use Rattle.gm_machine.specs.Taking.{to_slot, answer_of, closed, overflow_at, all_taken, slot_after, value_or, fault_of, value_after, fault_after, settled, Settled}
+use Rattle.gm_machine.specs.Expressions.{View, value, values, value_at}
+use Rattle.gm_machine.specs.Taking.{Contribution, contributed, has_slot, reduction_of, first_reduction, to_target, closed, overflow_at, entry_of, slot_by, slot_after, value_or, fault_of, value_after, fault_after, settled, Settled}
 use Rattle.gm_machine.specs.Vertex.{Message, VertexContext, VertexState, After, view, gives, line_ends, leaves, line_after, go_by, goes_on, lines_after, ended, handler_lines, lines_of, handler_run, gathered, begun, body_after, vertex_after}
 use Rattle.gm_machine.specs.VertexViews.{after_behind}
-use Rattle.gm_machine.specs.Settling.{place_of}
 use Rattle.gm_machine.specs.Laws.{AreReducedBy, LineFoldsBy, LinesFoldBy, HandlersFoldBy, SameStep}
 use Rattle.gm_machine.proofs.Behind.{body-behind}
 use Rattle.gm_machine.proofs.LeastLaws.{least-permuted}
 use Rattle.gm_machine.proofs.BagLemmas.{flat_map-permuted}
 
--- contributions that are reduced by the reduction of their slot
-abbrev pub AreBy : (ℕ → Reduce) → List Contribution → Type 0
+-- contributions that are reduced by the reduction of their slots
+abbrev pub AreBy : (ℕ → Reduction) → List Contribution → Type 0
 AreBy reduction [] = Unit {0}
-AreBy reduction (c ∷ cs) = (c.reduce ≡ reduction c.slot) × AreBy reduction cs
+AreBy reduction (c ∷ cs) = AreReducedBy reduction (reduction_of c) c.slots × AreBy reduction cs
 
-pub AreBy-append : (reduction : ℕ → Reduce) (cs ds : List Contribution) → AreBy reduction cs → AreBy reduction ds → AreBy reduction (cs ++ ds)
+pub AreBy-append : (reduction : ℕ → Reduction) (cs ds : List Contribution) → AreBy reduction cs → AreBy reduction ds → AreBy reduction (cs ++ ds)
 AreBy-append reduction [] ds a b = b
 AreBy-append reduction (c ∷ cs) ds a b = (a.0, AreBy-append reduction cs ds a.1 b)
 
 -- what one line gives
-abbrev pub IfGiven : (ℕ → Reduce) → Result (List Contribution) Fault → Type 0
+abbrev pub IfGiven : (ℕ → Reduction) → Result (List Contribution) Fault → Type 0
 IfGiven reduction (Ok given) = AreBy reduction given
 IfGiven reduction (Err f) = Unit {0}
 
-pub gives-by : (reduction : ℕ → Reduce) (w : View) (r : Reduce) (place : ℕ) (ts : List Target) → AreReducedBy reduction r ts → IfGiven reduction (gives w r place ts)
-gives-by reduction w r place [] by = tt
-gives-by reduction w r place (t ∷ ts) by = first (gives-by reduction w r place ts by.1) (value w t.term) where
-  rest : (v : Value) (given : Result (List Contribution) Fault) → IfGiven reduction given →
-      IfGiven reduction (then_go given (λ cs. Ok (record { place = place; reduce = r; slot = t.slot; value = v } ∷ cs)))
-  rest v (Ok cs) is = (by.0, is)
-  rest v (Err f) is = tt
+contributed-by : (reduction : ℕ → Reduction) (r : Reduce) (place : ℕ) (slots : List ℕ) (vs : List Value) → AreReducedBy reduction (record { reduce = r; slots = slots }) slots →
+    AreBy reduction (contributed place r slots vs)
+contributed-by reduction r place [] vs by = tt
+contributed-by reduction r place (slot ∷ slots) vs by = (by, tt)
 
-  first : IfGiven reduction (gives w r place ts) → (a : Result Value Fault) → IfGiven reduction (then_go a (λ v. then_go (gives w r place ts) (λ cs. Ok (record { place = place; reduce = r; slot = t.slot; value = v } ∷ cs))))
-  first all (Ok v) = rest v (gives w r place ts) all
-  first all (Err f) = tt
+pub gives-by : (reduction : ℕ → Reduction) (w : View) (r : Reduce) (place : ℕ) (ts : List Target) → AreReducedBy reduction (record { reduce = r; slots = slots_of ts }) (slots_of ts) →
+    IfGiven reduction (gives w r place ts)
+gives-by reduction w r place ts by = given (values w (terms_of ts)) where
+  given : (vs : Result (List Value) Fault) → IfGiven reduction (then_go vs (λ us. Ok (contributed place r (slots_of ts) us)))
+  given (Ok vs) = contributed-by reduction r place (slots_of ts) vs by
+  given (Err f) = tt
 
 -- an end of a line whose folds are by their reductions
-ends-by : (reduction : ℕ → Reduce) {A : Type 0} (w : VertexState) (r : Result A Fault) (go : A → After) → AreBy reduction w.folds → ((x : A) → AreBy reduction (go x).state.folds) → AreBy reduction (line_ends w r go).state.folds
+ends-by : (reduction : ℕ → Reduction) {A : Type 0} (w : VertexState) (r : Result A Fault) (go : A → After) → AreBy reduction w.folds → ((x : A) → AreBy reduction (go x).state.folds) → AreBy reduction (line_ends w r go).state.folds
 ends-by reduction w (Ok x) go is each = each x
 ends-by reduction w (Err f) go is each = is
 
-pub line-by : (reduction : ℕ → Reduce) (s : VertexContext) (l : Line) (w : VertexState) → LineFoldsBy reduction l → AreBy reduction w.folds → AreBy reduction (line_after s l w).state.folds
+pub line-by : (reduction : ℕ → Reduction) (s : VertexContext) (l : Line) (w : VertexState) → LineFoldsBy reduction l → AreBy reduction w.folds → AreBy reduction (line_after s l w).state.folds
 line-by reduction s (SetField f a) w by is = ends-by reduction w (value (view s w) a) _ is (λ x. is)
 line-by reduction s (Fold r place ts) w by is = given (gives (view s w) r place ts) (gives-by reduction (view s w) r place ts by) where
   given : (g : Result (List Contribution) Fault) → IfGiven reduction g → AreBy reduction (line_ends w g (λ cs. leaves (record w { folds = w.folds ++ cs }))).state.folds
@@ -68,7 +70,7 @@ line-by reduction s (Send kind to ts) w by is = ends-by reduction w (value (view
 line-by reduction s (Skip n a) w by is = ends-by reduction w (value (view s w) a) _ is (λ x. is)
 line-by reduction s (Each d n) w by is = is
 
-pub lines-by : (reduction : ℕ → Reduce) (s : VertexContext) (ls : List Line) (k : ℕ) (w : VertexState) → LinesFoldBy reduction ls → AreBy reduction w.folds → AreBy reduction (lines_after s ls k w).state.folds
+pub lines-by : (reduction : ℕ → Reduction) (s : VertexContext) (ls : List Line) (k : ℕ) (w : VertexState) → LinesFoldBy reduction ls → AreBy reduction w.folds → AreBy reduction (lines_after s ls k w).state.folds
 lines-by reduction s [] k w by is = is
 lines-by reduction s (l ∷ ls) (suc k) w by is = lines-by reduction s ls k w by.1 is
 lines-by reduction s (l ∷ ls) zero w by is =
@@ -80,7 +82,7 @@ lines-by reduction s (l ∷ ls) zero w by is =
     goes None rest = rest (line_after s l w).skip (line_after s l w).state (line-by reduction s l w by.0 is)
     goes (Some f) rest = line-by reduction s l w by.0 is
 
-pub handler-by : (reduction : ℕ → Reduce) (hs : List Handler) (kind : ℕ) → HandlersFoldBy reduction hs → LinesFoldBy reduction (handler_lines hs kind)
+pub handler-by : (reduction : ℕ → Reduction) (hs : List Handler) (kind : ℕ) → HandlersFoldBy reduction hs → LinesFoldBy reduction (handler_lines hs kind)
 handler-by reduction [] kind by = tt
 handler-by reduction (h ∷ hs) kind by = one (nat_eq h.kind kind) (handler-by reduction hs kind by.1) where
   one : (b : Bool) → LinesFoldBy reduction (handler_lines hs kind) → LinesFoldBy reduction (lines_of (cond b (Some h) (find (λ g. nat_eq g.kind kind) hs)))
@@ -89,50 +91,83 @@ handler-by reduction (h ∷ hs) kind by = one (nat_eq h.kind kind) (handler-by r
 
 -- a closing depends on its contributions as a bag alone
 pub closed-bags : (r : Reduce) → TakesBags (closed r)
-closed-bags r held some other same = ap answer_of (close-permuted r held (SameBag-map (λ c. c.value) same))
+closed-bags r held some other same = slots-permuted r held (map (λ c. c.values) some) (map (λ c. c.values) other) (SameBag-map (λ c. c.values) same)
 
 -- what runs fold
-pub runs-by : (reduction : ℕ → Reduce) (run : Message → After) (ms : List Message) → ((m : Message) → AreBy reduction (run m).state.folds) → AreBy reduction (flat_map (λ a. a.state.folds) (map run ms))
+pub runs-by : (reduction : ℕ → Reduction) (run : Message → After) (ms : List Message) → ((m : Message) → AreBy reduction (run m).state.folds) → AreBy reduction (flat_map (λ a. a.state.folds) (map run ms))
 runs-by reduction run [] each = tt
 runs-by reduction run (m ∷ ms) each = AreBy-append reduction (run m).state.folds (flat_map (λ a. a.state.folds) (map run ms)) (each m) (runs-by reduction run ms each)
 
--- contributions that are all reduced by one reduction
-abbrev pub AreAll : Reduce → List Contribution → Type 0
-AreAll r [] = Unit {0}
-AreAll r (c ∷ cs) = (c.reduce ≡ r) × AreAll r cs
-
-pub slot-all : (reduction : ℕ → Reduce) (slot : ℕ) (cs : List Contribution) → AreBy reduction cs → AreAll (reduction slot) (to_slot slot cs)
-slot-all reduction slot [] by = tt
-slot-all reduction slot (c ∷ cs) by =
+-- a slot of a reduction
+own-by : (reduction : ℕ → Reduction) (r : Reduction) (slot : ℕ) (slots : List ℕ) → is_among slot slots ≡ true → AreReducedBy reduction r slots → r ≡ reduction slot
+own-by reduction r slot [] has by = cc
+own-by reduction r slot (s ∷ slots) has by =
     ⊎_elim
-    (λ (is : c.slot ≡ slot). subst (λ b. AreAll (reduction slot) (cond b (c ∷ to_slot slot cs) (to_slot slot cs))) (sym (eq-eqb c.slot slot is)) (by.0 ∙ ap reduction is, slot-all reduction slot cs by.1))
-    (λ (differs : c.slot ≡ slot → ⊥). subst (λ b. AreAll (reduction slot) (cond b (c ∷ to_slot slot cs) (to_slot slot cs))) (sym (ne_eqb c.slot slot differs)) (slot-all reduction slot cs by.1))
-    (cases_eq c.slot slot)
+    (λ (here : s ≡ slot). by.0 ∙ ap reduction here)
+    (λ (differs : s ≡ slot → ⊥). own-by reduction r slot slots (sym (ap (λ b. b || list_any (λ m. m == slot) slots) (ne_eqb s slot differs)) ∙ has) by.1)
+    (cases_eq s slot)
 
-pub taken-all : (r : Reduce) (places : ℕ) (held : Value) (cs : List Contribution) → AreAll r cs → all_taken places held cs ≡ overflow_at (taken place_of (closed r) places held cs)
-taken-all r places held [] all = ap overflow_at (sym (taken-nothing place_of (closed r) places held))
-taken-all r places held (c ∷ cs) all = ap (λ q. overflow_at (taken place_of (closed q) places held (c ∷ cs))) all.0
+-- the first reduction of a slot is the slot's, where there is one
+pub first-by : (reduction : ℕ → Reduction) (slot : ℕ) (cs : List Contribution) → AreBy reduction cs →
+    first_reduction slot cs ≡ cond (list_any (has_slot slot) cs) (Some (reduction slot)) None
+first-by reduction slot [] by = refl
+first-by reduction slot (c ∷ cs) by =
+    ⊎_elim
+    (λ (has : has_slot slot c ≡ true).
+    ap (λ b. option_map reduction_of (cond b (Some c) (find (has_slot slot) cs))) has
+    ∙ ap Some (own-by reduction (reduction_of c) slot c.slots has by.0)
+    ∙ sym (ap (λ b. cond (b || list_any (has_slot slot) cs) (Some (reduction slot)) None) has))
+    (λ (lacks : has_slot slot c ≡ false).
+    ap (λ b. option_map reduction_of (cond b (Some c) (find (has_slot slot) cs))) lacks
+    ∙ first-by reduction slot cs by.1
+    ∙ sym (ap (λ b. cond (b || list_any (has_slot slot) cs) (Some (reduction slot)) None) lacks))
+    (cases_Bool (has_slot slot c))
+
+-- then the slot is one of the reduction's
+pub slot-among : (reduction : ℕ → Reduction) (slot : ℕ) (cs : List Contribution) → AreBy reduction cs → list_any (has_slot slot) cs ≡ true → is_among slot (reduction slot).slots ≡ true
+slot-among reduction slot [] by any = cc
+slot-among reduction slot (c ∷ cs) by any =
+    ⊎_elim
+    (λ (has : has_slot slot c ≡ true). ap (λ (r : Reduction). is_among slot r.slots) (sym (own-by reduction (reduction_of c) slot c.slots has by.0)) ∙ has)
+    (λ (lacks : has_slot slot c ≡ false). slot-among reduction slot cs by.1 (sym (ap (λ b. b || list_any (has_slot slot) cs) lacks) ∙ any))
+    (cases_Bool (has_slot slot c))
+
+or-exchange : (a b c : Bool) → a || (b || c) ≡ b || (a || c)
+or-exchange true true c = refl
+or-exchange true false c = refl
+or-exchange false b c = refl
+
+pub any-permuted : {A : Type 0} (test : A → Bool) {xs ys : List A} → SameBag xs ys → list_any test xs ≡ list_any test ys
+any-permuted test = SameBag-folded (list_any test) (λ x b. test x || b) (λ x rest. refl) (λ x y b. or-exchange (test x) (test y) b)
 
 -- what a slot holds after its contributions does not depend on their order
-pub slot-permuted : (reduction : ℕ → Reduce) (places slot : ℕ) (held : Value) {cs ds : List Contribution} → AreBy reduction cs → AreBy reduction ds → SameBag cs ds →
-    slot_after places cs slot held ≡ slot_after places ds slot held
+pub slot-permuted : (reduction : ℕ → Reduction) (places slot : ℕ) (held : List Value) {cs ds : List Contribution} → AreBy reduction cs → AreBy reduction ds → SameBag cs ds →
+    slot_after places cs held slot ≡ slot_after places ds held slot
 slot-permuted reduction places slot held {cs} {ds} by also same =
-    taken-all (reduction slot) places held (to_slot slot cs) (slot-all reduction slot cs by)
-    ∙ ap overflow_at (taken-bags place_of (closed (reduction slot)) (closed-bags (reduction slot)) places held (to_slot slot cs) (to_slot slot ds) (SameBag-filter (λ c. nat_eq c.slot slot) same))
-    ∙ sym (taken-all (reduction slot) places held (to_slot slot ds) (slot-all reduction slot ds also))
+    ap (slot_by places cs held slot) (first-by reduction slot cs by)
+    ∙ each (list_any (has_slot slot) cs)
+    ∙ ap (λ b. slot_by places ds held slot (cond b (Some (reduction slot)) None)) (any-permuted (has_slot slot) same)
+    ∙ sym (ap (slot_by places ds held slot) (first-by reduction slot ds also))
+  where
+    each : (b : Bool) → slot_by places cs held slot (cond b (Some (reduction slot)) None) ≡ slot_by places ds held slot (cond b (Some (reduction slot)) None)
+    each true =
+        ap (λ r. then_go (overflow_at r) (λ vs. Ok (entry_of slot (reduction slot).slots vs (value_at held slot))))
+        (taken-bags (λ c. c.place) (closed (reduction slot).reduce) (closed-bags (reduction slot).reduce) places (map (value_at held) (reduction slot).slots)
+        (to_target (reduction slot).slots cs) (to_target (reduction slot).slots ds) (SameBag-filter (λ c. same_numbers c.slots (reduction slot).slots) same))
+    each false = refl
 
 pub map-each : {A B : Type 0} (f g : A → B) (xs : List A) → ((x : A) → f x ≡ g x) → map f xs ≡ map g xs
 map-each f g [] same = refl
 map-each f g (x ∷ xs) same = ap (λ y. y ∷ map f xs) (same x) ∙ ap (λ ys. g x ∷ ys) (map-each f g xs same)
 
-pub settled-permuted : (reduction : ℕ → Reduce) (places : ℕ) (held : List Value) {cs ds : List Contribution} → AreBy reduction cs → AreBy reduction ds → SameBag cs ds →
+pub settled-permuted : (reduction : ℕ → Reduction) (places : ℕ) (held : List Value) {cs ds : List Contribution} → AreBy reduction cs → AreBy reduction ds → SameBag cs ds →
     settled places cs held ≡ settled places ds held
 settled-permuted reduction places held {cs} {ds} by also same =
     let made : List Value → List (Option Fault) → Settled = λ vs fs. record { values = vs; fault = least_from None fs } in
-    ap (λ vs. made vs (map (fault_after places cs) (enumerate_from 0 held)))
-    (map-each (value_after places cs) (value_after places ds) (enumerate_from 0 held) (λ at. ap (value_or at.1) (slot-permuted reduction places at.0 at.1 by also same)))
-    ∙ ap (made (map (value_after places ds) (enumerate_from 0 held)))
-    (map-each (fault_after places cs) (fault_after places ds) (enumerate_from 0 held) (λ at. ap fault_of (slot-permuted reduction places at.0 at.1 by also same)))
+    ap (λ vs. made vs (map (fault_after places cs held) (enumerate_from 0 held)))
+    (map-each (value_after places cs held) (value_after places ds held) (enumerate_from 0 held) (λ at. ap (value_or at.1) (slot-permuted reduction places at.0 held by also same)))
+    ∙ ap (made (map (value_after places ds held) (enumerate_from 0 held)))
+    (map-each (fault_after places cs held) (fault_after places ds held) (enumerate_from 0 held) (λ at. ap fault_of (slot-permuted reduction places at.0 held by also same)))
 
 -- a state without folds
 abbrev pub idle : List Value → List Value → List Message → List Contribution → VertexState
@@ -170,7 +205,7 @@ pub goes-permuted : (places : ℕ) (s : VertexContext) (ls : List Line) (fields 
 goes-permuted places s ls fields registers ms ns ps qs None same_ms same_ps = body-permuted places s ls fields registers ms ns ps qs same_ms same_ps
 goes-permuted places s ls fields registers ms ns ps qs (Some f) same_ms same_ps = record { fields = refl; fault = refl; puts = same_ps; messages = same_ms }
 
-pub vertex-permuted : (p : Program) (b : Block) (s : VertexContext) (inbox other : List Message) (fields : List Value) (reduction : ℕ → Reduce) →
+pub vertex-permuted : (p : Program) (b : Block) (s : VertexContext) (inbox other : List Message) (fields : List Value) (reduction : ℕ → Reduction) →
     HandlersFoldBy reduction b.handlers → SameBag inbox other →
     SameStep (vertex_after p b s inbox fields) (vertex_after p b s other fields)
 vertex-permuted p b s inbox other fields reduction by same =

@@ -2,18 +2,20 @@
 use Rattle.std.specs.Prelude.{◌≡◌, true, false, ℕ, pos, negsuc, Some, None, List, [], ◌∷◌, refl}
 use Rattle.gm_value.specs.declared.faults.FaultKind.TheVariants.{Overflow}
 use Rattle.gm_value.specs.declared.values.Value.{Value}
-use Rattle.gm_value.specs.declared.values.Value.TheVariants.{I32, Flag}
-use Rattle.gm_value.specs.declared.reductions.Reduce.TheVariants.{Sum, Product}
+use Rattle.gm_value.specs.declared.values.Value.TheVariants.{I32, I64, Flag, At}
+use Rattle.gm_value.specs.declared.reductions.Reduce.{Reduce}
+use Rattle.gm_value.specs.declared.reductions.Reduce.TheVariants.{Sum, Product, Min, Max}
 use Rattle.gm_graph.specs.declared.outcomes.Outcome.{Outcome}
 use Rattle.gm_graph.specs.declared.outcomes.Outcome.TheVariants.{Done, Fault, Cut}
 use Rattle.gm_graph.specs.declared.outcomes.RunEnd.{RunEnd}
 use Rattle.gm_graph.specs.Graphs.{NumberedGraph}
 use Rattle.gm_machine.specs.declared.notes.StepNote.{StepNote}
 use Rattle.gm_machine.specs.Notes.{noted}
+use Rattle.gm_machine.specs.Taking.{Contribution, settled}
 use Rattle.gm_machine.specs.Vertex.{Message}
 use Rattle.gm_machine.specs.Machine.{machine, Stops, Steps, Ended, Faulted}
 use Rattle.gm_machine.specs.States.{State, after, most_supersteps}
-use Rattle.gm_machine.proofs.Samples.{spin_to, total, pair, pair_merged, total_of, push, weigh, ints, edge, graph_of, weighed}
+use Rattle.gm_machine.proofs.Samples.{spin_to, total, pair, pair_merged, total_of, push, weigh, best, top, ints, edge, graph_of, weighed}
 
 abbrev ends : Outcome → ℕ → ℕ → RunEnd
 ends outcome supersteps messages = record { outcome = outcome; supersteps = supersteps; messages = messages }
@@ -144,3 +146,41 @@ weigh_ends = refl
 weigh_overflows : machine weigh (weighed (0 ∷ 1 ∷ []) (edge 1 0 ∷ edge 1 1 ∷ []) (pos 2147483647 ∷ pos 1 ∷ [])) [] 9
     ≡ ends (Fault Overflow (record { line = 3; col = 5 })) 1 0
 weigh_overflows = refl
+
+-- of two in-neighbours with the least value the least node is picked; who has none keeps what it held
+best_ends : machine best (graph_of (0 ∷ 1 ∷ 2 ∷ 3 ∷ []) (pos 4 ∷ pos 2 ∷ pos 2 ∷ pos 0 ∷ []) (edge 0 3 ∷ edge 1 3 ∷ edge 2 3 ∷ [])) [] 9
+    ≡ ends (Done [] None (ints (pos 2147483647 ∷ pos 2147483647 ∷ pos 2147483647 ∷ pos 2 ∷ []) ∷ (At None ∷ At None ∷ At None ∷ At (Some 1) ∷ []) ∷ []) 0) 2 3
+best_ends = refl
+
+-- of two nodes with the greatest value the least is put, but what is held stays where nothing is better
+top_ends : machine top (graph_of (0 ∷ 1 ∷ 2 ∷ []) (pos 3 ∷ pos 8 ∷ pos 8 ∷ []) []) [] 9 ≡ ends (Done (I32 (pos 8) ∷ At (Some 1) ∷ []) None [] 0) 1 0
+top_ends = refl
+
+top_stays : machine top (graph_of (0 ∷ 1 ∷ []) (pos 0 ∷ negsuc 0 ∷ []) []) [] 9 ≡ ends (Done (I32 (pos 0) ∷ At None ∷ []) None [] 0) 1 0
+top_stays = refl
+
+-- contributions to two slots, of a slot beside them and of none
+abbrev two : Reduce → ℕ → Value → Value → Contribution
+two r place v w = record { place = place; reduce = r; slots = 2 ∷ 0 ∷ []; values = v ∷ w ∷ [] }
+
+abbrev lone : Value → Contribution
+lone v = record { place = 0; reduce = Sum; slots = 1 ∷ []; values = v ∷ [] }
+
+-- the best tuple is kept whole: slot by slot 2 and node 0 would be the least
+slots_are_one_target : settled 1 (two Min 0 (I32 (pos 5)) (At (Some 0)) ∷ lone (I32 (pos 4)) ∷ two Min 0 (I32 (pos 2)) (At (Some 9)) ∷ []) (At (Some 7) ∷ I32 (pos 3) ∷ I32 (pos 6) ∷ [])
+    ≡ record { values = At (Some 9) ∷ I32 (pos 7) ∷ I32 (pos 2) ∷ []; fault = None }
+slots_are_one_target = refl
+
+-- in a tie NIL is the least node, and by Max the least rest is kept, of which False comes before True
+nil_wins_a_tie : settled 1 (two Min 0 (I32 (pos 2)) (At (Some 0)) ∷ two Min 0 (I32 (pos 2)) (At None) ∷ []) (At (Some 7) ∷ I32 (pos 3) ∷ I32 (pos 6) ∷ [])
+    ≡ record { values = At None ∷ I32 (pos 3) ∷ I32 (pos 2) ∷ []; fault = None }
+nil_wins_a_tie = refl
+
+least_rest_of_the_greatest : settled 2 (two Max 1 (I32 (pos 8)) (Flag true) ∷ two Max 0 (I32 (pos 8)) (Flag false) ∷ two Max 0 (I32 (pos 7)) (Flag false) ∷ []) (Flag true ∷ I32 (pos 3) ∷ I32 (pos 6) ∷ [])
+    ≡ record { values = Flag false ∷ I32 (pos 3) ∷ I32 (pos 8) ∷ []; fault = None }
+least_rest_of_the_greatest = refl
+
+-- what does not fit a slot is a fault of the target at its place, and the target keeps what it held
+target_faults : settled 2 (two Max 1 (I64 (pos 2147483648)) (Flag true) ∷ lone (I32 (pos 1)) ∷ []) (Flag false ∷ I32 (pos 3) ∷ I32 (pos 6) ∷ [])
+    ≡ record { values = Flag false ∷ I32 (pos 4) ∷ I32 (pos 6) ∷ []; fault = Some (record { place = 1; kind = Overflow }) }
+target_faults = refl

@@ -9,8 +9,8 @@ use Rattle.gm_value.specs.declared.reductions.Reduce.TheVariants as reduce
 use Rattle.gm_value.specs.declared.operations.Op2.TheVariants as two
 use Rattle.gm_graph.specs.Graphs.{NumberedGraph, Edge}
 use Rattle.gm_image.specs.declared.images.Kind.{Kind}
-use Rattle.gm_image.specs.Term.{Term, Const, Global, Field, Message, Column, Neighbour, Binary}
-use Rattle.gm_image.specs.Program.{Program, Item, Holder, Handler, Target, SetField, Fold, Put, Send, Skip, Each, Out, SetGlobal, Step, Turn, Back, Finish, Node, Edge as EdgeItem}
+use Rattle.gm_image.specs.Term.{Term, Const, Self, Global, Field, Message, Column, Neighbour, Binary}
+use Rattle.gm_image.specs.Program.{Program, Item, Holder, Scalar, Handler, Target, SetField, Fold, Put, Send, Skip, Each, Out, SetGlobal, Step, Turn, Back, Finish, Node, Edge as EdgeItem}
 
 abbrev int : ℤ → Term
 int z = Const (values.I32 z)
@@ -173,6 +173,49 @@ weigh = record {
             ∷ [];
       }
       ∷ [];
+  master = Step 0 ∷ Finish ∷ [];
+}
+
+-- each node sends its value and itself; of what comes a node picks the least value with its node
+abbrev pub best : Program
+best = record {
+  name = codes "best";
+  inputs = item Node (codes "v") 0 ∷ [];
+  outputs = item Node (codes "m") 1 ∷ record { holder = Node; vtype = types.Node; name = codes "w"; slot = 2 } ∷ [];
+  result = None;
+  globals = [];
+  fields = types.I32 ∷ types.I32 ∷ types.Node ∷ [];
+  registers = [];
+  columns = [];
+  kinds = record { combiner = None; values = types.I32 ∷ types.Node ∷ [] } ∷ [];
+  places = place 4 31 ∷ [];
+  blocks =
+      record { handlers = []; body = SetField 1 (int (pos 2147483647)) ∷ Each Out 1 ∷ Send 0 Neighbour (Field 0 ∷ Self ∷ []) ∷ [] }
+      ∷ record {
+        handlers = record {
+          kind = 0;
+          lines = Fold reduce.Min 0 (record { slot = 1; term = Message 0 } ∷ record { slot = 2; term = Message 1 } ∷ []) ∷ [];
+        } ∷ [];
+        body = [];
+      }
+      ∷ [];
+  master = Step 0 ∷ Step 1 ∷ Finish ∷ [];
+}
+
+-- the greatest value of all nodes, with the least node that has it
+abbrev pub top : Program
+top = record {
+  name = codes "top";
+  inputs = item Node (codes "v") 0 ∷ [];
+  outputs = record { holder = Scalar; vtype = types.I32; name = codes "m"; slot = 0 } ∷ record { holder = Scalar; vtype = types.Node; name = codes "w"; slot = 1 } ∷ [];
+  result = None;
+  globals = types.I32 ∷ types.Node ∷ [];
+  fields = types.I32 ∷ [];
+  registers = [];
+  columns = [];
+  kinds = [];
+  places = place 2 9 ∷ [];
+  blocks = record { handlers = []; body = Put reduce.Max 0 (record { slot = 0; term = Field 0 } ∷ record { slot = 1; term = Self } ∷ []) ∷ [] } ∷ [];
   master = Step 0 ∷ Finish ∷ [];
 }
 

@@ -1,9 +1,9 @@
 -- In the handlers of a sound image each field is folded by one reduction.
-use Rattle.std.proofs.Common.{◌≡◌, ◌<◌, ℕ, zero, suc, Bool, true, false, cond, ◌&&◌, ◌||◌, Option, Some, None, List, [], ◌∷◌, ◌++◌, find, length, refl, sym, ap, subst, ◌∙◌, arith, append_assoc}
+use Rattle.std.proofs.Common.{◌≡◌, ◌<◌, ℕ, zero, suc, nat_eq, Bool, true, false, cond, ◌&&◌, ◌||◌, Option, Some, None, List, [], ◌∷◌, ◌++◌, find, length, refl, sym, ap, subst, ◌∙◌, arith, append_assoc}
 use Rattle.std.specs.Prelude.{IsTrue, slice_index_or, ◌==◌}
 use Rattle.std.specs.Option.{option_or}
 use Rattle.std.specs.List.{list_all, list_any, flat_map}
-use Rattle.std.proofs.lemmas.Bool.{and_parts, eq-eqb}
+use Rattle.std.proofs.lemmas.Bool.{and_parts, eq-eqb, eqb-true}
 use Rattle.std.proofs.lemmas.List.Folds.{find-append}
 use Rattle.std.proofs.lemmas.List.Concat.{flat_map-append}
 use Rattle.gm_value.specs.declared.reductions.Reduce.{Reduce}
@@ -12,19 +12,19 @@ use Rattle.gm_image.specs.declared.rules.ImageRule.TheVariants.{I8}
 use Rattle.gm_image.specs.Program.{Program, Block, Handler, Line, Target, SetField, Fold, SetRegister, Put, Send, Skip, Each}
 use Rattle.gm_image.specs.Parts.{slots_of, is_among}
 use Rattle.gm_image.specs.Rows.{Row, Plain, HandlerRow, LineRow, block_rows, handlers_rows, handler_rows, handled_lines, body_rows, outside, in_handlers}
-use Rattle.gm_image.specs.Folds.{Reduction, folds_of, same_reduce, same_numbers, has_slot, same_as_first, is_the_one, sets_no_field, folds_one_way, reads_none, sets_none, folded_fields}
+use Rattle.gm_image.specs.Folds.{Reduction, folds_of, same_reduce, same_numbers, same_reduction, has_slot, same_as_first, is_the_one, sets_no_field, folds_one_way, reads_none, sets_none, folded_fields}
 use Rattle.gm_image.specs.Soundness.{keeps, keeps_all, image_rules, is_sound}
 use Rattle.gm_machine.specs.Machine.{block_at, no_block}
 use Rattle.gm_machine.specs.Laws.{AreReducedBy, LineFoldsBy, LinesFoldBy, HandlersFoldBy}
 use Rattle.gm_machine.proofs.SoundHandlers.{all_front, all_back, all_first, all_rest, all_at, blocks_pass}
 
--- the reduction of the first of some reductions that has a slot
-abbrev pub reduce_or : Option Reduction → Reduce
-reduce_or None = reduce.Sum
-reduce_or (Some r) = r.reduce
+-- the first of some reductions that has a slot
+abbrev pub reduction_or : Option Reduction → Reduction
+reduction_or None = record { reduce = reduce.Sum; slots = [] }
+reduction_or (Some r) = r
 
-abbrev pub reduction_in : List Line → ℕ → Reduce
-reduction_in all slot = reduce_or (find (has_slot slot) (flat_map folds_of all))
+abbrev pub reduction_in : List Line → ℕ → Reduction
+reduction_in all slot = reduction_or (find (has_slot slot) (flat_map folds_of all))
 
 pub same_reduce-is : (a b : Reduce) → same_reduce a b ≡ true → a ≡ b
 same_reduce-is reduce.Sum reduce.Sum e = refl
@@ -35,18 +35,32 @@ same_reduce-is reduce.And reduce.And e = refl
 same_reduce-is reduce.Or reduce.Or e = refl
 same_reduce-is a b e = cc
 
--- a line's reduction of a slot is the first one's, whatever stands before and behind the line
+pub same_numbers-is : (xs ys : List ℕ) → same_numbers xs ys ≡ true → xs ≡ ys
+same_numbers-is [] [] e = refl
+same_numbers-is [] (y ∷ ys) e = cc
+same_numbers-is (x ∷ xs) [] e = cc
+same_numbers-is (x ∷ xs) (y ∷ ys) e =
+    let parts = and_parts (nat_eq x y) (same_numbers xs ys) e in
+    ap (λ n. n ∷ xs) (eqb-true x y parts.0) ∙ ap (λ l. y ∷ l) (same_numbers-is xs ys parts.1)
+
+same_reduction-is : (a b : Reduction) → same_reduction a b ≡ true → a ≡ b
+same_reduction-is a b e =
+    let parts = and_parts (same_reduce a.reduce b.reduce) (same_numbers a.slots b.slots) e in
+    let made : Reduce → List ℕ → Reduction = λ r slots. record { reduce = r; slots = slots } in
+    ap (λ r. made r a.slots) (same_reduce-is a.reduce b.reduce parts.0) ∙ ap (made b.reduce) (same_numbers-is a.slots b.slots parts.1)
+
+-- a line's reduction of a slot is the first one, whatever stands before and behind the line
 pub first-one : (r : Reduction) (slot : ℕ) (before later : List Reduction) → has_slot slot r ≡ true → same_as_first r (find (has_slot slot) before) ≡ true →
-    r.reduce ≡ reduce_or (find (has_slot slot) (before ++ r ∷ later))
+    r ≡ reduction_or (find (has_slot slot) (before ++ r ∷ later))
 first-one r slot before later has first =
-    by (find (has_slot slot) before) first ∙ ap reduce_or (sym (find-append (has_slot slot) before (r ∷ later)))
+    by (find (has_slot slot) before) first ∙ ap reduction_or (sym (find-append (has_slot slot) before (r ∷ later)))
   where
     here : find (has_slot slot) (r ∷ later) ≡ Some r
     here = ap (λ b. cond b (Some r) (find (has_slot slot) later)) has
 
-    by : (o : Option Reduction) → same_as_first r o ≡ true → r.reduce ≡ reduce_or (option_or o (find (has_slot slot) (r ∷ later)))
-    by None e = sym (ap reduce_or here)
-    by (Some f) e = sym (same_reduce-is f.reduce r.reduce (and_parts (same_reduce f.reduce r.reduce) (same_numbers f.slots r.slots) e).0)
+    by : (o : Option Reduction) → same_as_first r o ≡ true → r ≡ reduction_or (option_or o (find (has_slot slot) (r ∷ later)))
+    by None e = sym (ap reduction_or here)
+    by (Some f) e = sym (same_reduction-is f r e)
 
 -- a slot is among its own
 pub among-here : (slot : ℕ) (slots : List ℕ) → is_among slot (slot ∷ slots) ≡ true
@@ -59,14 +73,14 @@ among-later slot other slots h = later (other == slot) where
   later false = h
 
 -- all slots of a line's reduction
-pub targets-by : (r : Reduction) (before later : List Reduction) (ts : List Target) → ((slot : ℕ) → is_among slot (slots_of ts) ≡ true → has_slot slot r ≡ true) →
-    list_all (λ i. same_as_first r (find (has_slot i) before)) (slots_of ts) ≡ true →
-    AreReducedBy (λ slot. reduce_or (find (has_slot slot) (before ++ r ∷ later))) r.reduce ts
-targets-by r before later [] has firsts = tt
-targets-by r before later (t ∷ ts) has firsts =
+pub slots-by : (r : Reduction) (before later : List Reduction) (slots : List ℕ) → ((slot : ℕ) → is_among slot slots ≡ true → has_slot slot r ≡ true) →
+    list_all (λ i. same_as_first r (find (has_slot i) before)) slots ≡ true →
+    AreReducedBy (λ slot. reduction_or (find (has_slot slot) (before ++ r ∷ later))) r slots
+slots-by r before later [] has firsts = tt
+slots-by r before later (s ∷ slots) has firsts =
     let test : ℕ → Bool = λ i. same_as_first r (find (has_slot i) before) in (
-      first-one r t.slot before later (has t.slot (among-here t.slot (slots_of ts))) (all_first test t.slot (slots_of ts) firsts),
-      targets-by r before later ts (λ slot h. has slot (among-later slot t.slot (slots_of ts) h)) (all_rest test t.slot (slots_of ts) firsts),
+      first-one r s before later (has s (among-here s slots)) (all_first test s slots firsts),
+      slots-by r before later slots (λ slot h. has slot (among-later slot s slots h)) (all_rest test s slots firsts),
     )
 
 second_of_four : (a b c d : Bool) → a && b && c && d ≡ true → b ≡ true
@@ -80,9 +94,9 @@ line-by earlier rest (Fold r place ts) one =
     let before : List Reduction = flat_map folds_of earlier in
     let later : List Reduction = flat_map folds_of rest in
     let parts : flat_map folds_of (earlier ++ Fold r place ts ∷ rest) ≡ before ++ own ∷ later = flat_map-append folds_of earlier (Fold r place ts ∷ rest) in
-    let held : AreReducedBy (λ slot. reduce_or (find (has_slot slot) (before ++ own ∷ later))) r ts =
-    targets-by own before later ts (λ slot h. h) (all_first (is_the_one before) own [] one) in
-    subst (λ rs. AreReducedBy (λ slot. reduce_or (find (has_slot slot) rs)) r ts) (sym parts) held
+    let held : AreReducedBy (λ slot. reduction_or (find (has_slot slot) (before ++ own ∷ later))) own (slots_of ts) =
+    slots-by own before later (slots_of ts) (λ slot h. h) (all_first (is_the_one before) own [] one) in
+    subst (λ rs. AreReducedBy (λ slot. reduction_or (find (has_slot slot) rs)) own (slots_of ts)) (sym parts) held
 line-by earlier rest (SetRegister r a) one = tt
 line-by earlier rest (Put r place ts) one = tt
 line-by earlier rest (Send kind to ts) one = tt

@@ -15,18 +15,17 @@ use Rattle.gm_image.specs.Rows.{Row, Plain, HandlerRow, LineRow, Around, block_r
 use Rattle.gm_image.specs.Folds.{Reduction, puts_of, has_slot, is_the_one, puts_one_way}
 use Rattle.gm_image.specs.Soundness.{keeps, keeps_all, image_rules, is_sound}
 use Rattle.gm_machine.specs.declared.faults.Fault.{Fault}
-use Rattle.gm_machine.specs.declared.contributions.Contribution.{Contribution}
 use Rattle.gm_machine.specs.Faults.{lesser}
 use Rattle.gm_machine.specs.Expressions.{value, values}
-use Rattle.gm_machine.specs.Taking.{settled, Settled}
+use Rattle.gm_machine.specs.Taking.{Contribution, settled, Settled}
 use Rattle.gm_machine.specs.Vertex.{Message, VertexContext, VertexState, After, view, gives, line_ends, leaves, line_after, go_by, lines_after, turns_after, steps, ended, folded, each_after, body_line_after, body_after, handler_lines, lines_of, handler_run, gathered, begun, handled, vertex_after}
 use Rattle.gm_machine.specs.Machine.{block_at, no_block}
 use Rattle.gm_machine.specs.Laws.{AreReducedBy}
 use Rattle.gm_machine.proofs.OrderLaws.{AreBy, AreBy-append, IfGiven, gives-by, settled-permuted}
-use Rattle.gm_machine.proofs.SoundFolds.{reduce_or, targets-by}
+use Rattle.gm_machine.proofs.SoundFolds.{reduction_or, slots-by}
 use Rattle.gm_machine.proofs.SoundHandlers.{all_front, all_back, all_first, all_rest, all_at, blocks_pass}
 
-pub AreBy-permuted : (reduction : ℕ → Reduce) {cs ds : List Contribution} → SameBag cs ds → (AreBy reduction cs → AreBy reduction ds) × (AreBy reduction ds → AreBy reduction cs)
+pub AreBy-permuted : (reduction : ℕ → Reduction) {cs ds : List Contribution} → SameBag cs ds → (AreBy reduction cs → AreBy reduction ds) × (AreBy reduction ds → AreBy reduction cs)
 AreBy-permuted reduction same_nil = (λ h. h, λ h. h)
 AreBy-permuted reduction (same_cons c s) = let both = AreBy-permuted reduction s in (λ h. (h.0, both.0 h.1), λ h. (h.0, both.1 h.1))
 AreBy-permuted reduction (same_swap c e cs) = (λ h. (h.1.0, (h.0, h.1.1)), λ h. (h.1.0, (h.0, h.1.1)))
@@ -35,13 +34,13 @@ AreBy-permuted reduction (same_trans s t) =
     let second = AreBy-permuted reduction t in
     (λ h. second.0 (first.0 h), λ h. first.1 (second.1 h))
 
-AreBy-each : {A : Type 0} (reduction : ℕ → Reduce) (f : A → List Contribution) (xs : List A) → ((x : A) → AreBy reduction (f x)) → AreBy reduction (flat_map f xs)
+AreBy-each : {A : Type 0} (reduction : ℕ → Reduction) (f : A → List Contribution) (xs : List A) → ((x : A) → AreBy reduction (f x)) → AreBy reduction (flat_map f xs)
 AreBy-each reduction f [] each = tt
 AreBy-each reduction f (x ∷ xs) each = AreBy-append reduction (f x) (flat_map f xs) (each x) (AreBy-each reduction f xs each)
 
 -- lines that put each global by the global's reduction
-abbrev pub LinePutsBy : (ℕ → Reduce) → Line → Type 0
-LinePutsBy reduction (Put r place ts) = AreReducedBy reduction r ts
+abbrev pub LinePutsBy : (ℕ → Reduction) → Line → Type 0
+LinePutsBy reduction (Put r place ts) = AreReducedBy reduction (record { reduce = r; slots = slots_of ts }) (slots_of ts)
 LinePutsBy reduction (SetField f a) = Unit {0}
 LinePutsBy reduction (Fold r place ts) = Unit {0}
 LinePutsBy reduction (SetRegister r a) = Unit {0}
@@ -49,15 +48,15 @@ LinePutsBy reduction (Send kind to ts) = Unit {0}
 LinePutsBy reduction (Skip n a) = Unit {0}
 LinePutsBy reduction (Each d n) = Unit {0}
 
-abbrev pub LinesPutBy : (ℕ → Reduce) → List Line → Type 0
+abbrev pub LinesPutBy : (ℕ → Reduction) → List Line → Type 0
 LinesPutBy reduction [] = Unit {0}
 LinesPutBy reduction (l ∷ ls) = LinePutsBy reduction l × LinesPutBy reduction ls
 
-abbrev pub HandlersPutBy : (ℕ → Reduce) → List Handler → Type 0
+abbrev pub HandlersPutBy : (ℕ → Reduction) → List Handler → Type 0
 HandlersPutBy reduction [] = Unit {0}
 HandlersPutBy reduction (h ∷ hs) = LinesPutBy reduction h.lines × HandlersPutBy reduction hs
 
-module _ (reduction : ℕ → Reduce) where
+module _ (reduction : ℕ → Reduction) where
   abbrev PutsBy : After → Type 0
   PutsBy a = AreBy reduction a.state.puts
 
@@ -147,13 +146,13 @@ module _ (reduction : ℕ → Reduce) where
       (λ k w is. body-by (length p.places) s b.body 0 w body is)
 
 -- contributions that are reduced by their slots' reductions may be taken in any order
-pub settled-bags : (reduction : ℕ → Reduce) (places : ℕ) (held : List Value) {cs ds : List Contribution} → AreBy reduction ds → SameBag cs ds →
+pub settled-bags : (reduction : ℕ → Reduction) (places : ℕ) (held : List Value) {cs ds : List Contribution} → AreBy reduction ds → SameBag cs ds →
     settled places cs held ≡ settled places ds held
 settled-bags reduction places held also same = settled-permuted reduction places held ((AreBy-permuted reduction same).1 also) also same
 
 -- the reduction of the first put to a slot
-abbrev pub put_reduction : List Line → ℕ → Reduce
-put_reduction all slot = reduce_or (find (has_slot slot) (flat_map puts_of all))
+abbrev pub put_reduction : List Line → ℕ → Reduction
+put_reduction all slot = reduction_or (find (has_slot slot) (flat_map puts_of all))
 
 -- one line puts by the reductions of all lines
 put-by : (earlier rest : List Line) (l : Line) → puts_one_way earlier l ≡ true → LinePutsBy (put_reduction (earlier ++ l ∷ rest)) l
@@ -165,9 +164,9 @@ put-by earlier rest (Put r place ts) one =
     let before : List Reduction = flat_map puts_of earlier in
     let later : List Reduction = flat_map puts_of rest in
     let parts : flat_map puts_of (earlier ++ Put r place ts ∷ rest) ≡ before ++ own ∷ later = flat_map-append puts_of earlier (Put r place ts ∷ rest) in
-    let held : AreReducedBy (λ slot. reduce_or (find (has_slot slot) (before ++ own ∷ later))) r ts =
-    targets-by own before later ts (λ slot h. h) (all_first (is_the_one before) own [] one) in
-    subst (λ rs. AreReducedBy (λ slot. reduce_or (find (has_slot slot) rs)) r ts) (sym parts) held
+    let held : AreReducedBy (λ slot. reduction_or (find (has_slot slot) (before ++ own ∷ later))) own (slots_of ts) =
+    slots-by own before later (slots_of ts) (λ slot h. h) (all_first (is_the_one before) own [] one) in
+    subst (λ rs. AreReducedBy (λ slot. reduction_or (find (has_slot slot) rs)) own (slots_of ts)) (sym parts) held
 put-by earlier rest (Send kind to ts) one = tt
 put-by earlier rest (Skip n a) one = tt
 put-by earlier rest (Each d n) one = tt
@@ -239,7 +238,7 @@ pub steps-settle : {A : Type 0} (p : Program) (q : ℕ) → IsTrue (is_sound p) 
     SameBag ps (flat_map (λ x. (vertex_after p (block_at p q) (context x) (box x) (fields x)).state.puts) xs) →
     settled (length p.places) ps held ≡ settled (length p.places) (flat_map (λ x. (vertex_after p (block_at p q) (context x) (box x) (fields x)).state.puts) xs) held
 steps-settle p q sound context box fields xs ps held same =
-    let reduction : ℕ → Reduce = put_reduction (handled_lines (block_at p q) ++ (block_at p q).body) in
+    let reduction : ℕ → Reduction = put_reduction (handled_lines (block_at p q) ++ (block_at p q).body) in
     let one : PutsOneWay p (block_at p q) = sound-puts p sound q in
     settled-bags reduction (length p.places) held
     (AreBy-each reduction (λ x. (vertex_after p (block_at p q) (context x) (box x) (fields x)).state.puts) xs (λ x. vertex-by reduction p (block_at p q) (context x) (box x) (fields x) one.0 one.1))

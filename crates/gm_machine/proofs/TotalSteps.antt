@@ -1,7 +1,7 @@
 -- Totals of numbers of 64 bits stand for the values that have them.
 use Rattle.std.proofs.Common.{◌≡◌, ◌<◌, ◌+◌, ℕ, ℤ, pos, negsuc, true, false, cond, Result, Ok, Err, List, [], ◌∷◌, ◌++◌, map, length, take, get_or, sym, ap, ◌∙◌, arith, ⊎_elim, subst}
 use Rattle.std.specs.Prelude.{IsTrue, if◌then◌else◌, nat_eq}
-use Rattle.std.proofs.lemmas.Bool.{cases_Bool, cases_eq, both_ways, eq-eqb, ne_eqb}
+use Rattle.std.proofs.lemmas.Bool.{cases_Bool, both_ways, eq-eqb, ne_eqb}
 use Rattle.std.proofs.lemmas.List.{append-nil, map-append, take_more}
 use Rattle.std.proofs.lemmas.List.Elements.{filter-append}
 use Rattle.gm_value.specs.declared.values.VType.{VType}
@@ -18,9 +18,8 @@ use Rattle.gm_value.specs.Totals.{IsTotal, AddsMember}
 use Rattle.gm_value.specs.Laws.{HasUnit}
 use Rattle.gm_value.proofs.BagLaws.{SameBag-last}
 use Rattle.gm_value.proofs.MonoidLaws.{combined_comm, combined_exchange}
-use Rattle.gm_machine.specs.declared.contributions.Contribution.{Contribution}
-use Rattle.gm_machine.specs.Taking.{to_slot}
-use Rattle.gm_machine.specs.Settling.{long_of, longs_of, place_of}
+use Rattle.gm_machine.specs.declared.contributions.ContributionPart.{ContributionPart}
+use Rattle.gm_machine.specs.Settling.{is_to, to_slot, long_of, longs_of, place_of}
 
 -- each number of a type is one of 64 bits
 wide : (t : VType) (z : ℤ) → IsTrue (fits t z) → IsTrue (fits I64 z)
@@ -73,37 +72,37 @@ closed-at units r held long a bag answer is inside closes held_total =
     subst (λ x. (numbers : List Value) → IsTotal r (type_of x) a numbers → answer ≡ close r x numbers) is closes in
     closed-long units r held bag inside answer (closes_long (map long_of bag) held_total)
 
--- the contributions to a slot at a place
-abbrev pub members : ℕ → ℕ → List Contribution → List Contribution
+-- the parts to a slot at a place
+abbrev pub members : ℕ → ℕ → List ContributionPart → List ContributionPart
 members slot place cs = of_rank place_of place (to_slot slot cs)
 
--- one contribution alone
-only-member : (slot place : ℕ) (c : Contribution) → c.slot ≡ slot → c.place ≡ place → members slot place (c ∷ []) ≡ c ∷ []
+-- one part alone
+only-member : (slot place : ℕ) (c : ContributionPart) → is_to slot c ≡ true → c.place ≡ place → members slot place (c ∷ []) ≡ c ∷ []
 only-member slot place c is at =
-    ap (λ b. of_rank place_of place (cond b (c ∷ []) [])) (eq-eqb c.slot slot is)
+    ap (λ b. of_rank place_of place (cond b (c ∷ []) [])) is
     ∙ ap (λ b. cond b (c ∷ []) []) (eq-eqb c.place place at)
 
-no-member : (slot place : ℕ) (c : Contribution) → (c.slot ≡ slot → c.place ≡ place → ⊥) → members slot place (c ∷ []) ≡ []
+no-member : (slot place : ℕ) (c : ContributionPart) → (is_to slot c ≡ true → c.place ≡ place → ⊥) → members slot place (c ∷ []) ≡ []
 no-member slot place c not =
     ⊎_elim
-    (λ (is : c.slot ≡ slot).
-    ap (λ b. of_rank place_of place (cond b (c ∷ []) [])) (eq-eqb c.slot slot is)
+    (λ (is : is_to slot c ≡ true).
+    ap (λ b. of_rank place_of place (cond b (c ∷ []) [])) is
     ∙ ap (λ b. cond b (c ∷ []) []) (ne_eqb c.place place (not is)))
-    (λ (differs : c.slot ≡ slot → ⊥). ap (λ b. of_rank place_of place (cond b (c ∷ []) [])) (ne_eqb c.slot slot differs))
-    (cases_eq c.slot slot)
+    (λ (differs : is_to slot c ≡ false). ap (λ b. of_rank place_of place (cond b (c ∷ []) [])) differs)
+    (cases_Bool (is_to slot c))
 
 -- the members of a list and then of another
-members-append : (slot place : ℕ) (cs ds : List Contribution) → members slot place (cs ++ ds) ≡ members slot place cs ++ members slot place ds
+members-append : (slot place : ℕ) (cs ds : List ContributionPart) → members slot place (cs ++ ds) ≡ members slot place cs ++ members slot place ds
 members-append slot place cs ds =
-    ap (of_rank place_of place) (filter-append (λ c. nat_eq c.slot slot) cs ds)
+    ap (of_rank place_of place) (filter-append (is_to slot) cs ds)
     ∙ filter-append (λ c. nat_eq c.place place) (to_slot slot cs) (to_slot slot ds)
 
--- the total of one more contribution
-pub total-more : (slot place : ℕ) (r : Reduce) (a new : Total) (b : Value) (cs : List Contribution) (i : ℕ) (d : Contribution) →
-    i < length cs → (get_or cs i d).slot ≡ slot → (get_or cs i d).place ≡ place → b ≡ long_of (get_or cs i d).value → AddsMember r a b new →
+-- the total of one more part
+pub total-more : (slot place : ℕ) (r : Reduce) (a new : Total) (b : Value) (cs : List ContributionPart) (i : ℕ) (d : ContributionPart) →
+    i < length cs → is_to slot (get_or cs i d) ≡ true → (get_or cs i d).place ≡ place → b ≡ long_of (get_or cs i d).value → AddsMember r a b new →
     IsTotal r I64 a (longs_of (members slot place (take i cs))) → IsTotal r I64 new (longs_of (members slot place (take (i + 1) cs)))
 total-more slot place r a new b cs i d within is at long adds held =
-    let c : Contribution = get_or cs i d in
+    let c : ContributionPart = get_or cs i d in
     let adds_long : AddsMember r a (long_of c.value) new = subst (λ x. AddsMember r a x new) long adds in
     let before : List Value = longs_of (members slot place (take i cs)) in
     let more : members slot place (take (i + 1) cs) ≡ members slot place (take i cs) ++ c ∷ [] =
@@ -116,12 +115,12 @@ total-more slot place r a new b cs i d within is at long adds held =
     ∙ map-append long_of (map (λ d. d.value) (members slot place (take i cs))) (c.value ∷ []) in
     subst (λ bag. IsTotal r I64 new bag) (sym longs) (adds_long I64 before (before ++ long_of c.value ∷ []) held (SameBag-last before (long_of c.value)))
 
--- a contribution to another slot or at another place changes nothing
-pub total-same : (slot place : ℕ) (r : Reduce) (a : Total) (cs : List Contribution) (i : ℕ) (d : Contribution) →
-    i < length cs → ((get_or cs i d).slot ≡ slot → (get_or cs i d).place ≡ place → ⊥) →
+-- a part to another slot or at another place changes nothing
+pub total-same : (slot place : ℕ) (r : Reduce) (a : Total) (cs : List ContributionPart) (i : ℕ) (d : ContributionPart) →
+    i < length cs → (is_to slot (get_or cs i d) ≡ true → (get_or cs i d).place ≡ place → ⊥) →
     IsTotal r I64 a (longs_of (members slot place (take i cs))) → IsTotal r I64 a (longs_of (members slot place (take (i + 1) cs)))
 total-same slot place r a cs i d within not held =
-    let c : Contribution = get_or cs i d in
+    let c : ContributionPart = get_or cs i d in
     let same : members slot place (take (i + 1) cs) ≡ members slot place (take i cs) =
     ap (members slot place) (take_more cs i d within)
     ∙ members-append slot place (take i cs) (c ∷ [])

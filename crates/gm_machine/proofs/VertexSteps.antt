@@ -4,7 +4,7 @@ use Rattle.gm_value.specs.declared.values.VType.{VType}
 use Rattle.gm_value.specs.declared.values.Value.{Value}
 use Rattle.gm_image.specs.Program.{Program, Block, Handler, Line}
 use Rattle.gm_machine.specs.declared.faults.Fault.{Fault}
-use Rattle.gm_machine.specs.declared.contributions.Contribution.{Contribution}
+use Rattle.gm_machine.specs.Taking.{Contribution}
 use Rattle.gm_machine.specs.declared.lines.LineEnd.{LineEnd}
 use Rattle.gm_machine.specs.declared.lines.LineEnd.TheVariants.{Next, Faulted}
 use Rattle.gm_machine.specs.Vertex.{Message, VertexContext, VertexState, After, go_by, folded, body_after, begun, handler_run, gathered, handled, vertex_after}

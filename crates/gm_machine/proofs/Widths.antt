@@ -8,7 +8,7 @@ use Rattle.gm_value.specs.Operations.{is_true}
 use Rattle.gm_graph.specs.Graphs.{Step}
 use Rattle.gm_image.specs.Program.{Program, Block, Line, SetField, Fold, SetRegister, Put, Send, Skip, Each}
 use Rattle.gm_machine.specs.declared.faults.Fault.{Fault}
-use Rattle.gm_machine.specs.declared.contributions.Contribution.{Contribution}
+use Rattle.gm_machine.specs.Taking.{Contribution}
 use Rattle.gm_machine.specs.Faults.{lesser}
 use Rattle.gm_machine.specs.Expressions.{value, values}
 use Rattle.gm_machine.specs.Taking.{settled, value_after}
@@ -57,7 +57,7 @@ ended-wide w None k = refl
 ended-wide w (Some f) k = refl
 
 settled-wide : (places : ℕ) (cs : List Contribution) (held : List Value) → length (settled places cs held).values ≡ length held
-settled-wide places cs held = length-map (enumerate_from 0 held) (value_after places cs) ∙ length-enumerate_from 0 held
+settled-wide places cs held = length-map (enumerate_from 0 held) (value_after places cs held) ∙ length-enumerate_from 0 held
 
 folded-wide : (places : ℕ) (a : After) → width (folded places a) ≡ width a
 folded-wide places a =

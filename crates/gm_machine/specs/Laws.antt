@@ -2,23 +2,23 @@
 use Rattle.std.specs.Prelude.{ℕ, ◌≡◌, IsTrue, List, [], ◌∷◌, length}
 use Rattle.std.specs.List.{flat_map}
 use Rattle.gm_value.specs.declared.values.Value.{Value}
-use Rattle.gm_value.specs.declared.reductions.Reduce.{Reduce}
 use Rattle.gm_value.specs.Bag.{SameBag}
-use Rattle.gm_image.specs.Program.{Program, Block, Handler, Line, Target, SetField, Fold, SetRegister, Put, Send, Skip, Each}
+use Rattle.gm_image.specs.Program.{Program, Block, Handler, Line, SetField, Fold, SetRegister, Put, Send, Skip, Each}
+use Rattle.gm_image.specs.Parts.{slots_of}
+use Rattle.gm_image.specs.Folds.{Reduction}
 use Rattle.gm_image.specs.Soundness.{is_sound}
-use Rattle.gm_machine.specs.declared.contributions.Contribution.{Contribution}
-use Rattle.gm_machine.specs.Taking.{settled}
+use Rattle.gm_machine.specs.Taking.{Contribution, settled}
 use Rattle.gm_machine.specs.Vertex.{Message, VertexContext, After, vertex_after}
 use Rattle.gm_machine.specs.Machine.{block_at}
 
--- targets that are reduced by the reduction of their slot
-abbrev pub AreReducedBy : (ℕ → Reduce) → Reduce → List Target → Type 0
+-- slots that have one reduction, the same
+abbrev pub AreReducedBy : (ℕ → Reduction) → Reduction → List ℕ → Type 0
 AreReducedBy reduction r [] = Unit {0}
-AreReducedBy reduction r (t ∷ targets) = (r ≡ reduction t.slot) × AreReducedBy reduction r targets
+AreReducedBy reduction r (slot ∷ slots) = (r ≡ reduction slot) × AreReducedBy reduction r slots
 
--- a line that folds each field by the field's reduction
-abbrev pub LineFoldsBy : (ℕ → Reduce) → Line → Type 0
-LineFoldsBy reduction (Fold r place ts) = AreReducedBy reduction r ts
+-- a line that folds each field by the field's reduction, which has the list of the fields that are folded with it
+abbrev pub LineFoldsBy : (ℕ → Reduction) → Line → Type 0
+LineFoldsBy reduction (Fold r place ts) = AreReducedBy reduction (record { reduce = r; slots = slots_of ts }) (slots_of ts)
 LineFoldsBy reduction (SetField f a) = Unit {0}
 LineFoldsBy reduction (SetRegister r a) = Unit {0}
 LineFoldsBy reduction (Put r place ts) = Unit {0}
@@ -26,12 +26,12 @@ LineFoldsBy reduction (Send kind to ts) = Unit {0}
 LineFoldsBy reduction (Skip n a) = Unit {0}
 LineFoldsBy reduction (Each d n) = Unit {0}
 
-abbrev pub LinesFoldBy : (ℕ → Reduce) → List Line → Type 0
+abbrev pub LinesFoldBy : (ℕ → Reduction) → List Line → Type 0
 LinesFoldBy reduction [] = Unit {0}
 LinesFoldBy reduction (l ∷ ls) = LineFoldsBy reduction l × LinesFoldBy reduction ls
 
 -- handlers that fold each field by one reduction
-abbrev pub HandlersFoldBy : (ℕ → Reduce) → List Handler → Type 0
+abbrev pub HandlersFoldBy : (ℕ → Reduction) → List Handler → Type 0
 HandlersFoldBy reduction [] = Unit {0}
 HandlersFoldBy reduction (h ∷ handlers) = LinesFoldBy reduction h.lines × HandlersFoldBy reduction handlers
 
@@ -44,7 +44,7 @@ pub record SameStep (a b : After) : Type 0 where
 
 -- the step of a vertex depends on its inbox as a bag alone, where its handlers fold each field by one reduction
 abbrev pub StepTakesBags : Type 0
-StepTakesBags = (p : Program) (b : Block) (s : VertexContext) (inbox other : List Message) (fields : List Value) (reduction : ℕ → Reduce) →
+StepTakesBags = (p : Program) (b : Block) (s : VertexContext) (inbox other : List Message) (fields : List Value) (reduction : ℕ → Reduction) →
     HandlersFoldBy reduction b.handlers → SameBag inbox other →
     SameStep (vertex_after p b s inbox fields) (vertex_after p b s other fields)
 

@@ -1,6 +1,7 @@
 pub mod Faults
 pub mod Expressions
 pub mod Taking
+pub mod Contributions
 pub mod Vertex
 pub mod Batches
 pub mod Inboxes

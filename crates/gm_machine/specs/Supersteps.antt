@@ -5,7 +5,7 @@ use Rattle.gm_value.specs.declared.values.Value.{Value}
 use Rattle.gm_image.specs.Views.{program}
 use Rattle.gm_machine.specs.declared.batches.MessageHeader.{MessageHeader}
 use Rattle.gm_machine.specs.declared.faults.Fault.{Fault}
-use Rattle.gm_machine.specs.declared.contributions.Contribution.{Contribution}
+use Rattle.gm_machine.specs.Taking.{Contribution}
 use Rattle.gm_machine.specs.declared.supersteps.Nodes as N
 use Rattle.gm_machine.specs.declared.supersteps.Round.{Round}
 use Rattle.gm_machine.specs.Batches.{message_of}

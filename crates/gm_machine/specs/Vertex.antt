@@ -10,11 +10,11 @@ use Rattle.gm_value.specs.Operations.{is_true}
 use Rattle.gm_graph.specs.Graphs.{NumberedGraph, Step, out_steps, in_steps}
 use Rattle.gm_image.specs.Program.{Program, Block, Handler, Target, Line, SetField, Fold, SetRegister, Put, Send, Skip, Each, Direction, Out, In}
 use Rattle.gm_image.specs.Folds.{sets_no_field}
+use Rattle.gm_image.specs.Parts.{terms_of, slots_of}
 use Rattle.gm_machine.specs.declared.faults.Fault.{Fault}
-use Rattle.gm_machine.specs.declared.contributions.Contribution.{Contribution}
 use Rattle.gm_machine.specs.Faults.{then_go, lesser, least_fault}
 use Rattle.gm_machine.specs.Expressions.{View, value, values}
-use Rattle.gm_machine.specs.Taking.{settled}
+use Rattle.gm_machine.specs.Taking.{Contribution, contributed, settled}
 
 -- a message of a kind to a node
 pub record Message : Type 0 where
@@ -59,12 +59,9 @@ pub record After : Type 0 where
   pub fault : Option Fault
   pub skip : ℕ
 
--- a contribution to each of some slots, or the first fault of their expressions
+-- a contribution to the slots of some targets, or the first fault of their expressions
 abbrev pub gives : View → Reduce → ℕ → List Target → Result (List Contribution) Fault
-gives w reduce place [] = Ok []
-gives w reduce place (t ∷ targets) =
-    then_go (value w t.term) (λ v. then_go (gives w reduce place targets) (λ given.
-    Ok (record { place = place; reduce = reduce; slot = t.slot; value = v } ∷ given)))
+gives w reduce place targets = then_go (values w (terms_of targets)) (λ vs. Ok (contributed place reduce (slots_of targets) vs))
 
 -- a message to a node, none where that is NIL
 abbrev pub messages_to : Value → ℕ → List Value → List Message

@@ -5,7 +5,7 @@ use Rattle.gm_image.specs.Program.{Block, Direction, Out, In}
 use Rattle.gm_image.specs.Views.{handler, line}
 use Rattle.gm_machine.specs.declared.bodies.BlockCode as T
 use Rattle.gm_machine.specs.declared.faults.Fault.{Fault}
-use Rattle.gm_machine.specs.declared.contributions.Contribution.{Contribution}
+use Rattle.gm_machine.specs.Taking.{Contribution}
 use Rattle.gm_machine.specs.declared.expressions.VertexContext as S
 use Rattle.gm_machine.specs.declared.lines.VertexState as W
 use Rattle.gm_machine.specs.declared.lines.LineEnd.{LineEnd}
@@ -31,8 +31,8 @@ state_of w = record {
   fields = w.fields.items;
   registers = w.registers.items;
   messages = w.messages;
-  puts = w.puts.items;
-  folds = w.folds.items;
+  puts = w.puts;
+  folds = w.folds;
 }
 
 -- the block that a vertex does

@@ -65,7 +65,13 @@ fn take_folds(
     if state.folds.is_empty() {
         return Ok(ended(fault, skip));
     }
-    let taken = settle(places, &state.folds, &mut state.fields)?;
+    let taken = settle(
+        places,
+        &state.folds,
+        &mut state.fields,
+        &mut state.found,
+        &mut state.room,
+    )?;
     state.folds.clear();
     Ok(ended(lesser(fault, taken), skip))
 }
@@ -207,9 +213,9 @@ fn run_handlers(
     requires columns { HasColumns context.now.graph.now context.now.columns }
     requires keeps { (kind : ℕ) → never_sets (handler_lines (map handler handlers.now) kind) ≡ true }
     requires within { All (IsWithin values.now) headers.now }
-    requires no_folds { state.old.folds.items ≡ [] }
+    requires no_folds { state.old.folds ≡ [] }
     ensures { IfOk result (λ f. after_lines (state_of state.new) f
-        ≡ after_behind state.old.messages state.old.puts.items []
+        ≡ after_behind state.old.messages state.old.puts []
         (gathered (begun registers.now state.old.fields.items)
         (map (handler_run (context_of context.now) (map handler handlers.now) (begun registers.now state.old.fields.items))
         (map (message_of values.now) headers.now)))) }
@@ -239,7 +245,7 @@ pub(crate) fn run_vertex(
     requires keeps { (kind : ℕ) → never_sets (handler_lines (code_of code).handlers kind) ≡ true }
     requires within { All (IsWithin values.now) headers.now }
     ensures { IfOk result (λ f. after_lines (state_of state.new) f
-        ≡ after_behind state.old.messages state.old.puts.items []
+        ≡ after_behind state.old.messages state.old.puts []
         (vertex_after (program image.now) (code_of code.entry) (context_of context.now) (map (message_of values.now) headers.now) state.old.fields.items)) }
 {
     let places = image.places.len();

@@ -21,7 +21,7 @@ mod steps;
 mod supersteps;
 
 pub use batches::Batch;
-pub use contributions::Contribution;
+pub use contributions::{ContributionPart, Contributions};
 pub use faults::Fault;
 pub use laws::{
     inboxes_have_no_order, puts_have_no_order, states_reach_the_end, totals_stand_for_messages,

@@ -7,28 +7,52 @@ ghost use Rattle.gm_image.specs.Views.{term, line, target};
 ghost use Rattle.gm_image.specs.Program.{SetField, Fold, SetRegister, Put, Send, Skip};
 ghost use Rattle.gm_machine.specs.Expressions.{value, values};
 ghost use Rattle.gm_machine.specs.VertexViews.{HasColumns, context_of, state_of, after_line, after_lines, direction, answered};
+ghost use Rattle.gm_machine.specs.Contributions.{gives_parts};
 ghost use Rattle.gm_machine.specs.Vertex.{view, view_with, line_ends, leaves, gives, messages_to, line_after, lines_after, turns_after, steps};
 
 use crate::batches::Batch;
-use crate::contributions::Contribution;
+use crate::contributions::{ContributionPart, Contributions};
 use crate::expressions::{VertexContext, evaluate, holds};
 use crate::faults::{Fault, lesser};
+use crate::settling::TupleRoom;
 use gm_base::NoMemory;
 use gm_graph::Graph;
 use gm_image::{Expr, VertexLine};
 use gm_value::{Reduce, VType, Value};
+use std::alloc::Global;
 
 /// What a vertex changes: its fields and registers, what it has sent and put, and the folds that are not yet taken.
-/// The rows `found` and `given` are room for the values of one line.
+/// The rows `found` and `given` are room for the values of one line, and `found` and `room` for what is taken.
 #[derive(Drop)]
 pub(crate) struct VertexState {
     pub(crate) fields: Vec<Value>,
     pub(crate) registers: Vec<Value>,
     pub(crate) messages: Batch,
-    pub(crate) puts: Vec<Contribution>,
-    pub(crate) folds: Vec<Contribution>,
+    pub(crate) puts: Contributions,
+    pub(crate) folds: Contributions,
     pub(crate) found: Vec<Value>,
-    pub(crate) given: Vec<Contribution>,
+    pub(crate) given: Vec<ContributionPart>,
+    pub(crate) room: TupleRoom,
+}
+
+impl VertexState {
+    /// A state with these fields that has done nothing. It keeps the allocator and takes no memory.
+    pub(crate) fn idle(alloc: Global, fields: Vec<Value>) -> Self
+        ensures fields { result.fields ≡ fields }
+        ensures messages { result.messages ≡ [] }
+        ensures puts { result.puts ≡ [] }
+    {
+        VertexState {
+            fields,
+            registers: Vec::new(alloc),
+            messages: Batch::empty(alloc),
+            puts: Contributions::empty(alloc),
+            folds: Contributions::empty(alloc),
+            found: Vec::new(alloc),
+            given: Vec::new(alloc),
+            room: TupleRoom::empty(alloc),
+        }
+    }
 }
 
 /// What follows a line: the next line but so many, or a fault.
@@ -59,7 +83,18 @@ fn evaluate_all(
     Ok(None)
 }
 
-// Puts the contributions to some slots into a row, left to right, up to the first fault.
+// A number of slots as the width of a contribution.
+fn width_of(slots: usize) -> Result<u32, NoMemory>
+    ensures { IfOk result (λ width. width ≡ slots) }
+{
+    if slots < 1 << 32 {
+        Ok(slots as u32)
+    } else {
+        Err(NoMemory)
+    }
+}
+
+// Puts the parts of a contribution to some slots into a row, left to right, up to the first fault.
 fn evaluate_targets(
     reduce: Reduce,
     place: u32,
@@ -67,23 +102,26 @@ fn evaluate_targets(
     s: &VertexContext,
     fields: &[Value],
     registers: &[Value],
-    given: &mut Vec<Contribution>,
+    given: &mut Vec<ContributionPart>,
 ) -> Result<Option<Fault>, NoMemory>
     requires { HasColumns s.now.graph.now s.now.columns }
     ensures { IfOk result (λ f. answered f given.new.items
-        ≡ gives (view_with (context_of s.now) fields.now registers.now) reduce place (map target targets.now)) }
+        ≡ gives_parts (view_with (context_of s.now) fields.now registers.now) reduce place (length targets.now) (map target targets.now)) }
 {
     given.clear();
+    let mut width = width_of(targets.len())?;
     for t in targets {
         match evaluate(&t.1, s, fields, registers) {
-            Ok(value) => given.push(Contribution {
+            Ok(value) => given.push(ContributionPart {
                 place,
                 reduce,
+                width,
                 slot: t.0,
                 value,
             })?,
             Err(f) => return Ok(Some(f)),
         }
+        width = 0;
     }
     Ok(None)
 }
@@ -143,12 +181,7 @@ fn fold_one(
 {
     match evaluate(&t.1, context, &state.fields, &state.registers) {
         Ok(value) => {
-            state.folds.push(Contribution {
-                place,
-                reduce,
-                slot: t.0,
-                value,
-            })?;
+            state.folds.add_one(place, reduce, t.0, value)?;
             Ok(LineEnd::Next(0))
         }
         Err(f) => Ok(LineEnd::Faulted(f)),
@@ -169,17 +202,14 @@ fn fold(
     if let [only] = targets {
         return fold_one(reduce, place, only, context, state);
     }
-    match evaluate_targets(
-        reduce,
-        place,
-        targets,
-        context,
-        &state.fields,
-        &state.registers,
-        &mut state.given,
-    )? {
+    let fields = state.fields.as_slice();
+    let registers = state.registers.as_slice();
+    let given = &mut state.given;
+    let fault = evaluate_targets(reduce, place, targets, context, fields, registers, given)?;
+    match fault {
         None => {
-            state.folds.extend_from_slice(&state.given)?;
+            let parts = state.given.as_slice();
+            state.folds.add_parts(parts)?;
             Ok(LineEnd::Next(0))
         }
         Some(f) => Ok(LineEnd::Faulted(f)),
@@ -200,12 +230,7 @@ fn put_one(
 {
     match evaluate(&t.1, context, &state.fields, &state.registers) {
         Ok(value) => {
-            state.puts.push(Contribution {
-                place,
-                reduce,
-                slot: t.0,
-                value,
-            })?;
+            state.puts.add_one(place, reduce, t.0, value)?;
             Ok(LineEnd::Next(0))
         }
         Err(f) => Ok(LineEnd::Faulted(f)),
@@ -226,17 +251,14 @@ fn put(
     if let [only] = targets {
         return put_one(reduce, place, only, context, state);
     }
-    match evaluate_targets(
-        reduce,
-        place,
-        targets,
-        context,
-        &state.fields,
-        &state.registers,
-        &mut state.given,
-    )? {
+    let fields = state.fields.as_slice();
+    let registers = state.registers.as_slice();
+    let given = &mut state.given;
+    let fault = evaluate_targets(reduce, place, targets, context, fields, registers, given)?;
+    match fault {
         None => {
-            state.puts.extend_from_slice(&state.given)?;
+            let parts = state.given.as_slice();
+            state.puts.add_parts(parts)?;
             Ok(LineEnd::Next(0))
         }
         Some(f) => Ok(LineEnd::Faulted(f)),

@@ -9,7 +9,7 @@ ghost use Rattle.gm_machine.specs.Steps.{KeepsFields, step_after};
 
 use crate::batches::Batch;
 use crate::bodies::{block_at, run_vertex};
-use crate::contributions::Contribution;
+use crate::contributions::Contributions;
 use crate::expressions::VertexContext;
 use crate::faults::{Fault, lesser};
 use crate::lines::VertexState;
@@ -24,7 +24,7 @@ use std::mem;
 #[derive(Drop)]
 pub struct Sent {
     pub messages: Batch,
-    pub puts: Vec<Contribution>,
+    pub puts: Contributions,
     pub fault: Option<Fault>,
 }
 
@@ -32,12 +32,12 @@ impl Sent {
     /// Nothing yet. It keeps the allocator and takes no memory.
     pub fn empty(alloc: Global) -> Self
         ensures messages { result.messages ≡ [] }
-        ensures puts { result.puts.items ≡ [] }
+        ensures puts { result.puts ≡ [] }
         ensures fault { result.fault ≡ None }
     {
         Sent {
             messages: Batch::empty(alloc),
-            puts: Vec::new(alloc),
+            puts: Contributions::empty(alloc),
             fault: None,
         }
     }
@@ -62,8 +62,8 @@ pub(crate) fn step(
         ≡ (step_after (program image.now) block globals.now graph.now node inbox.now fields.old.items).state.fields) }
     ensures messages { OnOk result (sent.new.messages
         ≡ sent.old.messages ++ (step_after (program image.now) block globals.now graph.now node inbox.now fields.old.items).state.messages) }
-    ensures puts { OnOk result (sent.new.puts.items
-        ≡ sent.old.puts.items ++ (step_after (program image.now) block globals.now graph.now node inbox.now fields.old.items).state.puts) }
+    ensures puts { OnOk result (sent.new.puts
+        ≡ sent.old.puts ++ (step_after (program image.now) block globals.now graph.now node inbox.now fields.old.items).state.puts) }
     ensures fault { OnOk result (sent.new.fault
         ≡ lesser sent.old.fault (step_after (program image.now) block globals.now graph.now node inbox.now fields.old.items).fault) }
 {
@@ -77,15 +77,9 @@ pub(crate) fn step(
         neighbour: 0,
         edge: 0,
     };
-    let mut state = VertexState {
-        fields: mem::replace(fields, Vec::new(alloc)),
-        registers: Vec::new(alloc),
-        messages: mem::replace(&mut sent.messages, Batch::empty(alloc)),
-        puts: mem::replace(&mut sent.puts, Vec::new(alloc)),
-        folds: Vec::new(alloc),
-        found: Vec::new(alloc),
-        given: Vec::new(alloc),
-    };
+    let mut state = VertexState::idle(alloc, mem::replace(fields, Vec::new(alloc)));
+    mem::swap(&mut state.messages, &mut sent.messages);
+    mem::swap(&mut state.puts, &mut sent.puts);
     let fault = run_vertex(
         image,
         code,
@@ -121,8 +115,8 @@ pub fn vertex_step(
         ≡ (step_after (program image.now) block globals.now graph.now node inbox.now fields.old.items).state.fields) }
     ensures messages { OnOk result (sent.new.messages
         ≡ sent.old.messages ++ (step_after (program image.now) block globals.now graph.now node inbox.now fields.old.items).state.messages) }
-    ensures puts { OnOk result (sent.new.puts.items
-        ≡ sent.old.puts.items ++ (step_after (program image.now) block globals.now graph.now node inbox.now fields.old.items).state.puts) }
+    ensures puts { OnOk result (sent.new.puts
+        ≡ sent.old.puts ++ (step_after (program image.now) block globals.now graph.now node inbox.now fields.old.items).state.puts) }
     ensures fault { OnOk result (sent.new.fault
         ≡ lesser sent.old.fault (step_after (program image.now) block globals.now graph.now node inbox.now fields.old.items).fault) }
 {

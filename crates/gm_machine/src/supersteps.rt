@@ -47,22 +47,6 @@ struct Round<'a> {
     values: &'a [Value],
 }
 
-// A state that has done nothing.
-fn idle(alloc: Global) -> VertexState
-    ensures messages { result.messages ≡ [] }
-    ensures puts { result.puts.items ≡ [] }
-{
-    VertexState {
-        fields: Vec::new(alloc),
-        registers: Vec::new(alloc),
-        messages: Batch::empty(alloc),
-        puts: Vec::new(alloc),
-        folds: Vec::new(alloc),
-        found: Vec::new(alloc),
-        given: Vec::new(alloc),
-    }
-}
-
 // The step of a node with its fields and the messages of some headers. What it sends and puts comes behind what was sent
 // and put before.
 fn step_node(
@@ -85,8 +69,8 @@ fn step_node(
         ≡ slice_set (fields_of fields.old) node (node_after round.now inbox.now node (slice_index_or (fields_of fields.old) node [])).state.fields) }
     ensures messages { OnOk result (state.new.messages
         ≡ state.old.messages ++ (node_after round.now inbox.now node (slice_index_or (fields_of fields.old) node [])).state.messages) }
-    ensures puts { OnOk result (state.new.puts.items
-        ≡ state.old.puts.items ++ (node_after round.now inbox.now node (slice_index_or (fields_of fields.old) node [])).state.puts) }
+    ensures puts { OnOk result (state.new.puts
+        ≡ state.old.puts ++ (node_after round.now inbox.now node (slice_index_or (fields_of fields.old) node [])).state.puts) }
     ensures fault { IfOk result (λ f. f ≡ (node_after round.now inbox.now node (slice_index_or (fields_of fields.old) node [])).fault) }
 {
     let context = VertexContext {
@@ -124,11 +108,11 @@ fn step_quiet(
     requires nodes { fields.old.nodes ≡ node_count round.now.graph.now }
     requires full { IsFull (length fields.old.rows.items) fields.old }
     requires messages { state.old.messages ≡ [] }
-    requires puts { state.old.puts.items ≡ [] }
+    requires puts { state.old.puts ≡ [] }
     ensures nodes { OnOk result (fields.new.nodes ≡ fields.old.nodes) }
     ensures full { OnOk result (IsFull (length fields.old.rows.items) fields.new) }
     ensures together { IfOk result (λ f.
-        record { fields = fields_of fields.new; messages = state.new.messages; puts = state.new.puts.items; fault = f }
+        record { fields = fields_of fields.new; messages = state.new.messages; puts = state.new.puts; fault = f }
         ≡ together (nodes_after round.now [] (fields_of fields.old))) }
 {
     let nodes = round.graph.node_count();
@@ -154,11 +138,11 @@ fn step_all(
     requires nodes { fields.old.nodes ≡ node_count round.now.graph.now }
     requires full { IsFull (length fields.old.rows.items) fields.old }
     requires messages { state.old.messages ≡ [] }
-    requires puts { state.old.puts.items ≡ [] }
+    requires puts { state.old.puts ≡ [] }
     ensures nodes { OnOk result (fields.new.nodes ≡ fields.old.nodes) }
     ensures full { OnOk result (IsFull (length fields.old.rows.items) fields.new) }
     ensures together { IfOk result (λ f.
-        record { fields = fields_of fields.new; messages = state.new.messages; puts = state.new.puts.items; fault = f }
+        record { fields = fields_of fields.new; messages = state.new.messages; puts = state.new.puts; fault = f }
         ≡ together (nodes_after round.now headers.now (fields_of fields.old))) }
 {
     if headers.is_empty() {
@@ -206,7 +190,7 @@ pub(crate) fn superstep(
         ≡ superstep (program image.now) graph.now block globals.old.items (nodes_of nodes.old)) }
 {
     let sent = mem::replace(&mut nodes.sent, Batch::empty(alloc));
-    let mut state = idle(alloc);
+    let mut state = VertexState::idle(alloc, Vec::new(alloc));
     let code = block_at(image, block);
     let seen = globals.as_slice();
     let values = sent.values.as_slice();
@@ -220,8 +204,13 @@ pub(crate) fn superstep(
     };
     let fault = step_all(alloc, &round, headers, &mut nodes.fields, &mut state)?;
     let places = image.places.len();
-    let puts = state.puts.as_slice();
-    let put = settle(places, puts, globals)?;
+    let put = settle(
+        places,
+        &state.puts,
+        globals,
+        &mut state.found,
+        &mut state.room,
+    )?;
     let more = state.messages.messages() as u64;
     let supersteps = sum(nodes.supersteps, 1)?;
     let messages = sum(nodes.messages, more)?;

@@ -8,7 +8,7 @@ use Rattle.gm_machine.proofs.bodies.run_vertex.Goals as goal
 
 pub returns-in-Faulted : goal.returns-in-Faulted
 returns-in-Faulted c =
-    vertex-faulted (program c.args.image.now) (code_of c.args.code) (context_of c.args.context.now) (map (message_of c.args.values.now) c.args.headers.now) c.args.state.now.fields.items c.args.state.now.messages c.args.state.now.puts.items
+    vertex-faulted (program c.args.image.now) (code_of c.args.code) (context_of c.args.context.now) (map (message_of c.args.values.now) c.args.headers.now) c.args.state.now.fields.items c.args.state.now.messages c.args.state.now.puts
     c.len-places.result (code_of c.args.code).handlers c.as_slice-registers.result.now
     c.len-places.ensures refl c.as_slice-registers.ensures
     (state_of c.run_handlers.new.state) (state_of c.take_folds.new.state) c.in_ok-handled.handled c.in_ok-end.end c.in-Faulted.f
@@ -16,7 +16,7 @@ returns-in-Faulted c =
 
 pub returns-in_ok-fault-in-Next : goal.returns-in_ok-fault-in-Next
 returns-in_ok-fault-in-Next c =
-    vertex-goes (program c.args.image.now) (code_of c.args.code) (context_of c.args.context.now) (map (message_of c.args.values.now) c.args.headers.now) c.args.state.now.fields.items c.args.state.now.messages c.args.state.now.puts.items
+    vertex-goes (program c.args.image.now) (code_of c.args.code) (context_of c.args.context.now) (map (message_of c.args.values.now) c.args.headers.now) c.args.state.now.fields.items c.args.state.now.messages c.args.state.now.puts
     c.len-places.result (code_of c.args.code).handlers c.as_slice-registers.result.now (code_of c.args.code).body
     c.len-places.ensures refl c.as_slice-registers.ensures refl
     (state_of c.run_handlers.new.state) (state_of c.take_folds.new.state) (state_of c.run_body.new.state) c.in_ok-handled.handled c.in_ok-fault-in-Next.fault c.in_ok-end.end c.in-Next.field-0

@@ -1,15 +1,14 @@
 -- What the places before this one gave.
 use Rattle.std.proofs.Common.{◌≡◌, ◌<◌, ◌≤◌, ◌^◌, ◌-◌, Ok}
 use Rattle.gm_value.specs.Taking.{taken}
-use Rattle.gm_machine.specs.Taking.{to_slot, closed}
-use Rattle.gm_machine.specs.Settling.{place_of}
+use Rattle.gm_machine.specs.Settling.{to_slot, closed_one, place_of}
 use Rattle.gm_machine.proofs.settling.reduced.Given as goal
 
 abbrev pub invariant-loop-place : goal.invariant-loop-place
 invariant-loop-place l = record {
   at_most : l.place ≤ l.places;
   a_place : l.place < l.places → l.place < 2 ^ 32;
-  taken_so_far : taken place_of (closed l.reduce) l.place l.fn.held (to_slot l.slot l.contributions) ≡ Ok l.value;
+  taken_so_far : taken place_of (closed_one l.reduce) l.place l.fn.held (to_slot l.slot l.parts) ≡ Ok l.value;
 }
 
 abbrev pub decreases-loop-place : goal.decreases-loop-place

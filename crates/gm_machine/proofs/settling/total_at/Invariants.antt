@@ -7,4 +7,4 @@ use Rattle.gm_machine.proofs.TotalSteps.{members}
 use Rattle.gm_machine.proofs.settling.total_at.Given as goal
 
 abbrev pub invariant-loop-c : goal.invariant-loop-c
-invariant-loop-c l = IsTotal l.reduce I64 l.total (longs_of (members l.slot l.place (take l.c-index l.contributions)))
+invariant-loop-c l = IsTotal l.reduce I64 l.total (longs_of (members l.slot l.place (take l.c-index l.parts)))

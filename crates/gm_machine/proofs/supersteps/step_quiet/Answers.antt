@@ -26,10 +26,10 @@ loop-node-preserved c =
       nodes = c.in_ok-one.ensures.nodes ∙ c.loop-node.invariant.nodes;
       full = subst (λ n. IsFull n c.step_node.new.fields) c.loop-node.invariant.full.wide c.in_ok-one.ensures.full;
       stepped =
-          stepped-more step node (fields_of c.args.fields.now) now (fields_of c.step_node.new.fields) c.loop-node.state.messages c.step_node.new.state.messages c.loop-node.state.puts.items c.step_node.new.state.puts.items c.loop-node.fault c.lesser-fault.result within
+          stepped-more step node (fields_of c.args.fields.now) now (fields_of c.step_node.new.fields) c.loop-node.state.messages c.step_node.new.state.messages c.loop-node.state.puts c.step_node.new.state.puts c.loop-node.fault c.lesser-fault.result within
           (c.in_ok-one.ensures.fields ∙ ap (λ a. set now node a.state.fields) same)
           (c.in_ok-one.ensures.messages ∙ ap (λ a. c.loop-node.state.messages ++ a.state.messages) same)
-          (c.in_ok-one.ensures.puts ∙ ap (λ a. c.loop-node.state.puts.items ++ a.state.puts) same)
+          (c.in_ok-one.ensures.puts ∙ ap (λ a. c.loop-node.state.puts ++ a.state.puts) same)
           (c.lesser-fault.ensures ∙ ap (lesser c.loop-node.fault) (c.in_ok-one.ensures.fault ∙ ap (λ a. a.fault) same))
           c.loop-node.invariant.stepped;
     }
@@ -41,4 +41,4 @@ returns-clause-together c =
     let step : (ℕ × List Value) → After = step_of (program r.image.now) r.graph.now (code_of r.code) r.globals.now [] in
     let wide : length now ≡ c.loop-node.fields.nodes = length-by_node c.loop-node.fields.nodes (columns_of c.loop-node.fields) in
     let end : length now ≤ c.loop-node.node = omega (arith, wide, c.loop-node.invariant.nodes, c.requires.nodes, c.node_count-nodes.ensures.count, c.loop-node-test.false) in
-    stepped-all step c.loop-node.node (fields_of c.args.fields.now) now c.loop-node.state.messages c.loop-node.state.puts.items c.loop-node.fault end c.loop-node.invariant.stepped
+    stepped-all step c.loop-node.node (fields_of c.args.fields.now) now c.loop-node.state.messages c.loop-node.state.puts c.loop-node.fault end c.loop-node.invariant.stepped

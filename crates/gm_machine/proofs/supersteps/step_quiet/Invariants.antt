@@ -13,5 +13,5 @@ invariant-loop-node l = record {
   full : IsFull (length l.fn.fields.rows.items) l.fields;
   stepped : IsSteppedTo
       (step_of (program l.round.image.now) l.round.graph.now (code_of l.round.code) l.round.globals.now [])
-      l.node (fields_of l.fn.fields) (fields_of l.fields) l.state.messages l.state.puts.items l.fault;
+      l.node (fields_of l.fn.fields) (fields_of l.fields) l.state.messages l.state.puts l.fault;
 }
