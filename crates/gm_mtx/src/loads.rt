@@ -96,6 +96,36 @@ pub fn parse_mtx(
     Ok(build(alloc, raw)?)
 }
 
+/// The graph that a Matrix Market text stands for, or the fault of its first line that has one, as `parse_mtx` answers. The
+/// text is let go as soon as its lines are read, so that it adds nothing to the memory that the making of the graph takes.
+///
+/// # Errors
+///
+/// Those of `parse_mtx`.
+pub fn consume_mtx(
+    alloc: Global,
+    text: Vec<u8>,
+    shape: &Shape,
+    limits: &Limits,
+) -> Result<Graph, MtxFault>
+    requires few_nodes { limits.now.nodes ≤ 2147483647 }
+    requires few_edges { limits.now.edges ≤ 2147483647 }
+    ensures graph { IfOk result (StandsFor shape.now limits.now text.items) }
+    ensures columns { IfOk result (HasColumns (length shape.now.nodes) (length shape.now.edges)) }
+    ensures fault { IfErr result (λ e. e ≢ MtxFault.NoMemory
+        → matrix_of shape.now limits.now text.items ≡ Err e) }
+{
+    if text.len() as u64 > limits.bytes {
+        return Err(MtxFault::TooLong);
+    }
+    let matrix = read_matrix(alloc, &text, shape, limits)?;
+    drop(text);
+    let raw = matrix
+        .tables
+        .into_raw(alloc, shape_like(alloc, shape)?, matrix.size)?;
+    Ok(build(alloc, raw)?)
+}
+
 /// The graph that the bytes of a source stand for as a Matrix Market text. It reads to the end first, in pieces of any
 /// size.
 ///

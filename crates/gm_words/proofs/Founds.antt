@@ -49,14 +49,15 @@ module _ (known : List Known) (words : List Text) (m : ArgMatches) (gives : Give
       go [] e = sym (ap (λ (o : Option (List Text)). unwrap_or o []) e)
       go (p ∷ ps) e = sym (ap (λ (o : Option (List Text)). unwrap_or o []) e)
 
-  options_are : (observe : Bool) → IsNoFlag (codes "workers") known → IsNoFlag (codes "partition") known → IsNoFlag (codes "turns") known
+  options_are : (observe : Bool) → IsNoFlag (codes "workers") known → IsNoFlag (codes "partition") known → IsNoFlag (codes "turns") known → IsNoFlag (codes "format") known
       → options_of observe gives.given_is ≡ options_found observe (found_of m)
-  options_are observe workers partition turns =
+  options_are observe workers partition turns format =
       let g = gives.given_is in
       let f = found_of m in
-      ap (λ (w : Option Text). options_by observe w (text_of (codes "partition") g) (text_of (codes "turns") g)) (text_is (codes "workers") workers refl)
-      ∙ ap (λ (w : Option Text). options_by observe (first_value f (codes "workers")) w (text_of (codes "turns") g)) (text_is (codes "partition") partition refl)
-      ∙ ap (λ (w : Option Text). options_by observe (first_value f (codes "workers")) (first_value f (codes "partition")) w) (text_is (codes "turns") turns refl)
+      ap (λ (w : Option Text). options_by observe w (text_of (codes "partition") g) (text_of (codes "turns") g) (text_of (codes "format") g)) (text_is (codes "workers") workers refl)
+      ∙ ap (λ (w : Option Text). options_by observe (first_value f (codes "workers")) w (text_of (codes "turns") g) (text_of (codes "format") g)) (text_is (codes "partition") partition refl)
+      ∙ ap (λ (w : Option Text). options_by observe (first_value f (codes "workers")) (first_value f (codes "partition")) w (text_of (codes "format") g)) (text_is (codes "turns") turns refl)
+      ∙ ap (λ (w : Option Text). options_by observe (first_value f (codes "workers")) (first_value f (codes "partition")) (first_value f (codes "turns")) w) (text_is (codes "format") format refl)
 
 -- a parse tells of the options that have no value
 pub tells_flags : (verb : Verb) (words : List Text) (m : ArgMatches) → GivesTo (known_options verb) words m → TellsFlags verb (found_of m)
@@ -79,7 +80,7 @@ found_is Run words m gives =
     ∙ ap (λ (b : Bool). run_job (flag_found (codes "image") f) b (options_of b g) g.positionals)
     (flag_is (known_options Run) words m gives (codes "observe") observe_option refl refl refl refl)
     ∙ ap (λ (o : Option Options). run_job (flag_found (codes "image") f) (flag_found (codes "observe") f) o g.positionals)
-    (options_are (known_options Run) words m gives (flag_found (codes "observe") f) refl refl refl)
+    (options_are (known_options Run) words m gives (flag_found (codes "observe") f) refl refl refl refl)
     ∙ ap (run_job (flag_found (codes "image") f) (flag_found (codes "observe") f) (options_found (flag_found (codes "observe") f) f))
     (words_are (known_options Run) words m gives refl)
 found_is Check words m gives = ap (λ (w : List Text). option_map job.Check (one_word w)) (words_are [] words m gives refl)
@@ -88,10 +89,10 @@ found_is Exec words m gives =
     let g = gives.given_is in
     let f = found_of m in
     ap (λ (b : Bool). exec_job (options_of b g) g.positionals) (flag_is (known_options Exec) words m gives (codes "observe") observe_option refl refl refl refl)
-    ∙ ap (λ (o : Option Options). exec_job o g.positionals) (options_are (known_options Exec) words m gives (flag_found (codes "observe") f) refl refl refl)
+    ∙ ap (λ (o : Option Options). exec_job o g.positionals) (options_are (known_options Exec) words m gives (flag_found (codes "observe") f) refl refl refl refl)
     ∙ ap (exec_job (options_found (flag_found (codes "observe") f) f)) (words_are (known_options Exec) words m gives refl)
 found_is Demo words m gives =
     let g = gives.given_is in
     let f = found_of m in
-    ap (λ (o : Option Options). demo_job o g.positionals) (options_are (known_options Demo) words m gives false refl refl refl)
+    ap (λ (o : Option Options). demo_job o g.positionals) (options_are (known_options Demo) words m gives false refl refl refl refl)
     ∙ ap (demo_job (options_found false f)) (words_are (known_options Demo) words m gives refl)

@@ -7,6 +7,8 @@ use Rattle.clap.specs.Words.{first_value}
 use Rattle.clap.specs.declared.parser.matches.Found.{Found}
 use Rattle.gm_partition.specs.declared.Owner.{Owner}
 use Rattle.gm_partition.specs.declared.Owner.TheVariants.{Mod}
+use Rattle.gm_words.specs.declared.jobs.Format.{Format}
+use Rattle.gm_words.specs.declared.jobs.Format.TheVariants.{Edges}
 use Rattle.gm_words.specs.declared.jobs.Job.{Job}
 use Rattle.gm_words.specs.declared.jobs.Job.TheVariants as job
 use Rattle.gm_words.specs.declared.jobs.Options.{Options}
@@ -14,7 +16,7 @@ use Rattle.gm_words.specs.declared.verbs.Verb.{Verb}
 use Rattle.gm_words.specs.declared.verbs.Verb.TheVariants.{Run, Check, Compile, Exec, Demo}
 use Rattle.gm_words.specs.Words.{Text}
 use Rattle.gm_words.specs.Found.{flag_found, job_found, options_found, words_found}
-use Rattle.gm_words.specs.Jobs.{AllAssign, AreRight, IsRight, demo_job, exec_job, is_assignment, is_number, number_from, one_word, options_by, options_with, owner_of_text, run_job, turns_of_text, two_words, value_or, workers_of_text}
+use Rattle.gm_words.specs.Jobs.{AllAssign, AreRight, IsRight, demo_job, exec_job, format_of_text, is_assignment, is_number, number_from, one_word, options_by, options_with, owner_of_text, run_job, turns_of_text, two_words, value_or, workers_of_text}
 
 -- a number lies within its bounds
 number_right : (least most : ℕ) (text : Text) → IfSome (number_from least most text) (λ n. (least ≤ n) × (n ≤ most))
@@ -32,17 +34,18 @@ value_right : {A : Type 0} (P : A → Type 0) (usual : A) (read : Text → Optio
 value_right P usual read None here there = here
 value_right P usual read (Some text) here there = there text
 
-options_right : (observe : Bool) (workers partition turns : Option Text) → IfSome (options_by observe workers partition turns) AreRight
-options_right observe workers partition turns =
-    go (value_or 4 workers_of_text workers) (value_or Mod owner_of_text partition) (value_or 1000000 turns_of_text turns)
+options_right : (observe : Bool) (workers partition turns format : Option Text) → IfSome (options_by observe workers partition turns format) AreRight
+options_right observe workers partition turns format =
+    go (value_or 4 workers_of_text workers) (value_or Mod owner_of_text partition) (value_or 1000000 turns_of_text turns) (value_or Edges format_of_text format)
     (value_right (λ n. (1 ≤ n) × (n ≤ 64)) 4 workers_of_text workers (omega arith, omega arith) (number_right 1 64))
     (value_right (λ n. (0 ≤ n) × (n ≤ 9223372036854775807)) 1000000 turns_of_text turns (omega arith, omega arith) (number_right 0 9223372036854775807))
   where
-    go : (a : Option ℕ) (b : Option Owner) (c : Option ℕ) → IfSome a (λ n. (1 ≤ n) × (n ≤ 64)) → IfSome c (λ n. (0 ≤ n) × (n ≤ 9223372036854775807)) → IfSome (options_with observe a b c) AreRight
-    go (Some a) (Some b) (Some c) h k = record { some_worker = h.0; few_workers = h.1; few_turns = k.1 }
-    go (Some a) (Some b) None h k = tt
-    go (Some a) None c h k = tt
-    go None b c h k = tt
+    go : (a : Option ℕ) (b : Option Owner) (c : Option ℕ) (d : Option Format) → IfSome a (λ n. (1 ≤ n) × (n ≤ 64)) → IfSome c (λ n. (0 ≤ n) × (n ≤ 9223372036854775807)) → IfSome (options_with observe a b c d) AreRight
+    go (Some a) (Some b) (Some c) (Some d) h k = record { some_worker = h.0; few_workers = h.1; few_turns = k.1 }
+    go (Some a) (Some b) (Some c) None h k = tt
+    go (Some a) (Some b) None d h k = tt
+    go (Some a) None c d h k = tt
+    go None b c d h k = tt
 
 two_right : (words : List Text) → IfSome (two_words words) (λ t. AllAssign t.2)
 two_right [] = tt
@@ -93,10 +96,10 @@ file_right make right (Some text) = right text
 
 pub right_found : (verb : Verb) (f : Found) → IfSome (job_found verb f) IsRight
 right_found Run f = run_right (flag_found (codes "image") f) (flag_found (codes "observe") f) (options_found (flag_found (codes "observe") f) f) (words_found f)
-    (options_right (flag_found (codes "observe") f) (first_value f (codes "workers")) (first_value f (codes "partition")) (first_value f (codes "turns")))
+    (options_right (flag_found (codes "observe") f) (first_value f (codes "workers")) (first_value f (codes "partition")) (first_value f (codes "turns")) (first_value f (codes "format")))
 right_found Check f = file_right job.Check (λ t. tt) (one_word (words_found f))
 right_found Compile f = file_right job.Compile (λ t. tt) (one_word (words_found f))
 right_found Exec f = exec_right (options_found (flag_found (codes "observe") f) f) (words_found f)
-    (options_right (flag_found (codes "observe") f) (first_value f (codes "workers")) (first_value f (codes "partition")) (first_value f (codes "turns")))
+    (options_right (flag_found (codes "observe") f) (first_value f (codes "workers")) (first_value f (codes "partition")) (first_value f (codes "turns")) (first_value f (codes "format")))
 right_found Demo f = demo_right (options_found false f) (words_found f)
-    (options_right false (first_value f (codes "workers")) (first_value f (codes "partition")) (first_value f (codes "turns")))
+    (options_right false (first_value f (codes "workers")) (first_value f (codes "partition")) (first_value f (codes "turns")) (first_value f (codes "format")))

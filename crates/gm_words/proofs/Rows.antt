@@ -1,37 +1,38 @@
 -- The jobs of command lines that are written out, as their definition computes them.
 use Rattle.std.proofs.Common.{◌≡◌, [], ◌∷◌, true, false, Some, None, refl, codes}
 use Rattle.gm_partition.specs.declared.Owner.TheVariants.{Mod, Block, Spread}
+use Rattle.gm_words.specs.declared.jobs.Format.TheVariants.{Edges, Mtx}
 use Rattle.gm_words.specs.declared.jobs.Job.TheVariants as job
 use Rattle.gm_words.specs.Words.{given_after}
 use Rattle.gm_words.specs.Jobs.{job_of}
 
 -- run a.gm g.txt
-row1 : job_of (codes "run" ∷ codes "a.gm" ∷ codes "g.txt" ∷ []) ≡ Some (job.Run (codes "a.gm") (codes "g.txt") ([]) (record { workers = 4; owner = Mod; turns = 1000000; observe = false }) false)
+row1 : job_of (codes "run" ∷ codes "a.gm" ∷ codes "g.txt" ∷ []) ≡ Some (job.Run (codes "a.gm") (codes "g.txt") ([]) (record { workers = 4; owner = Mod; turns = 1000000; observe = false; format = Edges }) false)
 unfolding given_after
 row1 = refl
 
 -- run --workers 8 a.gm g.txt k=3 root=0
-row2 : job_of (codes "run" ∷ codes "--workers" ∷ codes "8" ∷ codes "a.gm" ∷ codes "g.txt" ∷ codes "k=3" ∷ codes "root=0" ∷ []) ≡ Some (job.Run (codes "a.gm") (codes "g.txt") (codes "k=3" ∷ codes "root=0" ∷ []) (record { workers = 8; owner = Mod; turns = 1000000; observe = false }) false)
+row2 : job_of (codes "run" ∷ codes "--workers" ∷ codes "8" ∷ codes "a.gm" ∷ codes "g.txt" ∷ codes "k=3" ∷ codes "root=0" ∷ []) ≡ Some (job.Run (codes "a.gm") (codes "g.txt") (codes "k=3" ∷ codes "root=0" ∷ []) (record { workers = 8; owner = Mod; turns = 1000000; observe = false; format = Edges }) false)
 unfolding given_after
 row2 = refl
 
 -- run a.gm --workers=8 g.txt --partition=block
-row3 : job_of (codes "run" ∷ codes "a.gm" ∷ codes "--workers=8" ∷ codes "g.txt" ∷ codes "--partition=block" ∷ []) ≡ Some (job.Run (codes "a.gm") (codes "g.txt") ([]) (record { workers = 8; owner = Block; turns = 1000000; observe = false }) false)
+row3 : job_of (codes "run" ∷ codes "a.gm" ∷ codes "--workers=8" ∷ codes "g.txt" ∷ codes "--partition=block" ∷ []) ≡ Some (job.Run (codes "a.gm") (codes "g.txt") ([]) (record { workers = 8; owner = Block; turns = 1000000; observe = false; format = Edges }) false)
 unfolding given_after
 row3 = refl
 
 -- run a.gm g.txt --partition spread:7 --turns 5
-row4 : job_of (codes "run" ∷ codes "a.gm" ∷ codes "g.txt" ∷ codes "--partition" ∷ codes "spread:7" ∷ codes "--turns" ∷ codes "5" ∷ []) ≡ Some (job.Run (codes "a.gm") (codes "g.txt") ([]) (record { workers = 4; owner = Spread 7; turns = 5; observe = false }) false)
+row4 : job_of (codes "run" ∷ codes "a.gm" ∷ codes "g.txt" ∷ codes "--partition" ∷ codes "spread:7" ∷ codes "--turns" ∷ codes "5" ∷ []) ≡ Some (job.Run (codes "a.gm") (codes "g.txt") ([]) (record { workers = 4; owner = Spread 7; turns = 5; observe = false; format = Edges }) false)
 unfolding given_after
 row4 = refl
 
 -- run a.gm g.txt --observe --image
-row5 : job_of (codes "run" ∷ codes "a.gm" ∷ codes "g.txt" ∷ codes "--observe" ∷ codes "--image" ∷ []) ≡ Some (job.Run (codes "a.gm") (codes "g.txt") ([]) (record { workers = 4; owner = Mod; turns = 1000000; observe = true }) true)
+row5 : job_of (codes "run" ∷ codes "a.gm" ∷ codes "g.txt" ∷ codes "--observe" ∷ codes "--image" ∷ []) ≡ Some (job.Run (codes "a.gm") (codes "g.txt") ([]) (record { workers = 4; owner = Mod; turns = 1000000; observe = true; format = Edges }) true)
 unfolding given_after
 row5 = refl
 
 -- run a.gm g.txt --image
-row6 : job_of (codes "run" ∷ codes "a.gm" ∷ codes "g.txt" ∷ codes "--image" ∷ []) ≡ Some (job.Run (codes "a.gm") (codes "g.txt") ([]) (record { workers = 4; owner = Mod; turns = 1000000; observe = false }) true)
+row6 : job_of (codes "run" ∷ codes "a.gm" ∷ codes "g.txt" ∷ codes "--image" ∷ []) ≡ Some (job.Run (codes "a.gm") (codes "g.txt") ([]) (record { workers = 4; owner = Mod; turns = 1000000; observe = false; format = Edges }) true)
 unfolding given_after
 row6 = refl
 
@@ -41,7 +42,7 @@ unfolding given_after
 row7 = refl
 
 -- run - - x=-1
-row8 : job_of (codes "run" ∷ codes "-" ∷ codes "-" ∷ codes "x=-1" ∷ []) ≡ Some (job.Run (codes "-") (codes "-") (codes "x=-1" ∷ []) (record { workers = 4; owner = Mod; turns = 1000000; observe = false }) false)
+row8 : job_of (codes "run" ∷ codes "-" ∷ codes "-" ∷ codes "x=-1" ∷ []) ≡ Some (job.Run (codes "-") (codes "-") (codes "x=-1" ∷ []) (record { workers = 4; owner = Mod; turns = 1000000; observe = false; format = Edges }) false)
 unfolding given_after
 row8 = refl
 
@@ -51,12 +52,12 @@ unfolding given_after
 row9 = refl
 
 -- run -- --a -b c=1
-row10 : job_of (codes "run" ∷ codes "--" ∷ codes "--a" ∷ codes "-b" ∷ codes "c=1" ∷ []) ≡ Some (job.Run (codes "--a") (codes "-b") (codes "c=1" ∷ []) (record { workers = 4; owner = Mod; turns = 1000000; observe = false }) false)
+row10 : job_of (codes "run" ∷ codes "--" ∷ codes "--a" ∷ codes "-b" ∷ codes "c=1" ∷ []) ≡ Some (job.Run (codes "--a") (codes "-b") (codes "c=1" ∷ []) (record { workers = 4; owner = Mod; turns = 1000000; observe = false; format = Edges }) false)
 unfolding given_after
 row10 = refl
 
 -- run a.gm -- --image
-row11 : job_of (codes "run" ∷ codes "a.gm" ∷ codes "--" ∷ codes "--image" ∷ []) ≡ Some (job.Run (codes "a.gm") (codes "--image") ([]) (record { workers = 4; owner = Mod; turns = 1000000; observe = false }) false)
+row11 : job_of (codes "run" ∷ codes "a.gm" ∷ codes "--" ∷ codes "--image" ∷ []) ≡ Some (job.Run (codes "a.gm") (codes "--image") ([]) (record { workers = 4; owner = Mod; turns = 1000000; observe = false; format = Edges }) false)
 unfolding given_after
 row11 = refl
 
@@ -76,7 +77,7 @@ unfolding given_after
 row14 = refl
 
 -- run a.gm g.txt =a=b
-row15 : job_of (codes "run" ∷ codes "a.gm" ∷ codes "g.txt" ∷ codes "=a=b" ∷ []) ≡ Some (job.Run (codes "a.gm") (codes "g.txt") (codes "=a=b" ∷ []) (record { workers = 4; owner = Mod; turns = 1000000; observe = false }) false)
+row15 : job_of (codes "run" ∷ codes "a.gm" ∷ codes "g.txt" ∷ codes "=a=b" ∷ []) ≡ Some (job.Run (codes "a.gm") (codes "g.txt") (codes "=a=b" ∷ []) (record { workers = 4; owner = Mod; turns = 1000000; observe = false; format = Edges }) false)
 unfolding given_after
 row15 = refl
 
@@ -91,7 +92,7 @@ unfolding given_after
 row17 = refl
 
 -- run a.gm g.txt --workers 64
-row18 : job_of (codes "run" ∷ codes "a.gm" ∷ codes "g.txt" ∷ codes "--workers" ∷ codes "64" ∷ []) ≡ Some (job.Run (codes "a.gm") (codes "g.txt") ([]) (record { workers = 64; owner = Mod; turns = 1000000; observe = false }) false)
+row18 : job_of (codes "run" ∷ codes "a.gm" ∷ codes "g.txt" ∷ codes "--workers" ∷ codes "64" ∷ []) ≡ Some (job.Run (codes "a.gm") (codes "g.txt") ([]) (record { workers = 64; owner = Mod; turns = 1000000; observe = false; format = Edges }) false)
 unfolding given_after
 row18 = refl
 
@@ -156,7 +157,7 @@ unfolding given_after
 row30 = refl
 
 -- run a.gm g.txt --turns 9223372036854775807
-row31 : job_of (codes "run" ∷ codes "a.gm" ∷ codes "g.txt" ∷ codes "--turns" ∷ codes "9223372036854775807" ∷ []) ≡ Some (job.Run (codes "a.gm") (codes "g.txt") ([]) (record { workers = 4; owner = Mod; turns = 9223372036854775807; observe = false }) false)
+row31 : job_of (codes "run" ∷ codes "a.gm" ∷ codes "g.txt" ∷ codes "--turns" ∷ codes "9223372036854775807" ∷ []) ≡ Some (job.Run (codes "a.gm") (codes "g.txt") ([]) (record { workers = 4; owner = Mod; turns = 9223372036854775807; observe = false; format = Edges }) false)
 unfolding given_after
 row31 = refl
 
@@ -166,7 +167,7 @@ unfolding given_after
 row32 = refl
 
 -- run a.gm g.txt --turns 0000000000000000001
-row33 : job_of (codes "run" ∷ codes "a.gm" ∷ codes "g.txt" ∷ codes "--turns" ∷ codes "0000000000000000001" ∷ []) ≡ Some (job.Run (codes "a.gm") (codes "g.txt") ([]) (record { workers = 4; owner = Mod; turns = 1; observe = false }) false)
+row33 : job_of (codes "run" ∷ codes "a.gm" ∷ codes "g.txt" ∷ codes "--turns" ∷ codes "0000000000000000001" ∷ []) ≡ Some (job.Run (codes "a.gm") (codes "g.txt") ([]) (record { workers = 4; owner = Mod; turns = 1; observe = false; format = Edges }) false)
 unfolding given_after
 row33 = refl
 
@@ -231,7 +232,7 @@ unfolding given_after
 row45 = refl
 
 -- exec i.img g.txt x=1 --observe
-row46 : job_of (codes "exec" ∷ codes "i.img" ∷ codes "g.txt" ∷ codes "x=1" ∷ codes "--observe" ∷ []) ≡ Some (job.Exec (codes "i.img") (codes "g.txt") (codes "x=1" ∷ []) (record { workers = 4; owner = Mod; turns = 1000000; observe = true }))
+row46 : job_of (codes "exec" ∷ codes "i.img" ∷ codes "g.txt" ∷ codes "x=1" ∷ codes "--observe" ∷ []) ≡ Some (job.Exec (codes "i.img") (codes "g.txt") (codes "x=1" ∷ []) (record { workers = 4; owner = Mod; turns = 1000000; observe = true; format = Edges }))
 unfolding given_after
 row46 = refl
 
@@ -241,7 +242,7 @@ unfolding given_after
 row47 = refl
 
 -- demo 10 --workers 2
-row48 : job_of (codes "demo" ∷ codes "10" ∷ codes "--workers" ∷ codes "2" ∷ []) ≡ Some (job.Demo 10 (record { workers = 2; owner = Mod; turns = 1000000; observe = false }))
+row48 : job_of (codes "demo" ∷ codes "10" ∷ codes "--workers" ∷ codes "2" ∷ []) ≡ Some (job.Demo 10 (record { workers = 2; owner = Mod; turns = 1000000; observe = false; format = Edges }))
 unfolding given_after
 row48 = refl
 
@@ -251,7 +252,7 @@ unfolding given_after
 row49 = refl
 
 -- demo 1000000
-row50 : job_of (codes "demo" ∷ codes "1000000" ∷ []) ≡ Some (job.Demo 1000000 (record { workers = 4; owner = Mod; turns = 1000000; observe = false }))
+row50 : job_of (codes "demo" ∷ codes "1000000" ∷ []) ≡ Some (job.Demo 1000000 (record { workers = 4; owner = Mod; turns = 1000000; observe = false; format = Edges }))
 unfolding given_after
 row50 = refl
 
@@ -279,3 +280,23 @@ row54 = refl
 row55 : job_of (codes "--image" ∷ codes "run" ∷ codes "a.gm" ∷ codes "g.txt" ∷ []) ≡ None
 unfolding given_after
 row55 = refl
+
+-- run a.gm g.mtx --format mtx
+row56 : job_of (codes "run" ∷ codes "a.gm" ∷ codes "g.mtx" ∷ codes "--format" ∷ codes "mtx" ∷ []) ≡ Some (job.Run (codes "a.gm") (codes "g.mtx") ([]) (record { workers = 4; owner = Mod; turns = 1000000; observe = false; format = Mtx }) false)
+unfolding given_after
+row56 = refl
+
+-- exec a.img g.txt --format=edges
+row57 : job_of (codes "exec" ∷ codes "a.img" ∷ codes "g.txt" ∷ codes "--format=edges" ∷ []) ≡ Some (job.Exec (codes "a.img") (codes "g.txt") ([]) (record { workers = 4; owner = Mod; turns = 1000000; observe = false; format = Edges }))
+unfolding given_after
+row57 = refl
+
+-- run a.gm g.mtx --format MTX
+row58 : job_of (codes "run" ∷ codes "a.gm" ∷ codes "g.mtx" ∷ codes "--format" ∷ codes "MTX" ∷ []) ≡ None
+unfolding given_after
+row58 = refl
+
+-- demo 10 --format mtx
+row59 : job_of (codes "demo" ∷ codes "10" ∷ codes "--format" ∷ codes "mtx" ∷ []) ≡ None
+unfolding given_after
+row59 = refl

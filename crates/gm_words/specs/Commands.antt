@@ -25,9 +25,9 @@ flag name = record (new_rule name) { long = Some name; action = Some SetTrue }
 abbrev pub dealt_app : Text → App
 dealt_app title = with_rule (with_rule (bare_app title) (valued (codes "workers"))) (valued (codes "partition"))
 
--- a command that also runs turns
+-- a command that also reads a graph and runs turns over it
 abbrev pub turning_app : Text → App
-turning_app title = with_rule (with_rule (dealt_app title) (valued (codes "turns"))) (flag (codes "observe"))
+turning_app title = with_rule (with_rule (with_rule (dealt_app title) (valued (codes "turns"))) (valued (codes "format"))) (flag (codes "observe"))
 
 -- a command with all its options
 abbrev pub optioned_app : Text → Verb → App

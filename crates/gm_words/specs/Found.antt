@@ -14,7 +14,7 @@ use Rattle.gm_words.specs.Jobs.{demo_job, exec_job, run_job, one_word, options_b
 
 -- the options that a parse found
 abbrev pub options_found : Bool → Found → Option Options
-options_found observe f = options_by observe (first_value f (codes "workers")) (first_value f (codes "partition")) (first_value f (codes "turns"))
+options_found observe f = options_by observe (first_value f (codes "workers")) (first_value f (codes "partition")) (first_value f (codes "turns")) (first_value f (codes "format"))
 
 -- the positionals that a parse found
 abbrev pub words_found : Found → List Text

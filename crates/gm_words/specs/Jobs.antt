@@ -6,6 +6,8 @@ use Rattle.std.specs.Str.{bytes_eq}
 use Rattle.std.specs.Str.Parse.{digits_value}
 use Rattle.gm_partition.specs.declared.Owner.{Owner}
 use Rattle.gm_partition.specs.declared.Owner.TheVariants.{Mod, Block, Spread}
+use Rattle.gm_words.specs.declared.jobs.Format.{Format}
+use Rattle.gm_words.specs.declared.jobs.Format.TheVariants.{Edges, Mtx}
 use Rattle.gm_words.specs.declared.jobs.Job.{Job}
 use Rattle.gm_words.specs.declared.jobs.Job.TheVariants as job
 use Rattle.gm_words.specs.declared.jobs.Options.{Options}
@@ -41,6 +43,13 @@ owner_of_text text =
     else (if bytes_eq (take 7 text) (codes "spread:") then option_map Spread (number_from 0 4294967295 (drop 7 text))
     else None))
 
+-- what a graph file holds: an edge list, or a Matrix Market text
+abbrev pub format_of_text : Text → Option Format
+format_of_text text =
+    if bytes_eq text (codes "edges") then Some Edges
+    else (if bytes_eq text (codes "mtx") then Some Mtx
+    else None)
+
 -- the value of an option, which the text gives, or this one where the option is not used
 abbrev pub value_or : {A : Type 0} → A → (Text → Option A) → Option Text → Option A
 value_or usual read None = Some usual
@@ -51,17 +60,19 @@ abbrev pub text_of : Text → Given → Option Text
 text_of name g = option_map (λ o. o.1) (find (λ o. bytes_eq o.0 name) g.options)
 
 -- all options, where each has a right value
-abbrev pub options_with : Bool → Option ℕ → Option Owner → Option ℕ → Option Options
-options_with observe (Some workers) (Some owner) (Some turns) = Some (record { workers = workers; owner = owner; turns = turns; observe = observe })
-options_with observe _ _ _ = None
+abbrev pub options_with : Bool → Option ℕ → Option Owner → Option ℕ → Option Format → Option Options
+options_with observe (Some workers) (Some owner) (Some turns) (Some format) =
+    Some (record { workers = workers; owner = owner; turns = turns; observe = observe; format = format })
+options_with observe _ _ _ _ = None
 
--- the options by their texts: 4 workers, `mod` and 1,000,000 turns where nothing else is said
-abbrev pub options_by : Bool → Option Text → Option Text → Option Text → Option Options
-options_by observe workers partition turns = options_with observe (value_or 4 workers_of_text workers) (value_or Mod owner_of_text partition) (value_or 1000000 turns_of_text turns)
+-- the options by their texts: 4 workers, `mod`, 1,000,000 turns and an edge list where nothing else is said
+abbrev pub options_by : Bool → Option Text → Option Text → Option Text → Option Text → Option Options
+options_by observe workers partition turns format =
+    options_with observe (value_or 4 workers_of_text workers) (value_or Mod owner_of_text partition) (value_or 1000000 turns_of_text turns) (value_or Edges format_of_text format)
 
 -- the options of a job; `observe` says whether it is observed
 abbrev pub options_of : Bool → Given → Option Options
-options_of observe g = options_by observe (text_of (codes "workers") g) (text_of (codes "partition") g) (text_of (codes "turns") g)
+options_of observe g = options_by observe (text_of (codes "workers") g) (text_of (codes "partition") g) (text_of (codes "turns") g) (text_of (codes "format") g)
 
 -- ---- the options of each command
 
@@ -74,6 +85,9 @@ partition_option = record { name = codes "partition"; has_value = true }
 abbrev pub turns_option : Known
 turns_option = record { name = codes "turns"; has_value = true }
 
+abbrev pub format_option : Known
+format_option = record { name = codes "format"; has_value = true }
+
 abbrev pub observe_option : Known
 observe_option = record { name = codes "observe"; has_value = false }
 
@@ -81,10 +95,10 @@ abbrev pub image_option : Known
 image_option = record { name = codes "image"; has_value = false }
 
 abbrev pub known_options : Verb → List Known
-known_options Run = workers_option ∷ partition_option ∷ turns_option ∷ observe_option ∷ image_option ∷ []
+known_options Run = workers_option ∷ partition_option ∷ turns_option ∷ format_option ∷ observe_option ∷ image_option ∷ []
 known_options Check = []
 known_options Compile = []
-known_options Exec = workers_option ∷ partition_option ∷ turns_option ∷ observe_option ∷ []
+known_options Exec = workers_option ∷ partition_option ∷ turns_option ∷ format_option ∷ observe_option ∷ []
 known_options Demo = workers_option ∷ partition_option ∷ []
 
 -- ---- the positionals of each command

@@ -48,12 +48,13 @@ fn dealt_command<'a>(alloc: Global) -> Result<Command<'a>, AllocError>
         .arg(valued_option(alloc, "partition"))
 }
 
-// A command that also runs turns.
+// A command that also reads a graph and runs turns over it.
 fn turning_command<'a>(alloc: Global) -> Result<Command<'a>, AllocError>
     ensures { IfOk result (λ c. app_of c ≡ turning_app (codes "gm")) }
 {
     dealt_command(alloc)?
         .arg(valued_option(alloc, "turns"))?
+        .arg(valued_option(alloc, "format"))?
         .arg(flag_option(alloc, "observe"))
 }
 

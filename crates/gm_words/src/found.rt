@@ -6,8 +6,8 @@ ghost use Rattle.gm_words.specs.Found.{TellsFlag, TellsFlags, flag_found, job_fo
 ghost use Rattle.gm_words.specs.Jobs.{one_word, two_words};
 ghost use Rattle.gm_words.specs.declared.verbs.Verb.TheVariants.{Run, Exec, Demo};
 
-use crate::jobs::{Job, Options, WordsStop};
-use crate::values::{are_assignments, read_number, read_owner};
+use crate::jobs::{Format, Job, Options, WordsStop};
+use crate::values::{are_assignments, read_format, read_number, read_owner};
 use crate::verbs::Verb;
 use clap::ArgMatches;
 use gm_base::{Items, Text};
@@ -57,11 +57,16 @@ fn read_options(matches: &ArgMatches, observe: bool) -> Option<Options>
         Some(text) => read_number(text, 0, 9223372036854775807)?,
         None => 1000000,
     };
+    let format = match matches.get_str("format") {
+        Some(text) => read_format(text)?,
+        None => Format::Edges,
+    };
     Some(Options {
         workers: workers as u32,
         owner,
         turns,
         observe,
+        format,
     })
 }
 

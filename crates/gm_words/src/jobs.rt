@@ -15,6 +15,15 @@ use gm_partition::Owner;
 use std::alloc::{AllocError, AllocFailed, Global};
 use std::{error, fmt};
 
+/// What a graph file holds.
+#[derive(Clone, Copy, Debug, PartialEq, Eq)]
+pub enum Format {
+    /// An edge list.
+    Edges,
+    /// A Matrix Market text.
+    Mtx,
+}
+
 /// How a program is to be run.
 #[derive(Clone, Copy, Debug, PartialEq, Eq)]
 pub struct Options {
@@ -26,6 +35,8 @@ pub struct Options {
     pub turns: u64,
     /// Whether the run is observed.
     pub observe: bool,
+    /// What the graph file holds.
+    pub format: Format,
 }
 
 /// What the program is to do. A name of a file that is `-` stands for standard input.

@@ -10,4 +10,4 @@ mod values;
 mod verbs;
 
 pub use arguments::{ArgFault, Input, bind};
-pub use jobs::{Job, Options, WordsStop, read_words};
+pub use jobs::{Format, Job, Options, WordsStop, read_words};

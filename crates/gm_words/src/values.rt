@@ -3,8 +3,9 @@
 ghost use Rattle.std.specs.Prelude.{◌≡◌, ◌≤◌, IfSome};
 ghost use Rattle.std.specs.List.{list_all};
 ghost use Rattle.std.specs.Char.{is_ascii_digit};
-ghost use Rattle.gm_words.specs.Jobs.{is_assignment, is_number, number_from, owner_of_text};
+ghost use Rattle.gm_words.specs.Jobs.{is_assignment, format_of_text, is_number, number_from, owner_of_text};
 
+use crate::jobs::Format;
 use gm_partition::Owner;
 
 /// Whether all bytes of a text are decimal digits.
@@ -51,6 +52,17 @@ pub fn read_owner(text: &str) -> Option<Owner>
     }
     let shift = read_number(text.strip_prefix("spread:")?, 0, 4294967295)?;
     Some(Owner::Spread(shift as u32))
+}
+
+/// How a text says what a graph file holds: `edges` or `mtx`.
+pub fn read_format(text: &str) -> Option<Format>
+    ensures { result ≡ format_of_text text.now }
+{
+    match text {
+        "edges" => Some(Format::Edges),
+        "mtx" => Some(Format::Mtx),
+        _ => None,
+    }
 }
 
 // Whether a `=` stands after at least one byte.
