@@ -130,10 +130,10 @@ const EFFECTS: [Row; 9] = [
         printed: "node s\n1 81\n2 0\n3 0\nturns 0\n",
     },
     Row {
-        name: "own_at_once_and_offered_in_the_end",
+        name: "own_and_offered_ones_end_together",
         words: "",
-        text: "Procedure p(G: Graph, v: N_P<Int>; m: N_P<Int>, w: N_P<Node>) { G.m = INF; Foreach (n: G.Nodes) { <n.m; n.w> min= <n.v; n>; Foreach (t: n.Nbrs) { <t.m; t.w> min= <n.v + 1; n>; } } }",
-        graph: "1 2\nv 1 3\nv 2 9\n",
+        text: "Procedure p(G: Graph, v: N_P<Int>; m: N_P<Int>, w: N_P<Node>) { G.m = INF; Foreach (n: G.Nodes) { Foreach (t: n.Nbrs) { <n.m; n.w> min= <n.v; n>; <t.m; t.w> min= <n.v + 1; n>; } } }",
+        graph: "1 2\n2 1\nv 1 3\nv 2 9\n",
         printed: "node m w\n1 3 1\n2 4 1\nturns 0\n",
     },
 ];
