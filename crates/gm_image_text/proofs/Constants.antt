@@ -1,6 +1,6 @@
 -- Constants are read from their spellings and from nothing else.
-use Rattle.std.proofs.Common.{◌≡◌, ◌<◌, ◌≤◌, ◌^◌, ℕ, zero, suc, Bool, true, false, cond, ◌&&◌, leb, List, [], ◌∷◌, ◌++◌, length, refl, ap, sym, ◌∙◌, subst, arith}
-use Rattle.std.specs.Prelude.{Option, Some, None, option_map, ⊤, ℤ, pos, negsuc, IsTrue, bytes_eq, codes}
+use Rattle.std.proofs.Common.{◌≡◌, ◌≤◌, Bool, true, false, cond, ◌&&◌, leb, List, [], ◌∷◌, ◌++◌, refl, ap, sym, ◌∙◌, subst, arith}
+use Rattle.std.specs.Prelude.{Option, Some, None, option_map, ℤ, pos, negsuc, IsTrue, bytes_eq, codes}
 use Rattle.std.specs.Fmt.{signed_decimal}
 use Rattle.std.proofs.lemmas.Bool.Decides.{nat_tests}
 use Rattle.std.proofs.lemmas.Slice.Eq.{bytes_eq-Decides}
@@ -18,7 +18,7 @@ use Rattle.gm_image_text.specs.Numbers.{signed_in, value_from, value_in}
 use Rattle.gm_image_text.specs.Reading.{◌>>=◌, word_at, constant_at}
 use Rattle.gm_image_text.proofs.LineBinds.{some_is, map_some, bind_some}
 use Rattle.gm_image_text.proofs.Spelled.{AllPlain}
-use Rattle.gm_image_text.proofs.Fields.{WordLaw, FieldLaw}
+use Rattle.gm_image_text.proofs.Fields.{FieldLaw}
 use Rattle.gm_image_text.proofs.Numerals.{IsNear, signed_ok, signed_again, signed_plain}
 use Rattle.gm_image_text.proofs.TableLaws.{flag_word, flags_word, types_word}
 

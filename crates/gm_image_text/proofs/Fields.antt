@@ -1,7 +1,7 @@
 -- The fields of a line: the words that spell each, and that it is read from these words and from no others.
-use Rattle.std.proofs.Common.{◌≡◌, ◌<◌, ◌+◌, ℕ, zero, suc, Bool, true, false, ◌&&◌, cond, List, [], ◌∷◌, ◌++◌, length, refl, ap, sym, ◌∙◌, subst, arith, append_assoc, length-append}
-use Rattle.std.specs.Prelude.{Option, Some, None, option_map, bytes_eq, ⊤}
-use Rattle.std.specs.List.{AllByRecursion, list_all}
+use Rattle.std.proofs.Common.{◌≡◌, Bool, true, false, ◌&&◌, cond, List, [], ◌∷◌, ◌++◌, refl, ap, sym, ◌∙◌, subst, append_assoc}
+use Rattle.std.specs.Prelude.{Option, Some, None, option_map, bytes_eq}
+use Rattle.std.specs.List.{list_all}
 use Rattle.std.proofs.lemmas.Slice.Eq.{bytes_eq-Decides}
 use Rattle.gm_image_text.specs.Lines.{Word}
 use Rattle.gm_image_text.specs.Fits.{IsPlain}
@@ -195,6 +195,36 @@ module _ {X Y : Type 0} (F : X → Type 0) (words : X → List Word) (read : Lis
     ok = made_ok;
     again = λ y g. ap (λ v. option_map make (read v)) (unmade y g) ∙ ap (option_map make) (law.again (unmake y) (remakes.back y g).0) ∙ ap (λ v. Some v) (remakes.back y g).1;
     plain = made_plain;
+  }
+
+-- what is made of a field
+module _ {X Y : Type 0} (F : X → Type 0) (words : X → List Word) (read : Reads X) (law : FieldLaw F words read) (G : Y → Type 0) (spelled : Y → List Word) (make : X → Y) (unmake : Y → X) (remakes : Remakes F words G spelled make unmake) where
+  abbrev field_made : X × List Word → Y × List Word
+  field_made x = (make x.0, x.1)
+
+  field_unmade : (y : Y) → G y → spelled y ≡ words (unmake y)
+  field_unmade y g =
+      let back : F (unmake y) × (make (unmake y) ≡ y) = remakes.back y g in
+      sym ((remakes.there (unmake y) back.0).1 ∙ ap spelled back.1)
+
+  field_ok : (ws rest : List Word) (y : Y) → AllPlain ws → option_map field_made (read ws) ≡ Some (y, rest) → G y × (ws ≡ spelled y ++ rest)
+  field_ok ws rest y p e =
+      let it = map_some (read ws) field_made (y, rest) e in
+      let got : F it.0.0 × (ws ≡ words it.0.0 ++ it.0.1) = law.ok ws it.0.1 it.0.0 p it.1 in
+      let there : G (make it.0.0) × (words it.0.0 ≡ spelled (make it.0.0)) = remakes.there it.0.0 got.0 in
+      let P : Y × List Word → Type 0 = λ v. G v.0 × (ws ≡ spelled v.0 ++ v.1) in
+      subst P it.2 (there.0, got.1 ∙ ap (λ v. v ++ it.0.1) there.1)
+
+  field_plain : (y : Y) → G y → AllPlain (spelled y)
+  field_plain y g =
+      let P : List Word → Type 0 = AllPlain in
+      subst P (sym (field_unmade y g)) (law.plain (unmake y) (remakes.back y g).0)
+
+  pub made_field : FieldLaw G spelled (λ ws. option_map (λ x. (make x.0, x.1)) (read ws))
+  made_field = record {
+    ok = field_ok;
+    again = λ y rest g. ap (λ v. option_map field_made (read (v ++ rest))) (field_unmade y g) ∙ ap (option_map field_made) (law.again (unmake y) rest (remakes.back y g).0) ∙ ap (λ v. Some (v, rest)) (remakes.back y g).1;
+    plain = field_plain;
   }
 
 and_true : (a b : Bool) → a && b ≡ true → (a ≡ true) × (b ≡ true)

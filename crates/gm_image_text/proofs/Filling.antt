@@ -1,10 +1,10 @@
 -- Lists that are filled from a text, part by part.
-use Rattle.std.proofs.Common.{◌≡◌, ◌<◌, ◌≤◌, ◌+◌, ◌-◌, ℕ, zero, suc, List, [], ◌∷◌, ◌++◌, length, map, refl, ap, sym, ◌∙◌, subst, append_assoc, arith}
-use Rattle.std.specs.Prelude.{Option, Some, None, ⊤, Result, Ok, Err}
+use Rattle.std.proofs.Common.{◌≡◌, ◌<◌, ◌≤◌, ◌+◌, ◌-◌, ℕ, suc, List, [], ◌∷◌, ◌++◌, map, refl, ap, sym, ◌∙◌, append_assoc, arith}
+use Rattle.std.specs.Prelude.{Result, Ok, Err}
 use Rattle.gm_image_text.specs.declared.faults.TextStop.{TextStop}
 use Rattle.gm_image_text.specs.declared.faults.TextStop.TheVariants as of_text
 use Rattle.gm_image_text.specs.Lines.{Line, lines_of}
-use Rattle.gm_image_text.specs.Sections.{◌>>=◌, Reads, then_at, mapped, times_at}
+use Rattle.gm_image_text.specs.Sections.{◌>>=◌, Reads, times_at}
 use Rattle.gm_image_text.specs.Giving.{RefusesText}
 
 -- what was read in front of what reading gives

@@ -1,24 +1,24 @@
 -- The whole of an image's text is read from its lines and from nothing else.
-use Rattle.std.proofs.Common.{◌≡◌, ◌<◌, ◌≤◌, ◌+◌, ℕ, zero, suc, List, [], ◌∷◌, ◌++◌, length, take, refl, ap, sym, ◌∙◌, subst, arith, append_assoc, length-append}
-use Rattle.std.specs.Prelude.{Option, Some, None, ⊤, codes, Result, Ok, Err}
+use Rattle.std.proofs.Common.{◌≡◌, ℕ, List, [], ◌∷◌, ◌++◌, length, refl, ap, sym, subst, arith}
+use Rattle.std.specs.Prelude.{None, codes}
 use Rattle.std.specs.Fmt.{decimal}
-use Rattle.std.specs.List.{flat_map, AllByRecursion}
+use Rattle.std.specs.List.{flat_map}
 use Rattle.gm_base.specs.declared.places.Place.{Place}
-use Rattle.gm_value.specs.declared.values.VType.{VType}
 use Rattle.gm_value.specs.declared.values.VType.TheVariants as vtype
 use Rattle.gm_image.specs.declared.images.Kind.{Kind}
 use Rattle.gm_image.specs.Program as P
 use Rattle.gm_image.specs.Program.{Program, Item, Command, Handler, Block}
+use Rattle.gm_image_text.specs.declared.heads.Version.{Version}
+use Rattle.gm_image_text.specs.declared.heads.Version.TheVariants as version
 use Rattle.gm_image_text.specs.Lines.{Word, Line, spaced}
 use Rattle.gm_image.specs.Ranges.{IsIndex, ResultFits, PlaceIsIndex}
 use Rattle.gm_image_text.specs.Fits.{IsPlain, IsName, LineFits, CommandFits, InputFits, OutputFits, ListFits, Any, HandlerFits, BlockFits, Fits}
-use Rattle.gm_image_text.specs.Spelling.{type_word, vertex_words, command_words, item_words, result_words, kind_words, place_pair, one_line, listed, type_lines, handler_lines, block_lines, opening_lines, middle_lines, closing_lines, image_lines}
+use Rattle.gm_image_text.specs.Spelling.{version_words, type_word, vertex_words, command_words, item_words, result_words, kind_words, place_pair, one_line, listed, type_lines, handler_lines, block_lines, lines_in}
 use Rattle.gm_image_text.specs.Reading as rows
-use Rattle.gm_image_text.specs.Sections.{Reads, row_at, dep_at, then_at, mapped, times_at, listed_at, handler_of, handler_at, block_of, block_at, Opening, opening_at, types_at, Middle, middle_at, Closing, closing_at, program_of, image_at}
-use Rattle.gm_image_text.proofs.Parts.{PartLaw, dep_law, Recasts, mapped_law}
+use Rattle.gm_image_text.specs.Sections.{Reads, row_at, dep_at, then_at, times_at, listed_at, handler_of, vertex_at, handler_at, block_of, block_at, Opening, opening_at, types_at, Middle, middle_at, Closing, closing_at, image_of, image_at}
+use Rattle.gm_image_text.proofs.Parts.{PartLaw, dep_law, mapped_law}
 use Rattle.gm_image_text.proofs.Times.{Counted, times_law}
-use Rattle.gm_image_text.proofs.LineLaw.{LineLaw, row_law}
-use Rattle.gm_image_text.proofs.TableLaws.{Whatever}
+use Rattle.gm_image_text.proofs.LineLaw.{row_law}
 use Rattle.gm_image_text.proofs.RowLaws.{type_law, first_law, name_law, count_law, OnFits, on_law, place_law, input_law, output_law, result_law, kind_law, vertex_law, vertex_nonempty, master_law, master_nonempty}
 
 -- one part, and behind it another
@@ -46,8 +46,8 @@ listed_law F lines read law word plain =
           ((subst P (sym c.many) h, c.each), ap (λ m. spaced (word ∷ decimal m ∷ []) ∷ flat_map lines xs) (sym c.many))
 
 -- the lines of each kind
-vertex_part : PartLaw LineFits (one_line vertex_words) (row_at rows.vertex_row)
-vertex_part = row_law LineFits vertex_words rows.vertex_row vertex_law vertex_nonempty (P.Each P.Out 0) (omega arith)
+vertex_part : (v : Version) → PartLaw (LineFits v) (one_line vertex_words) (vertex_at v)
+vertex_part v = row_law (LineFits v) vertex_words (rows.vertex_row v) (vertex_law v) vertex_nonempty (P.Each P.Out 0) (omega arith)
 
 master_part : PartLaw CommandFits (one_line command_words) (row_at rows.master_row)
 master_part = row_law CommandFits command_words rows.master_row master_law master_nonempty P.Finish tt
@@ -85,8 +85,8 @@ kind_part = row_law Any kind_words rows.kind_row kind_law (λ k. omega arith) (r
 place_part : PartLaw PlaceIsIndex (one_line place_pair) (row_at rows.place_row)
 place_part = row_law PlaceIsIndex place_pair rows.place_row place_law (λ p. omega arith) (record { line = 0; col = 0 }) (omega arith, omega arith)
 
-first_part : PartLaw {X = Unit {0}} Any (λ u. one_line (λ v. codes "gm-image" ∷ codes "1" ∷ []) u) (row_at rows.first_row)
-first_part = row_law Any (λ u. codes "gm-image" ∷ codes "1" ∷ []) rows.first_row first_law (λ u. omega arith) tt tt
+first_part : PartLaw Any (one_line version_words) (row_at rows.first_row)
+first_part = row_law Any version_words rows.first_row first_law (λ v. omega arith) version.Two tt
 
 name_part : PartLaw IsName (one_line (λ n. codes "name" ∷ n ∷ [])) (row_at rows.name_row)
 name_part = row_law IsName (λ n. codes "name" ∷ n ∷ []) rows.name_row name_law (λ n. omega arith) some_name some_is_name
@@ -95,28 +95,28 @@ result_part : PartLaw ResultFits (one_line result_words) (row_at rows.result_row
 result_part = row_law ResultFits result_words rows.result_row result_law (λ r. omega arith) None tt
 
 -- handlers and blocks
-pub handler_part : PartLaw HandlerFits handler_lines handler_at
-handler_part =
-    mapped_law (λ z. OnFits z.0 × Counted LineFits z.0.1 z.1) (λ z. one_line (λ on. codes "on" ∷ decimal on.0 ∷ decimal on.1 ∷ []) z.0 ++ flat_map (one_line vertex_words) z.1) (dep_at (row_at rows.on_row) (λ on ms. times_at (row_at rows.vertex_row) on.1 ms))
+pub handler_part : (v : Version) → PartLaw (HandlerFits v) handler_lines (handler_at v)
+handler_part v =
+    mapped_law (λ z. OnFits z.0 × Counted (LineFits v) z.0.1 z.1) (λ z. one_line (λ on. codes "on" ∷ decimal on.0 ∷ decimal on.1 ∷ []) z.0 ++ flat_map (one_line vertex_words) z.1) (dep_at (row_at rows.on_row) (λ on ms. times_at (vertex_at v) on.1 ms))
     (dep_law OnFits (one_line (λ on. codes "on" ∷ decimal on.0 ∷ decimal on.1 ∷ [])) (row_at rows.on_row)
     (row_law OnFits (λ on. codes "on" ∷ decimal on.0 ∷ decimal on.1 ∷ []) rows.on_row on_law (λ on. omega arith) (0, 0) (omega arith, omega arith))
-    (λ on xs. Counted LineFits on.1 xs) (λ on xs. flat_map (one_line vertex_words) xs) (λ on ms. times_at (row_at rows.vertex_row) on.1 ms) (λ on h. times_law LineFits (one_line vertex_words) (row_at rows.vertex_row) vertex_part on.1))
-    HandlerFits handler_lines handler_of (λ h. ((h.kind, length h.lines), h.lines))
+    (λ on xs. Counted (LineFits v) on.1 xs) (λ on xs. flat_map (one_line vertex_words) xs) (λ on ms. times_at (vertex_at v) on.1 ms) (λ on h. times_law (LineFits v) (one_line vertex_words) (vertex_at v) (vertex_part v) on.1))
+    (HandlerFits v) handler_lines handler_of (λ h. ((h.kind, length h.lines), h.lines))
     (record {
       there = λ z h. counted z.0.0 z.0.1 z.1 h.0.0 h.0.1 h.1;
       back = λ h f. (((f.0, f.1.0), record { many = refl; each = f.1.1 }), refl);
     }) where
-      counted : (k n : ℕ) (xs : List P.Line) → IsIndex k → IsIndex n → Counted LineFits n xs → HandlerFits (handler_of ((k, n), xs)) × (spaced (codes "on" ∷ decimal k ∷ decimal n ∷ []) ∷ flat_map (one_line vertex_words) xs ≡ handler_lines (handler_of ((k, n), xs)))
+      counted : (k n : ℕ) (xs : List P.Line) → IsIndex k → IsIndex n → Counted (LineFits v) n xs → HandlerFits v (handler_of ((k, n), xs)) × (spaced (codes "on" ∷ decimal k ∷ decimal n ∷ []) ∷ flat_map (one_line vertex_words) xs ≡ handler_lines (handler_of ((k, n), xs)))
       counted k n xs i h c =
           let Q : ℕ → Type 0 = IsIndex in
           ((i, (subst Q (sym c.many) h, c.each)), ap (λ m. spaced (codes "on" ∷ decimal k ∷ decimal m ∷ []) ∷ flat_map (one_line vertex_words) xs) (sym c.many))
 
-pub block_part : PartLaw BlockFits block_lines block_at
-block_part =
-    mapped_law (λ z. ListFits HandlerFits z.0 × ListFits LineFits z.1) (λ z. listed (codes "block") handler_lines z.0 ++ listed (codes "body") (one_line vertex_words) z.1) (then_at (listed_at (codes "block") handler_at) (listed_at (codes "body") (row_at rows.vertex_row)))
-    (then_law (ListFits HandlerFits) (listed (codes "block") handler_lines) (listed_at (codes "block") handler_at) (listed_law HandlerFits handler_lines handler_at handler_part (codes "block") refl)
-    (ListFits LineFits) (listed (codes "body") (one_line vertex_words)) (listed_at (codes "body") (row_at rows.vertex_row)) (listed_law LineFits (one_line vertex_words) (row_at rows.vertex_row) vertex_part (codes "body") refl))
-    BlockFits block_lines block_of (λ b. (b.handlers, b.body))
+pub block_part : (v : Version) → PartLaw (BlockFits v) block_lines (block_at v)
+block_part v =
+    mapped_law (λ z. ListFits (HandlerFits v) z.0 × ListFits (LineFits v) z.1) (λ z. listed (codes "block") handler_lines z.0 ++ listed (codes "body") (one_line vertex_words) z.1) (then_at (listed_at (codes "block") (handler_at v)) (listed_at (codes "body") (vertex_at v)))
+    (then_law (ListFits (HandlerFits v)) (listed (codes "block") handler_lines) (listed_at (codes "block") (handler_at v)) (listed_law (HandlerFits v) handler_lines (handler_at v) (handler_part v) (codes "block") refl)
+    (ListFits (LineFits v)) (listed (codes "body") (one_line vertex_words)) (listed_at (codes "body") (vertex_at v)) (listed_law (LineFits v) (one_line vertex_words) (vertex_at v) (vertex_part v) (codes "body") refl))
+    (BlockFits v) block_lines block_of (λ b. (b.handlers, b.body))
     (record { there = λ z h. (h, refl); back = λ b h. (h, refl) })
 
 -- the lines up to the result's
@@ -125,14 +125,14 @@ OpeningFits x = Unit {0} × (IsName x.1.0 × (ListFits InputFits x.1.1.0 × (Lis
 
 abbrev pub spelled_opening : Opening → List Line
 spelled_opening x =
-    one_line (λ v. codes "gm-image" ∷ codes "1" ∷ []) x.0
+    one_line version_words x.0
     ++ (one_line (λ n. codes "name" ∷ n ∷ []) x.1.0
     ++ (listed (codes "inputs") (one_line item_words) x.1.1.0 ++ (listed (codes "outputs") (one_line item_words) x.1.1.1.0 ++ one_line result_words x.1.1.1.1)))
 
 opening_part : PartLaw OpeningFits spelled_opening opening_at
 unfolding opening_at
 opening_part =
-    then_law {X = Unit {0}} Any (λ u. one_line (λ v. codes "gm-image" ∷ codes "1" ∷ []) u) (row_at rows.first_row) first_part
+    then_law Any (one_line version_words) (row_at rows.first_row) first_part
     (λ y. IsName y.0 × (ListFits InputFits y.1.0 × (ListFits OutputFits y.1.1.0 × ResultFits y.1.1.1))) (λ y. one_line (λ n. codes "name" ∷ n ∷ []) y.0 ++ (listed (codes "inputs") (one_line item_words) y.1.0 ++ (listed (codes "outputs") (one_line item_words) y.1.1.0 ++ one_line result_words y.1.1.1)))
     (then_at (row_at rows.name_row) (then_at (listed_at (codes "inputs") (row_at rows.input_row)) (then_at (listed_at (codes "outputs") (row_at rows.output_row)) (row_at rows.result_row))))
     (then_law IsName (one_line (λ n. codes "name" ∷ n ∷ [])) (row_at rows.name_row) name_part
@@ -186,23 +186,34 @@ middle_part =
     (ListFits PlaceIsIndex) (listed (codes "places") (one_line place_pair)) (listed_at (codes "places") (row_at rows.place_row)) (listed_law PlaceIsIndex (one_line place_pair) (row_at rows.place_row) place_part (codes "places") refl)))))
 
 -- the lines from there to the last
-abbrev pub ClosingFits : Closing → Type 0
-ClosingFits x = ListFits BlockFits x.0 × ListFits CommandFits x.1
+abbrev pub ClosingFits : Version → Closing → Type 0
+ClosingFits v x = ListFits (BlockFits v) x.0 × ListFits CommandFits x.1
 
 abbrev pub spelled_closing : Closing → List Line
 spelled_closing x = listed (codes "blocks") block_lines x.0 ++ listed (codes "master") (one_line command_words) x.1
 
-closing_part : PartLaw ClosingFits spelled_closing closing_at
+closing_part : (v : Version) → PartLaw (ClosingFits v) spelled_closing (closing_at v)
 unfolding closing_at
-closing_part =
-    then_law (ListFits BlockFits) (listed (codes "blocks") block_lines) (listed_at (codes "blocks") block_at) (listed_law BlockFits block_lines block_at block_part (codes "blocks") refl)
+closing_part v =
+    then_law (ListFits (BlockFits v)) (listed (codes "blocks") block_lines) (listed_at (codes "blocks") (block_at v)) (listed_law (BlockFits v) block_lines (block_at v) (block_part v) (codes "blocks") refl)
     (ListFits CommandFits) (listed (codes "master") (one_line command_words)) (listed_at (codes "master") (row_at rows.master_row)) (listed_law CommandFits (one_line command_words) (row_at rows.master_row) master_part (codes "master") refl)
 
--- an image
-parts_of : Program → Opening × (Middle × Closing)
-parts_of p = ((tt, (p.name, (p.inputs, (p.outputs, p.result)))), ((p.globals, (p.fields, (p.registers, (p.columns, (p.kinds, p.places))))), (p.blocks, p.master)))
+-- an image in a version
+parts_of : Version × Program → Opening × (Middle × Closing)
+parts_of z =
+    let p = z.1 in
+    ((z.0, (p.name, (p.inputs, (p.outputs, p.result)))), ((p.globals, (p.fields, (p.registers, (p.columns, (p.kinds, p.places))))), (p.blocks, p.master)))
 
-all_fit : (x : Opening × (Middle × Closing)) → OpeningFits x.0 × (MiddleFits x.1.0 × ClosingFits x.1.1) → Fits (program_of x)
+abbrev BehindFits : Opening → Middle × Closing → Type 0
+BehindFits o y = MiddleFits y.0 × ClosingFits o.0 y.1
+
+abbrev spelled_behind : Middle × Closing → List Line
+spelled_behind y = spelled_middle y.0 ++ spelled_closing y.1
+
+abbrev pub ImageFits : Version × Program → Type 0
+ImageFits z = Fits z.0 z.1
+
+all_fit : (x : Opening × (Middle × Closing)) → OpeningFits x.0 × BehindFits x.0 x.1 → ImageFits (image_of x)
 all_fit x h = record {
   name = h.0.1.0;
   inputs = h.0.1.1.0;
@@ -218,21 +229,21 @@ all_fit x h = record {
   master = h.1.1.1;
 }
 
-each_fits : (p : Program) → Fits p → OpeningFits (parts_of p).0 × (MiddleFits (parts_of p).1.0 × ClosingFits (parts_of p).1.1)
+each_fits : (z : Version × Program) → ImageFits z → OpeningFits (parts_of z).0 × BehindFits (parts_of z).0 (parts_of z).1
 unfolding parts_of
-each_fits p h = ((tt, (h.name, (h.inputs, (h.outputs, h.result)))), ((h.globals, (h.fields, (h.registers, (h.columns, (h.kinds, h.places))))), (h.blocks, h.master)))
+each_fits z h = ((tt, (h.name, (h.inputs, (h.outputs, h.result)))), ((h.globals, (h.fields, (h.registers, (h.columns, (h.kinds, h.places))))), (h.blocks, h.master)))
 
-there_and_back : (p : Program) → program_of (parts_of p) ≡ p
+there_and_back : (z : Version × Program) → image_of (parts_of z) ≡ z
 unfolding parts_of
-there_and_back p = refl
+there_and_back z = refl
 
-pub image_law : PartLaw Fits image_lines image_at
+pub image_law : PartLaw ImageFits (λ z. lines_in z.0 z.1) image_at
 image_law =
-    mapped_law (λ z. OpeningFits z.0 × (MiddleFits z.1.0 × ClosingFits z.1.1)) (λ z. spelled_opening z.0 ++ (spelled_middle z.1.0 ++ spelled_closing z.1.1)) (then_at opening_at (then_at middle_at closing_at))
-    (then_law OpeningFits spelled_opening opening_at opening_part (λ y. MiddleFits y.0 × ClosingFits y.1) (λ y. spelled_middle y.0 ++ spelled_closing y.1) (then_at middle_at closing_at)
-    (then_law MiddleFits spelled_middle middle_at middle_part ClosingFits spelled_closing closing_at closing_part))
-    Fits image_lines program_of parts_of
+    mapped_law (λ z. OpeningFits z.0 × BehindFits z.0 z.1) (λ z. spelled_opening z.0 ++ spelled_behind z.1) (dep_at opening_at (λ o ms. then_at middle_at (closing_at o.0) ms))
+    (dep_law OpeningFits spelled_opening opening_at opening_part BehindFits (λ o. spelled_behind) (λ o ms. then_at middle_at (closing_at o.0) ms)
+    (λ o f. then_law MiddleFits spelled_middle middle_at middle_part (ClosingFits o.0) spelled_closing (closing_at o.0) (closing_part o.0)))
+    ImageFits (λ z. lines_in z.0 z.1) image_of parts_of
     (record {
       there = λ z h. (all_fit z h, refl);
-      back = λ p h. (each_fits p h, there_and_back p);
+      back = λ z h. (each_fits z h, there_and_back z);
     })

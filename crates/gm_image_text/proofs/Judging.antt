@@ -1,12 +1,12 @@
 -- What a line was read as, beside what reading the text's lines gives.
-use Rattle.std.proofs.Common.{◌≡◌, ℕ, List, ◌∷◌, refl, ap, sym, ◌∙◌, subst}
-use Rattle.std.specs.Prelude.{Option, Some, None, ⊤, Result, Ok, Err}
+use Rattle.std.proofs.Common.{◌≡◌, ℕ, List, ap, sym, ◌∙◌}
+use Rattle.std.specs.Prelude.{Option, Some, Result, Ok, Err}
 use Rattle.std.specs.Borrow.{Bor}
 use Rattle.gm_image_text.specs.declared.faults.LineStop.{LineStop}
 use Rattle.gm_image_text.specs.declared.faults.LineStop.TheVariants as of_line
 use Rattle.gm_image_text.specs.declared.faults.TextStop.{TextStop}
 use Rattle.gm_image_text.specs.declared.faults.TextStop.TheVariants as of_text
-use Rattle.gm_image_text.specs.Lines.{Line, Word, lines_of}
+use Rattle.gm_image_text.specs.Lines.{Word, lines_of}
 use Rattle.gm_image_text.specs.Reading.{cut_at}
 use Rattle.gm_image_text.specs.Sections.{row_at, row_behind, judged}
 use Rattle.gm_image_text.specs.Giving.{GivesLine, GivesText, RefusesText, Judges, CutsLine}

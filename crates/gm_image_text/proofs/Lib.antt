@@ -9,7 +9,9 @@ pub mod Fields
 pub mod Numerals
 pub mod TableLaws
 pub mod Constants
+pub mod ToTheEnd
 pub mod Terms
+pub mod ReductionLaws
 pub mod RowLaws
 pub mod ImageLaw
 pub mod Whole
@@ -20,6 +22,7 @@ pub mod LookUps
 pub mod Ends
 pub mod ShapeWords
 pub mod Writing
+pub mod Versions
 pub mod SoundTerms
 pub mod SoundLines
 pub mod SoundFits

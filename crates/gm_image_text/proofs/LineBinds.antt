@@ -1,5 +1,5 @@
 -- Steps of a line that may fail, taken apart.
-use Rattle.std.proofs.Common.{◌≡◌, refl, ap, sym, ◌∙◌, Bool, true, false, cond}
+use Rattle.std.proofs.Common.{◌≡◌, refl}
 use Rattle.std.specs.Prelude.{Option, Some, None, option_map}
 use Rattle.gm_image_text.specs.Reading.{◌>>=◌}
 

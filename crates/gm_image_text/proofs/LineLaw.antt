@@ -1,14 +1,11 @@
 -- A line of an image's text: its words spell it, and it is read from them and from no others.
-use Rattle.std.proofs.Common.{◌≡◌, ◌<◌, ◌+◌, ℕ, zero, suc, Bool, true, false, cond, List, [], ◌∷◌, ◌++◌, length, refl, ap, sym, ◌∙◌, subst, arith}
-use Rattle.std.specs.Prelude.{Option, Some, None, option_map, Result, Ok, Err, ⊤}
-use Rattle.std.specs.List.{AllByRecursion}
+use Rattle.std.proofs.Common.{◌≡◌, ◌<◌, List, [], ◌∷◌, ◌++◌, length, refl, ap, ◌∙◌, subst}
+use Rattle.std.specs.Prelude.{Option, Some, None, option_map, Result, Ok, Err}
 use Rattle.gm_image_text.specs.Lines.{Line, Word, spaced, line_words}
 use Rattle.gm_image_text.specs.Spelling.{one_line}
-use Rattle.gm_image_text.specs.Reading.{cut_at}
-use Rattle.gm_image_text.specs.Sections.{Reads, row_at, row_behind, judged}
-use Rattle.gm_image_text.proofs.LineBinds.{map_some, some_is}
+use Rattle.gm_image_text.specs.Sections.{row_at, row_behind, judged}
 use Rattle.gm_image_text.proofs.Binds.{ok_is, err_is}
-use Rattle.gm_image_text.proofs.Parts.{PartLaw, Stops, IsStuck}
+use Rattle.gm_image_text.proofs.Parts.{PartLaw, IsStuck}
 use Rattle.gm_image_text.proofs.Spelled.{AllPlain, spaced_words, words_spaced, spaced_is_line}
 
 pub record LineLaw {X : Type 0} (F : X → Type 0) (words : X → List Word) (read : List Word → Option X) : Type 0 where

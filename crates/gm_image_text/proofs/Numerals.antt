@@ -1,11 +1,10 @@
 -- The numbers and constants that words spell are read from their spellings and from nothing else.
-use Rattle.std.proofs.Common.{◌≡◌, ◌≢◌, ◌<◌, ◌≤◌, ◌+◌, ◌*◌, ◌-◌, ◌^◌, ℕ, zero, suc, Bool, true, false, not, cond, ◌&&◌, ◌||◌, eqb, ltb, leb, List, [], ◌∷◌, ◌++◌, length, get_or, drop, refl, ap, sym, ◌∙◌, subst, arith, rules, min}
-use Rattle.std.specs.Prelude.{Option, Some, None, option_map, ⊤, fold, ℤ, pos, negsuc, IsTrue}
-use Rattle.std.specs.List.{list_all, list_any, AllByRecursion}
+use Rattle.std.proofs.Common.{◌≡◌, ◌<◌, ◌≤◌, ◌^◌, ℕ, zero, suc, Bool, true, false, cond, ◌&&◌, ◌||◌, eqb, ltb, leb, [], ◌∷◌, length, get_or, drop, refl, ap, sym, ◌∙◌, subst, arith, rules}
+use Rattle.std.specs.Prelude.{Option, Some, None, option_map, fold, ℤ, pos, negsuc}
+use Rattle.std.specs.List.{list_all, list_any}
 use Rattle.std.specs.Fmt.{decimal, signed_decimal}
-use Rattle.std.specs.Int.{IsInRange}
 use Rattle.std.proofs.lemmas.Bool.Decides.{nat_tests}
-use Rattle.std.proofs.lemmas.Str.Parse.{IsNumeralModel, numerals_by_fold, IsDigitsTest}
+use Rattle.std.proofs.lemmas.Str.Parse.{IsNumeralModel, numerals_by_fold}
 use Rattle.std.proofs.lemmas.Fmt.{digits_decimal, digits_value-decimal, decimal-digits_value, decimal_nonempty, first_decimal, length-decimal-le}
 use Rattle.gm_fields.specs.Fields.{is_digit, is_some_part, is_number, with_digit, decimal_value, number_in}
 use Rattle.gm_image_text.specs.Lines.{Word}

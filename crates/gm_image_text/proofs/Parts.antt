@@ -1,12 +1,12 @@
 -- A part of a text: its lines spell it, and it is read from them and from no others. Where reading fails, the lines
 -- before the first bad one begin a part, and with that line none.
-use Rattle.std.proofs.Common.{◌≡◌, ◌<◌, ◌≤◌, ◌+◌, ℕ, zero, suc, Bool, true, false, cond, List, [], ◌∷◌, ◌++◌, length, refl, ap, sym, ◌∙◌, subst, arith, append_assoc, length-append}
-use Rattle.std.specs.Prelude.{Option, Some, None, option_map, Result, Ok, Err, ⊤}
-use Rattle.std.specs.List.{flat_map, AllByRecursion}
-use Rattle.gm_image_text.specs.Lines.{Line, Word}
-use Rattle.gm_image_text.specs.Sections.{◌>>=◌, Reads, dep_at, then_at, mapped, times_at}
+use Rattle.std.proofs.Common.{◌≡◌, List, [], ◌∷◌, ◌++◌, ap, sym, ◌∙◌, subst, append_assoc}
+use Rattle.std.specs.Prelude.{Result, Ok, Err, ⊤}
+use Rattle.std.specs.List.{AllByRecursion}
+use Rattle.gm_image_text.specs.Lines.{Line}
+use Rattle.gm_image_text.specs.Sections.{◌>>=◌, Reads, dep_at, mapped}
 use Rattle.gm_image_text.proofs.Spelled.{IsLine, lines_both}
-use Rattle.gm_image_text.proofs.Binds.{bind_ok, bind_err, ok_is, err_is, Fails}
+use Rattle.gm_image_text.proofs.Binds.{bind_ok, bind_err, ok_is, Fails}
 
 -- what is read so far, and a bad line behind it, are not read whatever follows
 abbrev pub IsStuck : {X : Type 0} → Reads X → List Line → List Line → Type 0

@@ -1,17 +1,16 @@
 -- Each line of an image's text is read from its words and from nothing else.
-use Rattle.std.proofs.Common.{◌≡◌, ◌<◌, ◌≤◌, ℕ, zero, suc, Bool, true, false, cond, List, [], ◌∷◌, ◌++◌, length, map, refl, ap, sym, ◌∙◌, subst, arith, append_assoc, length-append, ◌+◌}
-use Rattle.std.specs.Prelude.{Option, Some, None, option_map, ⊤, codes, bytes_eq}
+use Rattle.std.proofs.Common.{◌≡◌, ◌<◌, ℕ, true, false, cond, List, [], ◌∷◌, ◌++◌, length, map, refl, ap, sym, ◌∙◌, subst, arith}
+use Rattle.std.specs.Prelude.{Option, Some, None, option_map, codes, bytes_eq}
 use Rattle.std.specs.Fmt.{decimal}
 use Rattle.std.specs.List.{flat_map, AllByRecursion}
 use Rattle.std.proofs.lemmas.Slice.Eq.{bytes_eq-Decides}
-use Rattle.gm_base.specs.declared.places.Place.{Place}
 use Rattle.gm_value.specs.declared.values.VType.{VType}
 use Rattle.gm_value.specs.declared.values.VType.TheVariants as vtype
 use Rattle.gm_value.specs.declared.reductions.Reduce.{Reduce}
-use Rattle.gm_image.specs.declared.images.Kind.{Kind}
 use Rattle.gm_image.specs.Term.{Term}
 use Rattle.gm_image.specs.Program as P
 use Rattle.gm_image.specs.Program.{Direction, Holder, Item, Command, Target}
+use Rattle.gm_image_text.specs.declared.heads.Version.{Version}
 use Rattle.gm_image_text.specs.declared.heads.VertexHead.{VertexHead}
 use Rattle.gm_image_text.specs.declared.heads.VertexHead.TheVariants as vertex
 use Rattle.gm_image_text.specs.declared.heads.MasterHead.{MasterHead}
@@ -24,18 +23,20 @@ use Rattle.gm_image.specs.declared.lines.Direction.{Direction as Way}
 use Rattle.gm_image.specs.declared.lines.Direction.TheVariants as way
 use Rattle.gm_image_text.specs.Lines.{Word}
 use Rattle.gm_image.specs.Ranges.{IsIndex, IsOutputHolder, ResultFits, PlaceIsIndex}
-use Rattle.gm_image_text.specs.Fits.{IsPlain, IsName, TermFits, TargetFits, TargetsFit, LineFits, CommandFits, InputFits, OutputFits}
-use Rattle.gm_image_text.specs.Spelling.{type_word, reduce_word, combiner_word, holder_word, direction_word, term_words, target_words, vertex_words, command_words, item_words, outcome_words, result_words, kind_words, place_pair}
+use Rattle.gm_image_text.specs.Fits.{IsPlain, IsName, TermFits, TargetsFit, LineFits, CommandFits, InputFits, OutputFits}
+use Rattle.gm_image_text.specs.Spelling.{version_words, type_word, combiner_word, direction_word, term_words, reduction_words, vertex_words, command_words, item_words, outcome_words, result_words, kind_words, place_pair}
 use Rattle.gm_image_text.specs.Tables as tables
 use Rattle.gm_image_text.specs.Tables.{row_in}
-use Rattle.gm_image_text.specs.Reading.{◌>>=◌, Reads, word_at, next_at, then_at, last_at, whole_at, ended_at, fixed_at, index_at, type_at, reduce_at, name_in, name_at, expression_at, terms_upto, terms_in, types_in, first_row, name_row, count_row, on_row, result_in, result_row, type_row, item_at, item_of, input_holder, output_holder, input_row, output_row, kind_of, kind_row, place_of, place_row, slot_in, only_index, reduced_in, fold_of, put_of, vertex_behind, vertex_row, master_behind, master_row}
+use Rattle.gm_image_text.specs.Reading.{◌>>=◌, word_at, then_at, last_at, whole_at, ended_at, index_at, type_at, name_in, name_at, expression_at, terms_in, types_in, first_row, name_row, count_row, on_row, result_in, result_row, type_row, item_at, item_of, input_holder, output_holder, input_row, output_row, kind_of, kind_row, place_of, place_row, slot_in, only_index, reduced_in, fold_of, put_of, picked_in, pick_of, pickput_of, vertex_behind, vertex_row, master_behind, master_row}
 use Rattle.gm_image.specs.Items.{direction_of}
 use Rattle.gm_image_text.proofs.LineBinds.{some_is, map_some, bind_some}
-use Rattle.gm_image_text.proofs.Spelled.{AllPlain, plain_both, plain_behind}
+use Rattle.gm_image_text.proofs.Spelled.{AllPlain, plain_behind}
 use Rattle.gm_image_text.proofs.LineLaw.{LineLaw}
-use Rattle.gm_image_text.proofs.Fields.{WordLaw, FieldLaw, word_field, then_field, last_line, whole_line, after_line, Remakes, made_line}
-use Rattle.gm_image_text.proofs.Terms.{index_field, expression_field, some_words, none_behind}
-use Rattle.gm_image_text.proofs.TableLaws.{Whatever, types_word, reductions_word, combiners_word, input_word, input_heads_word, output_word, output_heads_word, way_word, ways_word, vertex_word, vertex_heads_word, master_word, master_heads_word}
+use Rattle.gm_image_text.proofs.Fields.{WordLaw, FieldLaw, word_field, then_field, last_line, whole_line, after_line, made_line}
+use Rattle.gm_image_text.proofs.ToTheEnd.{all_law}
+use Rattle.gm_image_text.proofs.Terms.{index_field, expression_field, some_words}
+use Rattle.gm_image_text.proofs.ReductionLaws.{SlotFits, slot_words, slot_law, ReducedFits, reduced_words, reduced_law, PickedFits, picked_words, picked_law, picked_fit, picked_spelled}
+use Rattle.gm_image_text.proofs.TableLaws.{Whatever, version_word, versions_word, types_word, combiners_word, input_word, input_heads_word, output_word, output_heads_word, way_word, ways_word, vertex_word, vertex_heads_word, master_word, master_heads_word}
 
 pub types_field : FieldLaw Whatever (λ t. type_word t ∷ []) (word_at (row_in tables.types))
 types_field = word_field Whatever type_word (row_in tables.types) types_word
@@ -65,10 +66,10 @@ ended_law = record { ok = is_end; again = λ u h. refl; plain = λ u h. tt } whe
   is_end [] x p e = (tt, refl)
   is_end (w ∷ ws) x p e = cc
 
-pub first_law : LineLaw {X = Unit {0}} Whatever (λ u. codes "gm-image" ∷ codes "1" ∷ []) first_row
+pub first_law : LineLaw Whatever version_words first_row
 first_law =
-    after_line Whatever (λ u. codes "1" ∷ []) (λ ws. fixed_at (codes "1") ws >>= λ us. ended_at us)
-    (after_line Whatever (λ u. []) ended_at ended_law (codes "1") refl)
+    after_line Whatever (λ v. version_word v ∷ []) (λ ws. whole_at (word_at (row_in tables.versions)) ws)
+    (whole_line Whatever (λ v. version_word v ∷ []) (word_at (row_in tables.versions)) (word_field Whatever version_word (row_in tables.versions) versions_word))
     (codes "gm-image") refl
 
 pub name_law : LineLaw IsName (λ n. codes "name" ∷ n ∷ []) name_row
@@ -223,81 +224,20 @@ kind_law =
 index_plain : (n : ℕ) → IsIndex n → IsPlain (decimal n)
 index_plain n h = (index_field.plain n h).0
 
-terms_is : (k : ℕ) (ws : List Word) (ts : List Term) → AllPlain ws → terms_upto k ws ≡ Some ts → AllByRecursion TermFits ts × (ws ≡ flat_map term_words ts)
-terms_is k [] ts p e = let Q : List Term → Type 0 = λ v. AllByRecursion TermFits v × ([] ≡ flat_map term_words v) in subst Q (some_is [] ts e) (tt, refl)
-terms_is zero (w ∷ ws) ts p e = cc
-terms_is (suc k) (w ∷ ws) ts p e =
-    let one = bind_some (expression_at (w ∷ ws)) (λ a. terms_upto k a.1 >>= λ more. Some (a.0 ∷ more)) ts e in
-    let a : Term = one.0.0 in
-    let mid : List Word = one.0.1 in
-    let two = bind_some (terms_upto k mid) (λ more. Some (a ∷ more)) ts one.2 in
-    let got : TermFits a × (w ∷ ws ≡ term_words a ++ mid) = expression_field.ok (w ∷ ws) mid a p one.1 in
-    let P : List Word → Type 0 = AllPlain in
-    let more : AllByRecursion TermFits two.0 × (mid ≡ flat_map term_words two.0) = terms_is k mid two.0 (plain_behind (term_words a) mid (subst P got.1 p)) two.1 in
-    let Q : List Term → Type 0 = λ v. AllByRecursion TermFits v × (w ∷ ws ≡ flat_map term_words v) in
-    subst Q (some_is (a ∷ two.0) ts two.2) ((got.0, more.0), got.1 ∙ ap (λ v. term_words a ++ v) more.1)
-
-pub upto_step : (k : ℕ) (ws : List Word) → 0 < length ws → terms_upto (suc k) ws ≡ (expression_at ws >>= λ a. terms_upto k a.1 >>= λ more. Some (a.0 ∷ more))
-upto_step k [] h = absurd (omega (arith, h))
-upto_step k (w ∷ ws) h = refl
-
-terms_again : (k : ℕ) (ts : List Term) → AllByRecursion TermFits ts → length (flat_map term_words ts) ≤ k → terms_upto k (flat_map term_words ts) ≡ Some ts
-terms_again k [] h l = refl
-terms_again zero (t ∷ ts) h l =
-    let some : 0 < length (term_words t) = some_words t in
-    absurd (omega (arith, some, l, length-append (term_words t) (flat_map term_words ts)))
-terms_again (suc k) (t ∷ ts) h l =
-    let some : 0 < length (term_words t) = some_words t in
-    let sum : length (term_words t ++ flat_map term_words ts) ≡ length (term_words t) + length (flat_map term_words ts) = length-append (term_words t) (flat_map term_words ts) in
-    upto_step k (term_words t ++ flat_map term_words ts) (omega (arith, some, sum))
-    ∙ ap (λ o. o >>= λ a. terms_upto k a.1 >>= λ more. Some (a.0 ∷ more)) (expression_field.again t (flat_map term_words ts) h.0)
-    ∙ ap (λ o. o >>= λ more. Some (t ∷ more)) (terms_again k ts h.1 (omega (arith, some, sum, l)))
-
-terms_plain : (ts : List Term) → AllByRecursion TermFits ts → AllPlain (flat_map term_words ts)
-terms_plain [] h = tt
-terms_plain (t ∷ ts) h = plain_both (term_words t) (flat_map term_words ts) (expression_field.plain t h.0) (terms_plain ts h.1)
-
 terms_law : LineLaw (AllByRecursion TermFits) (flat_map term_words) terms_in
-terms_law = record {
-  ok = λ ws ts p e. terms_is (length ws) ws ts p e;
-  again = λ ts h. terms_again (length (flat_map term_words ts)) ts h (omega arith);
-  plain = terms_plain;
-}
+terms_law = all_law TermFits term_words expression_at expression_field some_words
 
 -- lines by their first words: what is read behind the word, made into the line
-module _ {X L : Type 0} (F : X → Type 0) (words : X → List Word) (read : List Word → Option X) (law : LineLaw F words read) (G : L → Type 0) (spelled : L → List Word) (word : Word) (make : X → L) (fits : (x : X) → F x → G (make x)) (same : (x : X) → word ∷ words x ≡ spelled (make x)) where
+module _ {X L : Type 0} (F : X → Type 0) (words : X → List Word) (read : List Word → Option X) (law : LineLaw F words read) (G : L → Type 0) (spelled : L → List Word) (word : Word) (make : X → L) (fits : (x : X) → F x → G (make x)) (same : (x : X) → F x → word ∷ words x ≡ spelled (make x)) where
   pub behind_is : (ws : List Word) (l : L) → AllPlain ws → option_map make (read ws) ≡ Some l → G l × (word ∷ ws ≡ spelled l)
   behind_is ws l p e =
       let it = map_some (read ws) make l e in
       let got : F it.0 × (ws ≡ words it.0) = law.ok ws it.0 p it.1 in
       let Q : L → Type 0 = λ v. G v × (word ∷ ws ≡ spelled v) in
-      subst Q it.2 (fits it.0 got.0, ap (λ v. word ∷ v) got.1 ∙ same it.0)
-
-abbrev SlotFits : ℕ × Term → Type 0
-SlotFits z = IsIndex z.0 × TermFits z.1
-
-abbrev slot_words : ℕ × Term → List Word
-slot_words z = decimal z.0 ∷ term_words z.1
-
-slot_field : FieldLaw SlotFits slot_words (then_at index_at expression_at)
-slot_field = then_field IsIndex (λ n. decimal n ∷ []) index_at index_field TermFits term_words expression_at expression_field
-
-slot_law : LineLaw SlotFits slot_words slot_in
-slot_law = whole_line SlotFits slot_words (then_at index_at expression_at) slot_field
+      subst Q it.2 (fits it.0 got.0, ap (λ v. word ∷ v) got.1 ∙ same it.0 got.0)
 
 only_law : LineLaw IsIndex (λ n. decimal n ∷ []) only_index
 only_law = whole_line IsIndex (λ n. decimal n ∷ []) index_at index_field
-
-abbrev ReducedFits : Reduce × (ℕ × (ℕ × Term)) → Type 0
-ReducedFits z = Unit {0} × (IsIndex z.1.0 × SlotFits z.1.1)
-
-abbrev reduced_words : Reduce × (ℕ × (ℕ × Term)) → List Word
-reduced_words z = reduce_word z.0 ∷ decimal z.1.0 ∷ slot_words z.1.1
-
-reduced_law : LineLaw ReducedFits reduced_words reduced_in
-reduced_law =
-    last_line Whatever (λ r. reduce_word r ∷ []) reduce_at (word_field Whatever reduce_word (row_in tables.reductions) reductions_word) (λ y. IsIndex y.0 × SlotFits y.1) (λ y. decimal y.0 ∷ slot_words y.1) (λ vs. last_at index_at slot_in vs)
-    (last_line IsIndex (λ n. decimal n ∷ []) index_at index_field SlotFits slot_words slot_in slot_law)
 
 abbrev SendFits : ℕ × (Term × List Term) → Type 0
 SendFits z = IsIndex z.0 × (TermFits z.1.0 × AllByRecursion TermFits z.1.1)
@@ -316,29 +256,21 @@ EachFits z = Unit {0} × IsIndex z.1
 each_law : LineLaw EachFits (λ z. way_word z.0 ∷ decimal z.1 ∷ []) (λ ws. last_at (word_at (row_in tables.ways)) only_index ws)
 each_law = last_line Whatever (λ w. way_word w ∷ []) (word_at (row_in tables.ways)) (word_field Whatever way_word (row_in tables.ways) ways_word) IsIndex (λ n. decimal n ∷ []) only_index only_law
 
--- a vertex line
-vertex_rest : (h : VertexHead) (ws : List Word) (l : P.Line) → AllPlain ws → vertex_behind h ws ≡ Some l → LineFits l × (vertex_word h ∷ ws ≡ vertex_words l)
-vertex_rest vertex.SetField ws l p e = behind_is SlotFits slot_words slot_in slot_law LineFits vertex_words (codes "set") (λ x. P.SetField x.0 x.1) (λ x h. h) (λ x. refl) ws l p e
-vertex_rest vertex.Fold ws l p e = behind_is ReducedFits reduced_words reduced_in reduced_law LineFits vertex_words (codes "fold") fold_of (λ x h. h.1) (λ x. ap (λ v. codes "fold" ∷ reduce_word x.0 ∷ decimal x.1.0 ∷ decimal x.1.1.0 ∷ v) (sym (none_behind (term_words x.1.1.1)))) ws l p e
-vertex_rest vertex.SetRegister ws l p e = behind_is SlotFits slot_words slot_in slot_law LineFits vertex_words (codes "reg") (λ x. P.SetRegister x.0 x.1) (λ x h. h) (λ x. refl) ws l p e
-vertex_rest vertex.Put ws l p e = behind_is ReducedFits reduced_words reduced_in reduced_law LineFits vertex_words (codes "put") put_of (λ x h. h.1) (λ x. ap (λ v. codes "put" ∷ reduce_word x.0 ∷ decimal x.1.0 ∷ decimal x.1.1.0 ∷ v) (sym (none_behind (term_words x.1.1.1)))) ws l p e
-vertex_rest vertex.Send ws l p e = behind_is SendFits send_words (λ ws. last_at index_at (λ vs. last_at expression_at terms_in vs) ws) send_law LineFits vertex_words (codes "send") (λ x. P.Send x.0 x.1.0 x.1.1) (λ x h. (h.0, h.1.0, h.1.1)) (λ x. refl) ws l p e
-vertex_rest vertex.Skip ws l p e = behind_is SlotFits slot_words slot_in slot_law LineFits vertex_words (codes "skip") (λ x. P.Skip x.0 x.1) (λ x h. h) (λ x. refl) ws l p e
-vertex_rest vertex.Each ws l p e = behind_is EachFits (λ z. way_word z.0 ∷ decimal z.1 ∷ []) (λ ws. last_at (word_at (row_in tables.ways)) only_index ws) each_law LineFits vertex_words (codes "each") (λ x. P.Each (direction_of x.0) x.1) (λ x h. h.1) (λ x. refl) ws l p e
+-- a vertex line of a version
+module _ (v : Version) where
+  vertex_rest : (h : VertexHead) (ws : List Word) (l : P.Line) → AllPlain ws → vertex_behind v h ws ≡ Some l → LineFits v l × (vertex_word h ∷ ws ≡ vertex_words l)
+  vertex_rest vertex.SetField ws l p e = behind_is SlotFits slot_words slot_in slot_law (LineFits v) vertex_words (codes "set") (λ x. P.SetField x.0 x.1) (λ x h. h) (λ x h. refl) ws l p e
+  vertex_rest vertex.Fold ws l p e = behind_is ReducedFits reduced_words reduced_in reduced_law (LineFits v) vertex_words (codes "fold") fold_of (λ x h. h.1) (λ x h. refl) ws l p e
+  vertex_rest vertex.Pick ws l p e = behind_is (PickedFits v) picked_words (picked_in v) (picked_law v) (LineFits v) vertex_words (codes "pick") pick_of (λ x h. (h.1.1.0, picked_fit v x.0 x.1.1 h.0 h.1.0 h.1.1.1)) (λ x h. picked_spelled (codes "fold") (codes "pick") x.0 x.1.0 x.1.1 h.1.1.1.0) ws l p e
+  vertex_rest vertex.SetRegister ws l p e = behind_is SlotFits slot_words slot_in slot_law (LineFits v) vertex_words (codes "reg") (λ x. P.SetRegister x.0 x.1) (λ x h. h) (λ x h. refl) ws l p e
+  vertex_rest vertex.Put ws l p e = behind_is ReducedFits reduced_words reduced_in reduced_law (LineFits v) vertex_words (codes "put") put_of (λ x h. h.1) (λ x h. refl) ws l p e
+  vertex_rest vertex.PickPut ws l p e = behind_is (PickedFits v) picked_words (picked_in v) (picked_law v) (LineFits v) vertex_words (codes "pickput") pickput_of (λ x h. (h.1.1.0, picked_fit v x.0 x.1.1 h.0 h.1.0 h.1.1.1)) (λ x h. picked_spelled (codes "put") (codes "pickput") x.0 x.1.0 x.1.1 h.1.1.1.0) ws l p e
+  vertex_rest vertex.Send ws l p e = behind_is SendFits send_words (λ ws. last_at index_at (λ vs. last_at expression_at terms_in vs) ws) send_law (LineFits v) vertex_words (codes "send") (λ x. P.Send x.0 x.1.0 x.1.1) (λ x h. (h.0, h.1.0, h.1.1)) (λ x h. refl) ws l p e
+  vertex_rest vertex.Skip ws l p e = behind_is SlotFits slot_words slot_in slot_law (LineFits v) vertex_words (codes "skip") (λ x. P.Skip x.0 x.1) (λ x h. h) (λ x h. refl) ws l p e
+  vertex_rest vertex.Each ws l p e = behind_is EachFits (λ z. way_word z.0 ∷ decimal z.1 ∷ []) (λ ws. last_at (word_at (row_in tables.ways)) only_index ws) each_law (LineFits v) vertex_words (codes "each") (λ x. P.Each (direction_of x.0) x.1) (λ x h. h.1) (λ x h. refl) ws l p e
 
 vertex_field : FieldLaw Whatever (λ h. vertex_word h ∷ []) (word_at (row_in tables.vertex_heads))
 vertex_field = word_field Whatever vertex_word (row_in tables.vertex_heads) vertex_heads_word
-
-vertex_is : (ws : List Word) (l : P.Line) → AllPlain ws → vertex_row ws ≡ Some l → LineFits l × (ws ≡ vertex_words l)
-vertex_is ws l p e =
-    let h = bind_some (word_at (row_in tables.vertex_heads) ws) (λ h. vertex_behind h.0 h.1) l e in
-    let at = vertex_field.ok ws h.0.1 h.0.0 p h.1 in
-    let Q : List Word → Type 0 = AllPlain in
-    let got = vertex_rest h.0.0 h.0.1 l (plain_behind (vertex_word h.0.0 ∷ []) h.0.1 (subst Q at.1 p)) h.2 in
-    (got.0, at.1 ∙ got.1)
-
-vertex_step : (h : VertexHead) (ws : List Word) → vertex_row (vertex_word h ∷ ws) ≡ vertex_behind h ws
-vertex_step h ws = ap (λ o. o >>= λ h. vertex_behind h.0 h.1) (vertex_field.again h ws tt)
 
 way_of : Direction → Way
 way_of P.Out = way.Out
@@ -349,62 +281,82 @@ unfolding way_of
 way_back P.Out = refl
 way_back P.In = refl
 
-vertex_again : (l : P.Line) → LineFits l → vertex_row (vertex_words l) ≡ Some l
-vertex_again (P.SetField f a) h = vertex_step vertex.SetField (slot_words (f, a)) ∙ ap (option_map (λ x. P.SetField x.0 x.1)) (slot_law.again (f, a) h)
-vertex_again (P.Fold r q []) h = absurd h.1
-vertex_again (P.Fold r q (t ∷ [])) h =
-    ap (λ v. vertex_row (codes "fold" ∷ reduce_word r ∷ decimal q ∷ decimal t.slot ∷ v)) (none_behind (term_words t.term))
-    ∙ vertex_step vertex.Fold (reduced_words (r, (q, (t.slot, t.term)))) ∙ ap (option_map fold_of) (reduced_law.again (r, (q, (t.slot, t.term))) (tt, h))
-vertex_again (P.Fold r q (t ∷ u ∷ ts)) h = absurd h.1
-vertex_again (P.SetRegister i a) h = vertex_step vertex.SetRegister (slot_words (i, a)) ∙ ap (option_map (λ x. P.SetRegister x.0 x.1)) (slot_law.again (i, a) h)
-vertex_again (P.Put r q []) h = absurd h.1
-vertex_again (P.Put r q (t ∷ [])) h =
-    ap (λ v. vertex_row (codes "put" ∷ reduce_word r ∷ decimal q ∷ decimal t.slot ∷ v)) (none_behind (term_words t.term))
-    ∙ vertex_step vertex.Put (reduced_words (r, (q, (t.slot, t.term)))) ∙ ap (option_map put_of) (reduced_law.again (r, (q, (t.slot, t.term))) (tt, h))
-vertex_again (P.Put r q (t ∷ u ∷ ts)) h = absurd h.1
-vertex_again (P.Send k to vs) h = vertex_step vertex.Send (send_words (k, (to, vs))) ∙ ap (option_map (λ x. P.Send x.0 x.1.0 x.1.1)) (send_law.again (k, (to, vs)) (h.0, (h.1, h.2)))
-vertex_again (P.Skip n a) h = vertex_step vertex.Skip (slot_words (n, a)) ∙ ap (option_map (λ x. P.Skip x.0 x.1)) (slot_law.again (n, a) h)
-vertex_again (P.Each d n) h =
-    ap (λ v. vertex_row (codes "each" ∷ direction_word v ∷ decimal n ∷ [])) (sym (way_back d))
-    ∙ vertex_step vertex.Each (way_word (way_of d) ∷ decimal n ∷ []) ∙ ap (option_map (λ x. P.Each (direction_of x.0) x.1)) (each_law.again (way_of d, n) (tt, h))
-    ∙ ap (λ v. Some (P.Each v n)) (way_back d)
+module _ (v : Version) where
+  vertex_is : (ws : List Word) (l : P.Line) → AllPlain ws → vertex_row v ws ≡ Some l → LineFits v l × (ws ≡ vertex_words l)
+  vertex_is ws l p e =
+      let h = bind_some (word_at (row_in tables.vertex_heads) ws) (λ h. vertex_behind v h.0 h.1) l e in
+      let at = vertex_field.ok ws h.0.1 h.0.0 p h.1 in
+      let Q : List Word → Type 0 = AllPlain in
+      let got = vertex_rest v h.0.0 h.0.1 l (plain_behind (vertex_word h.0.0 ∷ []) h.0.1 (subst Q at.1 p)) h.2 in
+      (got.0, at.1 ∙ got.1)
 
-targets_plain : (ts : List Target) → TargetsFit ts → AllPlain (flat_map target_words ts)
-targets_plain [] h = absurd h
-targets_plain (t ∷ []) h = let it : AllPlain (slot_words (t.slot, t.term)) = slot_law.plain (t.slot, t.term) h in plain_both (slot_words (t.slot, t.term)) [] it tt
-targets_plain (t ∷ u ∷ ts) h = absurd h
+  vertex_step : (h : VertexHead) (ws : List Word) → vertex_row v (vertex_word h ∷ ws) ≡ vertex_behind v h ws
+  vertex_step h ws = ap (λ o. o >>= λ h. vertex_behind v h.0 h.1) (vertex_field.again h ws tt)
 
-vertex_plain : (l : P.Line) → LineFits l → AllPlain (vertex_words l)
-vertex_plain (P.SetField f a) h = (refl, slot_law.plain (f, a) h)
-vertex_plain (P.Fold r q ts) h = (refl, (reductions_word.plain r tt, (index_plain q h.0, targets_plain ts h.1)))
-vertex_plain (P.SetRegister i a) h = (refl, slot_law.plain (i, a) h)
-vertex_plain (P.Put r q ts) h = (refl, (reductions_word.plain r tt, (index_plain q h.0, targets_plain ts h.1)))
-vertex_plain (P.Send k to vs) h = (refl, send_law.plain (k, (to, vs)) (h.0, (h.1, h.2)))
-vertex_plain (P.Skip n a) h = (refl, slot_law.plain (n, a) h)
-vertex_plain (P.Each P.Out n) h = (refl, (refl, (index_plain n h, tt)))
-vertex_plain (P.Each P.In n) h = (refl, (refl, (index_plain n h, tt)))
+  -- several slots
+  pick_again : (h : VertexHead) (make : Reduce × (ℕ × List Target) → P.Line) → ((ws : List Word) → vertex_behind v h ws ≡ option_map make (picked_in v ws)) → (r : Reduce) (q : ℕ) (t u : Target) (us : List Target) → IsIndex q × TargetsFit v r (t ∷ (u ∷ us))
+      → vertex_row v (vertex_word h ∷ picked_words (r, (q, t ∷ (u ∷ us)))) ≡ Some (make (r, (q, t ∷ (u ∷ us))))
+  pick_again h make is r q t u us f =
+      vertex_step h (picked_words (r, (q, t ∷ (u ∷ us)))) ∙ is (picked_words (r, (q, t ∷ (u ∷ us))))
+      ∙ ap (option_map make) ((picked_law v).again (r, (q, t ∷ (u ∷ us))) (f.1.0, (f.1.1.0, (f.0, (omega arith, f.1.1.1)))))
 
-pub vertex_law : LineLaw LineFits vertex_words vertex_row
-vertex_law = record { ok = vertex_is; again = vertex_again; plain = vertex_plain }
+  pick_plain : (r : Reduce) (q : ℕ) (ts : List Target) (one several : Word) → IsPlain one → IsPlain several → IsIndex q → TargetsFit v r ts → AllPlain (reduction_words one several r q ts)
+  pick_plain r q [] one several a b i h = absurd h
+  pick_plain r q (t ∷ []) one several a b i h = (a, reduced_law.plain (r, (q, (t.slot, t.term))) (tt, (i, h)))
+  pick_plain r q (t ∷ (u ∷ us)) one several a b i h = (b, (picked_law v).plain (r, (q, t ∷ (u ∷ us))) (h.0, (h.1.0, (i, (omega arith, h.1.1)))))
+
+  vertex_again : (l : P.Line) → LineFits v l → vertex_row v (vertex_words l) ≡ Some l
+  vertex_again (P.SetField f a) h = vertex_step vertex.SetField (slot_words (f, a)) ∙ ap (option_map (λ x. P.SetField x.0 x.1)) (slot_law.again (f, a) h)
+  vertex_again (P.Fold r q []) h = absurd h.1
+  vertex_again (P.Fold r q (t ∷ [])) h = vertex_step vertex.Fold (reduced_words (r, (q, (t.slot, t.term)))) ∙ ap (option_map fold_of) (reduced_law.again (r, (q, (t.slot, t.term))) (tt, h))
+  vertex_again (P.Fold r q (t ∷ (u ∷ us))) h = pick_again vertex.Pick pick_of (λ ws. refl) r q t u us h
+  vertex_again (P.SetRegister i a) h = vertex_step vertex.SetRegister (slot_words (i, a)) ∙ ap (option_map (λ x. P.SetRegister x.0 x.1)) (slot_law.again (i, a) h)
+  vertex_again (P.Put r q []) h = absurd h.1
+  vertex_again (P.Put r q (t ∷ [])) h = vertex_step vertex.Put (reduced_words (r, (q, (t.slot, t.term)))) ∙ ap (option_map put_of) (reduced_law.again (r, (q, (t.slot, t.term))) (tt, h))
+  vertex_again (P.Put r q (t ∷ (u ∷ us))) h = pick_again vertex.PickPut pickput_of (λ ws. refl) r q t u us h
+  vertex_again (P.Send k to vs) h = vertex_step vertex.Send (send_words (k, (to, vs))) ∙ ap (option_map (λ x. P.Send x.0 x.1.0 x.1.1)) (send_law.again (k, (to, vs)) (h.0, (h.1, h.2)))
+  vertex_again (P.Skip n a) h = vertex_step vertex.Skip (slot_words (n, a)) ∙ ap (option_map (λ x. P.Skip x.0 x.1)) (slot_law.again (n, a) h)
+  vertex_again (P.Each d n) h =
+      ap (λ w. vertex_row v (codes "each" ∷ direction_word w ∷ decimal n ∷ [])) (sym (way_back d))
+      ∙ vertex_step vertex.Each (way_word (way_of d) ∷ decimal n ∷ []) ∙ ap (option_map (λ x. P.Each (direction_of x.0) x.1)) (each_law.again (way_of d, n) (tt, h))
+      ∙ ap (λ w. Some (P.Each w n)) (way_back d)
+
+  vertex_plain : (l : P.Line) → LineFits v l → AllPlain (vertex_words l)
+  vertex_plain (P.SetField f a) h = (refl, slot_law.plain (f, a) h)
+  vertex_plain (P.Fold r q ts) h = pick_plain r q ts (codes "fold") (codes "pick") refl refl h.0 h.1
+  vertex_plain (P.SetRegister i a) h = (refl, slot_law.plain (i, a) h)
+  vertex_plain (P.Put r q ts) h = pick_plain r q ts (codes "put") (codes "pickput") refl refl h.0 h.1
+  vertex_plain (P.Send k to vs) h = (refl, send_law.plain (k, (to, vs)) (h.0, (h.1, h.2)))
+  vertex_plain (P.Skip n a) h = (refl, slot_law.plain (n, a) h)
+  vertex_plain (P.Each P.Out n) h = (refl, (refl, (index_plain n h, tt)))
+  vertex_plain (P.Each P.In n) h = (refl, (refl, (index_plain n h, tt)))
+
+  pub vertex_law : LineLaw (LineFits v) vertex_words (vertex_row v)
+  vertex_law = record { ok = vertex_is; again = vertex_again; plain = vertex_plain }
+
+reduction_nonempty : (one several : Word) (r : Reduce) (q : ℕ) (ts : List Target) → 0 < length (reduction_words one several r q ts)
+reduction_nonempty one several r q [] = omega arith
+reduction_nonempty one several r q (t ∷ []) = omega arith
+reduction_nonempty one several r q (t ∷ (u ∷ us)) = omega arith
 
 pub vertex_nonempty : (l : P.Line) → 0 < length (vertex_words l)
 vertex_nonempty (P.SetField f a) = omega arith
-vertex_nonempty (P.Fold r q ts) = omega arith
+vertex_nonempty (P.Fold r q ts) = reduction_nonempty (codes "fold") (codes "pick") r q ts
 vertex_nonempty (P.SetRegister i a) = omega arith
-vertex_nonempty (P.Put r q ts) = omega arith
+vertex_nonempty (P.Put r q ts) = reduction_nonempty (codes "put") (codes "pickput") r q ts
 vertex_nonempty (P.Send k to vs) = omega arith
 vertex_nonempty (P.Skip n a) = omega arith
 vertex_nonempty (P.Each d n) = omega arith
 
 -- a master line
 master_rest : (h : MasterHead) (ws : List Word) (l : Command) → AllPlain ws → master_behind h ws ≡ Some l → CommandFits l × (master_word h ∷ ws ≡ command_words l)
-master_rest master.SetGlobal ws l p e = behind_is SlotFits slot_words slot_in slot_law CommandFits command_words (codes "set") (λ x. P.SetGlobal x.0 x.1) (λ x h. h) (λ x. refl) ws l p e
-master_rest master.Step ws l p e = behind_is IsIndex (λ n. decimal n ∷ []) only_index only_law CommandFits command_words (codes "step") (λ q. P.Step q) (λ x h. h) (λ x. refl) ws l p e
-master_rest master.Jump ws l p e = behind_is IsIndex (λ n. decimal n ∷ []) only_index only_law CommandFits command_words (codes "jump") (λ q. P.Jump q) (λ x h. h) (λ x. refl) ws l p e
-master_rest master.Test ws l p e = behind_is SlotFits slot_words slot_in slot_law CommandFits command_words (codes "test") (λ x. P.Test x.0 x.1) (λ x h. h) (λ x. refl) ws l p e
-master_rest master.Turn ws l p e = behind_is SlotFits slot_words slot_in slot_law CommandFits command_words (codes "loop") (λ x. P.Turn x.0 x.1) (λ x h. h) (λ x. refl) ws l p e
-master_rest master.Back ws l p e = behind_is IsIndex (λ n. decimal n ∷ []) only_index only_law CommandFits command_words (codes "back") (λ q. P.Back q) (λ x h. h) (λ x. refl) ws l p e
-master_rest master.Finish ws l p e = behind_is Whatever (λ u. []) ended_at ended_law CommandFits command_words (codes "end") (λ u. P.Finish) (λ x h. tt) (λ x. refl) ws l p e
+master_rest master.SetGlobal ws l p e = behind_is SlotFits slot_words slot_in slot_law CommandFits command_words (codes "set") (λ x. P.SetGlobal x.0 x.1) (λ x h. h) (λ x h. refl) ws l p e
+master_rest master.Step ws l p e = behind_is IsIndex (λ n. decimal n ∷ []) only_index only_law CommandFits command_words (codes "step") (λ q. P.Step q) (λ x h. h) (λ x h. refl) ws l p e
+master_rest master.Jump ws l p e = behind_is IsIndex (λ n. decimal n ∷ []) only_index only_law CommandFits command_words (codes "jump") (λ q. P.Jump q) (λ x h. h) (λ x h. refl) ws l p e
+master_rest master.Test ws l p e = behind_is SlotFits slot_words slot_in slot_law CommandFits command_words (codes "test") (λ x. P.Test x.0 x.1) (λ x h. h) (λ x h. refl) ws l p e
+master_rest master.Turn ws l p e = behind_is SlotFits slot_words slot_in slot_law CommandFits command_words (codes "loop") (λ x. P.Turn x.0 x.1) (λ x h. h) (λ x h. refl) ws l p e
+master_rest master.Back ws l p e = behind_is IsIndex (λ n. decimal n ∷ []) only_index only_law CommandFits command_words (codes "back") (λ q. P.Back q) (λ x h. h) (λ x h. refl) ws l p e
+master_rest master.Finish ws l p e = behind_is Whatever (λ u. []) ended_at ended_law CommandFits command_words (codes "end") (λ u. P.Finish) (λ x h. tt) (λ x h. refl) ws l p e
 
 master_field : FieldLaw Whatever (λ h. master_word h ∷ []) (word_at (row_in tables.master_heads))
 master_field = word_field Whatever master_word (row_in tables.master_heads) master_heads_word

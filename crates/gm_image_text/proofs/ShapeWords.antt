@@ -1,5 +1,5 @@
 -- The words of an expression, by its shape.
-use Rattle.std.proofs.Common.{◌≡◌, List, ◌∷◌, ◌++◌, refl}
+use Rattle.std.proofs.Common.{◌≡◌, ◌++◌, refl}
 use Rattle.gm_image.specs.declared.shapes.One.{One}
 use Rattle.gm_image.specs.declared.shapes.One.TheVariants as one
 use Rattle.gm_image.specs.declared.shapes.Two.{Two}

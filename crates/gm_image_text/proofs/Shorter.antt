@@ -1,6 +1,6 @@
 -- Reading takes words: what is left behind an expression or a type is shorter.
-use Rattle.std.proofs.Common.{◌≡◌, ◌<◌, ◌≤◌, ◌+◌, ℕ, zero, suc, Bool, true, List, [], ◌∷◌, ◌++◌, length, map, refl, ap, sym, ◌∙◌, subst, arith, append_assoc}
-use Rattle.std.specs.Prelude.{Option, Some, None, option_map, is_some, ⊤}
+use Rattle.std.proofs.Common.{◌≡◌, ◌<◌, ◌≤◌, ℕ, zero, suc, true, List, [], ◌∷◌, ◌++◌, length, refl, ap, sym, ◌∙◌, arith}
+use Rattle.std.specs.Prelude.{Option, Some, None, is_some}
 use Rattle.std.specs.Borrow.{Bor}
 use Rattle.gm_image_text.specs.declared.faults.LineStop.{LineStop}
 use Rattle.gm_image_text.specs.declared.faults.LineStop.TheVariants as of_line
@@ -15,8 +15,10 @@ use Rattle.gm_image_text.specs.Lines.{Word}
 use Rattle.gm_image_text.specs.Numbers.{index_in, value_in}
 use Rattle.gm_image_text.specs.Tables as tables
 use Rattle.gm_image_text.specs.Tables.{row_in}
-use Rattle.gm_image_text.specs.Reading.{◌>>=◌, Reads, word_at, index_at, type_at, constant_at, leaf_term, indexed_term, one_term, placed_one_term, two_term, placed_two_term, choice_term, behind_head, term_at, expression_at, terms_upto, terms_in, types_in, words_left}
-use Rattle.gm_image_text.proofs.LineBinds.{some_is, bind_some}
+use Rattle.gm_image_text.specs.Reading.{◌>>=◌, Reads, word_at, index_at, type_at, constant_at, leaf_term, indexed_term, one_term, placed_one_term, two_term, placed_two_term, choice_term, behind_head, term_at, expression_at, then_at, target_of, target_at, types_in, words_left}
+use Rattle.gm_image.specs.Program.{Target}
+use Rattle.gm_image_text.proofs.LineBinds.{some_is, bind_some, map_some}
+use Rattle.gm_image_text.proofs.ToTheEnd.{ahead, ahead_none, ahead_more, none_behind}
 
 pub word_shorter : {X : Type 0} (meaning : Word → Option X) (ws : List Word) (x : X × List Word) → word_at meaning ws ≡ Some x → length ws ≡ suc (length x.1)
 word_shorter meaning [] x e = cc
@@ -83,25 +85,15 @@ expression_shorter ws x e = shorter 1023 ws x e where
       let h = bind_some (word_at (row_in tables.heads) ws) (λ h. behind_head (λ vs. term_at n vs) h.0 h.1) x e in
       omega (arith, word_shorter (row_in tables.heads) ws h.0 h.1, behind_shrinks (λ vs. term_at n vs) (term_shrinks n) h.0.0 h.0.1 x h.2)
 
--- what was read in front of what reading gives
-abbrev pub ahead : {X : Type 0} → List X → Option (List X) → Option (List X)
-ahead front o = option_map (λ more. front ++ more) o
-
-ahead_none : {X : Type 0} (o : Option (List X)) → ahead [] o ≡ o
-ahead_none None = refl
-ahead_none (Some xs) = refl
-
-ahead_more : {X : Type 0} (front : List X) (x : X) (o : Option (List X)) → ahead front (o >>= λ more. Some (x ∷ more)) ≡ ahead (front ++ x ∷ []) o
-ahead_more front x None = refl
-ahead_more front x (Some xs) = ap (λ v. Some v) (sym (append_assoc front (x ∷ []) xs))
-
-none_behind : {X : Type 0} (xs : List X) → xs ++ [] ≡ xs
-none_behind [] = refl
-none_behind (x ∷ xs) = ap (λ v. x ∷ v) (none_behind xs)
-
-seen_more : {T X : Type 0} (seen : T → X) (items : List T) (item : T) → map seen (items ++ item ∷ []) ≡ map seen items ++ seen item ∷ []
-seen_more seen [] item = refl
-seen_more seen (i ∷ is) item = ap (λ v. seen i ∷ v) (seen_more seen is item)
+-- a slot and its value take words
+pub target_shorter : (ws : List Word) (x : Target × List Word) → target_at ws ≡ Some x → length x.1 < length ws
+target_shorter ws x e =
+    let it = map_some (then_at index_at expression_at ws) (λ z. (target_of z.0, z.1)) x e in
+    let i = bind_some (index_at ws) (λ i. expression_at i.1 >>= λ a. Some ((i.0, a.0), a.1)) it.0 it.1 in
+    let a = bind_some (expression_at i.0.1) (λ a. Some ((i.0.0, a.0), a.1)) it.0 i.2 in
+    let last : length a.0.1 ≡ length it.0.1 = ap (λ v. length v.1) (some_is ((i.0.0, a.0.0), a.0.1) it.0 a.2) in
+    let same : length it.0.1 ≡ length x.1 = ap (λ v. length v.1) it.2 in
+    omega (arith, word_shorter index_in ws i.0 i.1, expression_shorter i.0.1 a.0 a.1, last, same)
 
 -- types to the end of the line
 pub record TypesGo (values : List VType) (left all : List Word) : Type 0 where
@@ -132,47 +124,6 @@ types_bad values left all some h e = sym h.same ∙ ap (ahead values) (types_sto
 pub types_end : (values : List VType) (left all : List Word) → left ≡ [] → TypesGo values left all → types_in all ≡ Some values
 types_end values left all none h = sym h.same ∙ ap (λ v. ahead values (types_in v)) none ∙ ap (λ v. Some v) (none_behind values)
 
--- expressions to the end of the line; `bound` is no less than what is left
-pub record TermsGo (values : List Term) (left all : List Word) : Type 0 where
-  pub bound : ℕ
-  pub enough : length left ≤ bound
-  pub same : ahead values (terms_upto bound left) ≡ terms_in all
-
-pub terms_none : (all : List Word) → TermsGo [] all all
-terms_none all = record { bound = length all; enough = omega arith; same = ahead_none (terms_in all) }
-
-upto_step : (k : ℕ) (ws : List Word) (x : Term × List Word) → 0 < length ws → expression_at ws ≡ Some x → terms_upto (suc k) ws ≡ (terms_upto k x.1 >>= λ more. Some (x.0 ∷ more))
-upto_step k [] x h e = absurd (omega (arith, h))
-upto_step k (w ∷ ws) x h e = ap (λ o. o >>= λ a. terms_upto k a.1 >>= λ more. Some (a.0 ∷ more)) e
-
-upto_stop : (k : ℕ) (ws : List Word) → 0 < length ws → expression_at ws ≡ None → terms_upto k ws ≡ None
-upto_stop k [] h e = absurd (omega (arith, h))
-upto_stop zero (w ∷ ws) h e = refl
-upto_stop (suc k) (w ∷ ws) h e = ap (λ o. o >>= λ a. terms_upto k a.1 >>= λ more. Some (a.0 ∷ more)) e
-
-pub terms_more : (values new : List Term) (left all : List Word) (x : Term × List Word) → TermsGo values left all → expression_at left ≡ Some x → new ≡ values ++ x.0 ∷ [] → TermsGo new x.1 all
-terms_more values new left all x h e push = by_bound h.bound h.enough h.same where
-  by_bound : (k : ℕ) → length left ≤ k → ahead values (terms_upto k left) ≡ terms_in all → TermsGo new x.1 all
-  by_bound zero l s = let less : length x.1 < length left = expression_shorter left x e in absurd (omega (arith, l, less))
-  by_bound (suc k) l s =
-      let less : length x.1 < length left = expression_shorter left x e in
-      record {
-        bound = k;
-        enough = omega (arith, l, less);
-        same = ap (λ v. ahead v (terms_upto k x.1)) push ∙ sym (ahead_more values x.0 (terms_upto k x.1)) ∙ ap (ahead values) (sym (upto_step k left x (omega (arith, less)) e)) ∙ s;
-      }
-
-pub terms_bad : (values : List Term) (left all : List Word) → 0 < length left → TermsGo values left all → expression_at left ≡ None → terms_in all ≡ None
-terms_bad values left all some h e = sym h.same ∙ ap (ahead values) (upto_stop h.bound left some e)
-
-pub terms_end : (values : List Term) (left all : List Word) → left ≡ [] → TermsGo values left all → terms_in all ≡ Some values
-terms_end values left all none h = sym h.same ∙ ap (λ v. ahead values (terms_upto h.bound v)) none ∙ end h.bound where
-  end : (k : ℕ) → ahead values (terms_upto k []) ≡ Some values
-  end k = ap (λ v. Some v) (none_behind values)
-
-pub term_more : {T : Type 0} (seen : T → Term) (items new : List T) (item : T) → new ≡ items ++ item ∷ [] → map seen new ≡ map seen items ++ seen item ∷ []
-term_more seen items new item e = ap (map seen) e ∙ seen_more seen items item
-
 -- one more level
 pub term_step : (n below : ℕ) (ws mid : List Word) (h : Head) → n ≡ suc below → word_at (row_in tables.heads) ws ≡ Some (h, mid) → term_at n ws ≡ behind_head (λ vs. term_at below vs) h mid
 term_step n below ws mid h is e = ap (λ k. term_at k ws) is ∙ ap (λ o. o >>= λ h. behind_head (λ vs. term_at below vs) h.0 h.1) e
@@ -185,7 +136,3 @@ left_some (Some text) e = some_words text.now
 pub types_refuse : (values : List VType) (left all : List Word) (stop : LineStop) → 0 < length left → TypesGo values left all → Refuses stop (word_at (row_in tables.types) left) → Refuses stop (types_in all)
 types_refuse values left all of_line.Bad some h e = types_bad values left all some h e
 types_refuse values left all of_line.NoMemory some h e = tt
-
-pub terms_refuse : (values : List Term) (left all : List Word) (stop : LineStop) → 0 < length left → TermsGo values left all → Refuses stop (expression_at left) → Refuses stop (terms_in all)
-terms_refuse values left all of_line.Bad some h e = terms_bad values left all some h e
-terms_refuse values left all of_line.NoMemory some h e = tt

@@ -1,23 +1,21 @@
--- A sound image has a text, its numbers being in range and its reductions having one slot each.
-use Rattle.std.proofs.Common.{◌≡◌, ◌<◌, ◌≤◌, ◌+◌, ℕ, zero, suc, Bool, true, false, ◌&&◌, List, [], ◌∷◌, ◌++◌, length, map, refl, ap, sym, ◌∙◌, subst, arith, length-append}
-use Rattle.std.specs.Prelude.{nat_lt, Option, Some, None, Result, Ok, Err, IfOk, Vec}
+-- A sound image has a text, its numbers being in range.
+use Rattle.std.proofs.Common.{◌≡◌, ◌<◌, ◌≤◌, ◌+◌, ℕ, suc, true, ◌&&◌, List, [], ◌∷◌, ◌++◌, length, map, refl, ap, subst, arith, length-append}
+use Rattle.std.specs.Prelude.{nat_lt, Some, None, Result, Ok, Err, IfOk, Vec}
 use Rattle.std.specs.declared.alloc.Global.{Global}
 use Rattle.std.specs.List.{list_all, flat_map, AllByRecursion}
 use Rattle.std.proofs.lemmas.Bool.Decides.{nat_tests}
 use Rattle.std.proofs.lemmas.List.{length-map}
-use Rattle.gm_image.specs.declared.images.Kind.{Kind}
 use Rattle.gm_image.specs.Program.{Program, Item, Line, Command, Handler, Block}
-use Rattle.gm_image.specs.Names.{is_name, has_new_name, has_new_slot, may_hold, follows_edges, input_keeps, output_keeps}
+use Rattle.gm_image.specs.Names.{is_name, has_new_name, has_new_slot, may_hold, follows_edges}
 use Rattle.gm_image.specs.Rows.{Row, Plain, NameRow, InputRow, OutputRow, ResultRow, ColumnsRow, KindRow, HandlerRow, LineRow, MasterRow, CommandRow, Around, rows_after, plain_rows, body_rows, around_next, in_handlers, handler_rows, handlers_rows, handled_lines, outside, block_rows, command_rows, rows, line_count}
 use Rattle.gm_image.specs.Soundness.{keeps_all, line_limit, is_sound}
-use Rattle.gm_image.specs.Ranges.{IsIndex}
-use Rattle.gm_image_text.specs.Fits.{IsName, LineFits, CommandFits, InputFits, OutputFits, ListFits, Any, HandlerFits, BlockFits, Fits}
+use Rattle.gm_image_text.specs.Fits.{LineFits, CommandFits, InputFits, OutputFits, ListFits, Any, HandlerFits, BlockFits, Fits}
 use Rattle.gm_image.specs.Ranges.{LineRanged, CommandRanged, InputRanged, OutputRanged, HandlerRanged, BlockRanged, Ranged}
-use Rattle.gm_image_text.specs.OneSlot.{has_one_target, block_has_one, has_one_targets}
+use Rattle.gm_image_text.specs.declared.heads.Version.TheVariants as version
 use Rattle.gm_image_text.specs.Spelling.{image_text}
 use Rattle.gm_image_text.specs.ImageText.{IsTextOf}
 use Rattle.gm_image_text.proofs.SoundTerms.{both, name_fits}
-use Rattle.gm_image_text.proofs.SoundLines.{split, Keeps, kept, line_ok, command_ok}
+use Rattle.gm_image_text.proofs.SoundLines.{split, kept, Few, line_ok, command_ok}
 
 any_all : {A : Type 0} (xs : List A) → AllByRecursion Any xs
 any_all [] = tt
@@ -78,57 +76,52 @@ module _ (p : Program) where
       let d = both (is_name i.name) (has_new_name before i) k.names in
       ((r.0.0, name_fits i.name d.0, r.0.1), outputs_ok (before ++ i ∷ []) is r.1 it.1)
 
-  body_ok : (earlier : List Line) (a : Around) (ls : List Line) → AllByRecursion LineRanged ls → list_all has_one_target ls ≡ true → AllKept (body_rows earlier a ls) → AllByRecursion LineFits ls
-  body_ok earlier a [] r o h = tt
-  body_ok earlier a (l ∷ ls) r o h =
+  body_ok : (earlier : List Line) (a : Around) (ls : List Line) → AllByRecursion LineRanged ls → Few p → AllKept (body_rows earlier a ls) → AllByRecursion (LineFits version.Two) ls
+  body_ok earlier a [] r few h = tt
+  body_ok earlier a (l ∷ ls) r few h =
       let it = both (keeps_all p (LineRow (record { kind = None; around = a; earlier = earlier; later = ls }) l)) (list_all (keeps_all p) (body_rows (earlier ++ l ∷ []) (around_next a l ls) ls)) h in
-      let one = both (has_one_target l) (list_all has_one_target ls) o in
-      (line_ok p (record { kind = None; around = a; earlier = earlier; later = ls }) l r.0 one.0 (kept p _ it.0), body_ok (earlier ++ l ∷ []) (around_next a l ls) ls r.1 one.1 it.1)
+      (line_ok p (record { kind = None; around = a; earlier = earlier; later = ls }) l r.0 few (kept p _ it.0), body_ok (earlier ++ l ∷ []) (around_next a l ls) ls r.1 few it.1)
 
-  handler_ok : (all : List Line) (kind : ℕ) (earlier ls : List Line) → AllByRecursion LineRanged ls → list_all has_one_target ls ≡ true → AllKept (handler_rows all kind earlier ls) → AllByRecursion LineFits ls
-  handler_ok all kind earlier [] r o h = tt
-  handler_ok all kind earlier (l ∷ ls) r o h =
+  handler_ok : (all : List Line) (kind : ℕ) (earlier ls : List Line) → AllByRecursion LineRanged ls → Few p → AllKept (handler_rows all kind earlier ls) → AllByRecursion (LineFits version.Two) ls
+  handler_ok all kind earlier [] r few h = tt
+  handler_ok all kind earlier (l ∷ ls) r few h =
       let it = both (keeps_all p (LineRow (record { kind = Some kind; around = in_handlers all earlier; earlier = earlier; later = ls }) l)) (list_all (keeps_all p) (handler_rows all kind (earlier ++ l ∷ []) ls)) h in
-      let one = both (has_one_target l) (list_all has_one_target ls) o in
-      (line_ok p (record { kind = Some kind; around = in_handlers all earlier; earlier = earlier; later = ls }) l r.0 one.0 (kept p _ it.0), handler_ok all kind (earlier ++ l ∷ []) ls r.1 one.1 it.1)
+      (line_ok p (record { kind = Some kind; around = in_handlers all earlier; earlier = earlier; later = ls }) l r.0 few (kept p _ it.0), handler_ok all kind (earlier ++ l ∷ []) ls r.1 few it.1)
 
-  handlers_ok : (all earlier : List Line) (before hs : List Handler) → AllByRecursion HandlerRanged hs → list_all (λ h. list_all has_one_target h.lines) hs ≡ true → AllKept (handlers_rows all earlier before hs)
-      → length (handlers_rows all earlier before hs) < 4294967296 → AllByRecursion HandlerFits hs
-  handlers_ok all earlier before [] r o h n = tt
-  handlers_ok all earlier before (x ∷ hs) r o h n =
+  handlers_ok : (all earlier : List Line) (before hs : List Handler) → AllByRecursion HandlerRanged hs → Few p → AllKept (handlers_rows all earlier before hs)
+      → length (handlers_rows all earlier before hs) < 4294967296 → AllByRecursion (HandlerFits version.Two) hs
+  handlers_ok all earlier before [] r few h n = tt
+  handlers_ok all earlier before (x ∷ hs) r few h n =
       let mine = handler_rows all x.kind earlier x.lines in
       let more = handlers_rows all (earlier ++ x.lines) (before ++ x ∷ []) hs in
       let it = both (keeps_all p (HandlerRow before x)) (list_all (keeps_all p) (mine ++ more)) h in
       let parts = split (keeps_all p) mine more it.1 in
-      let one = both (list_all has_one_target x.lines) (list_all (λ h. list_all has_one_target h.lines) hs) o in
-      let few : length mine + length more < 4294967296 = omega (arith, length-append mine more) in
+      let total : length mine + length more < 4294967296 = omega (arith, length-append mine more) in
       let small : length x.lines < 4294967296 = omega (arith, count_handler all x.kind earlier x.lines) in
       let rest : length more < 4294967296 = omega arith in
-      ((r.0.0, (small, handler_ok all x.kind earlier x.lines r.0.1 one.0 parts.0)), handlers_ok all (earlier ++ x.lines) (before ++ x ∷ []) hs r.1 one.1 parts.1 rest)
+      ((r.0.0, (small, handler_ok all x.kind earlier x.lines r.0.1 few parts.0)), handlers_ok all (earlier ++ x.lines) (before ++ x ∷ []) hs r.1 few parts.1 rest)
 
-  block_ok : (b : Block) → BlockRanged b → block_has_one b ≡ true → AllKept (block_rows b) → length (block_rows b) < 4294967296 → BlockFits b
-  block_ok b r o h n =
+  block_ok : (b : Block) → BlockRanged b → Few p → AllKept (block_rows b) → length (block_rows b) < 4294967296 → BlockFits version.Two b
+  block_ok b r few h n =
       let hs = handlers_rows (handled_lines b) [] [] b.handlers in
       let ls = body_rows (handled_lines b) outside b.body in
       let it = both (keeps_all p Plain) (list_all (keeps_all p) (hs ++ Plain ∷ ls)) h in
       let parts = split (keeps_all p) hs (Plain ∷ ls) it.1 in
       let last = both (keeps_all p Plain) (list_all (keeps_all p) ls) parts.1 in
-      let one = both (list_all (λ x. list_all has_one_target x.lines) b.handlers) (list_all has_one_target b.body) o in
-      let few : length hs + length ls < 4294967296 = omega (arith, length-append hs (Plain ∷ ls)) in
+      let total : length hs + length ls < 4294967296 = omega (arith, length-append hs (Plain ∷ ls)) in
       let some : length hs < 4294967296 = omega arith in
       let handlers : length b.handlers < 4294967296 = omega (arith, count_handlers (handled_lines b) [] [] b.handlers) in
       let body : length b.body < 4294967296 = omega (arith, count_body (handled_lines b) outside b.body) in
-      ((handlers, handlers_ok (handled_lines b) [] [] b.handlers r.0 one.0 parts.0 some), (body, body_ok (handled_lines b) outside b.body r.1 one.1 last.1))
+      ((handlers, handlers_ok (handled_lines b) [] [] b.handlers r.0 few parts.0 some), (body, body_ok (handled_lines b) outside b.body r.1 few last.1))
 
-  blocks_ok : (bs : List Block) → AllByRecursion BlockRanged bs → list_all block_has_one bs ≡ true → AllKept (flat_map block_rows bs) → length (flat_map block_rows bs) < 4294967296 → AllByRecursion BlockFits bs
-  blocks_ok [] r o h n = tt
-  blocks_ok (b ∷ bs) r o h n =
+  blocks_ok : (bs : List Block) → AllByRecursion BlockRanged bs → Few p → AllKept (flat_map block_rows bs) → length (flat_map block_rows bs) < 4294967296 → AllByRecursion (BlockFits version.Two) bs
+  blocks_ok [] r few h n = tt
+  blocks_ok (b ∷ bs) r few h n =
       let parts = split (keeps_all p) (block_rows b) (flat_map block_rows bs) h in
-      let one = both (block_has_one b) (list_all block_has_one bs) o in
-      let few : length (block_rows b) + length (flat_map block_rows bs) < 4294967296 = omega (arith, length-append (block_rows b) (flat_map block_rows bs)) in
+      let total : length (block_rows b) + length (flat_map block_rows bs) < 4294967296 = omega (arith, length-append (block_rows b) (flat_map block_rows bs)) in
       let here : length (block_rows b) < 4294967296 = omega arith in
       let rest : length (flat_map block_rows bs) < 4294967296 = omega arith in
-      (block_ok b r.0 one.0 parts.0 here, blocks_ok bs r.1 one.1 parts.1 rest)
+      (block_ok b r.0 few parts.0 here, blocks_ok bs r.1 few parts.1 rest)
 
   commands_ok : (j : ℕ) (cs : List Command) → AllByRecursion CommandRanged cs → AllKept (command_rows j cs) → AllByRecursion CommandFits cs
   commands_ok j [] r h = tt
@@ -149,8 +142,8 @@ module _ (p : Program) where
   plain_few : {A : Type 0} (xs : List A) → length (plain_rows xs) < 4294967296 → ListFits Any xs
   plain_few xs h = (omega (arith, length-map xs (λ _. Plain)), any_all xs)
 
-  pub sound_fits : Ranged p → is_sound p ≡ true → has_one_targets p ≡ true → Fits p
-  sound_fits r s o =
+  pub sound_fits : Ranged p → is_sound p ≡ true → Fits version.Two p
+  sound_fits r s =
       let m0 = command_rows 0 p.master in
       let b0 = flat_map block_rows p.blocks in
       let s1 = b0 ++ MasterRow ∷ m0 in
@@ -188,26 +181,28 @@ module _ (p : Program) where
       let l3 = few_of (map KindRow p.kinds) Plain s2 4294967296 l4.1 in
       let l2 = few_of (plain_rows p.places) Plain s1 4294967296 l3.1 in
       let l1 = few_of b0 MasterRow m0 4294967296 l2.1 in
+      let globals : ListFits Any p.globals = plain_few p.globals l7.0 in
+      let fields : ListFits Any p.fields = plain_few p.fields l6.0 in
+      let few : Few p = record { globals = globals.0; fields = fields.0 } in
       record {
         name = name_fits p.name (kept p NameRow h1.0).names;
         inputs = (omega (arith, l9.0, count_after InputRow [] p.inputs), inputs_ok [] p.inputs r.inputs c9.0);
         outputs = (omega (arith, l8.0, count_after OutputRow [] p.outputs), outputs_ok [] p.outputs r.outputs c8.0);
         result = r.result;
-        globals = plain_few p.globals l7.0;
-        fields = plain_few p.fields l6.0;
+        globals = globals;
+        fields = fields;
         registers = plain_few p.registers l5.0;
         columns = plain_few p.columns l4.0;
         kinds = (omega (arith, l3.0, length-map p.kinds KindRow), any_all p.kinds);
         places = (omega (arith, l2.0, length-map p.places (λ _. Plain)), r.places);
-        blocks = (omega (arith, l1.0, count_blocks p.blocks), blocks_ok p.blocks r.blocks o c1.0 l1.0);
+        blocks = (omega (arith, l1.0, count_blocks p.blocks), blocks_ok p.blocks r.blocks few c1.0 l1.0);
         master = (omega (arith, l1.1, count_commands 0 p.master), commands_ok 0 p.master r.master c1.1);
       }
 
 -- what is written for a sound image is its text
-pub written_text : {E : Type 0} (p q : Program) (r : Result (Vec ℕ Global) E) → p ≡ q → is_sound p ≡ true → Ranged p → has_one_targets q ≡ true
-    → IfOk r (λ text. text.items ≡ image_text q) → IfOk r (λ text. IsTextOf q text.items)
-written_text p q (Ok text) e s n o h =
+pub written_text : {E : Type 0} (p q : Program) (r : Result (Vec ℕ Global) E) → p ≡ q → is_sound p ≡ true → Ranged p → IfOk r (λ text. text.items ≡ image_text q) → IfOk r (λ text. IsTextOf q text.items)
+written_text p q (Ok text) e s n h =
     let sound : is_sound q ≡ true = subst (λ x. is_sound x ≡ true) e s in
     let ranged : Ranged q = subst (λ x. Ranged x) e n in
-    record { fits = sound_fits q ranged sound o; spelled = h }
-written_text p q (Err x) e s n o h = h
+    record { version = version.Two; fits = sound_fits q ranged sound; spelled = h }
+written_text p q (Err x) e s n h = h

@@ -1,11 +1,10 @@
 -- What soundness says of names and expressions: their numbers being in range, they have a spelling.
-use Rattle.std.proofs.Common.{◌≡◌, ◌<◌, ◌≤◌, ◌+◌, ℕ, zero, suc, max, Bool, true, false, not, ◌&&◌, ◌||◌, eqb, List, [], ◌∷◌, ◌++◌, length, map, refl, ap, sym, ◌∙◌, subst, arith}
-use Rattle.std.specs.Prelude.{nat_le, nat_eq, Option, Some, None, IsTrue}
-use Rattle.std.specs.List.{list_all, list_any, AllByRecursion}
+use Rattle.std.proofs.Common.{◌≡◌, ◌<◌, ◌≤◌, ℕ, suc, max, Bool, true, false, ◌&&◌, ◌||◌, eqb, List, [], ◌∷◌, length, refl, ap, ◌∙◌, subst, arith}
+use Rattle.std.specs.Prelude.{nat_le, Option, Some, None}
+use Rattle.std.specs.List.{list_all, list_any}
 use Rattle.std.proofs.lemmas.Bool.{eqb-true}
 use Rattle.std.proofs.lemmas.Bool.Decides.{nat_tests}
 use Rattle.gm_value.specs.declared.values.VType.{VType}
-use Rattle.gm_value.specs.declared.values.Value.{Value}
 use Rattle.gm_value.specs.declared.values.Value.TheVariants as values
 use Rattle.gm_image.specs.declared.sorts.Sort.{Sort}
 use Rattle.gm_image.specs.declared.sorts.Sort.TheVariants as sorts
@@ -13,10 +12,9 @@ use Rattle.gm_image.specs.Term.{Term, Const, Global, NodeCount, EdgeCount, Field
 use Rattle.gm_image.specs.Program.{Program}
 use Rattle.gm_image.specs.Parts.{depth, is_shallow}
 use Rattle.gm_image.specs.Sorts.{expects, one_sort, two_sort, three_sort, sort_of, node_at_sort, live_sort, unary_sort, binary_sort, logic_sort, choice_sort}
-use Rattle.gm_image.specs.Names.{is_letter, is_digit, is_name_byte, begins_with_letter, is_name}
-use Rattle.gm_image.specs.Ranges.{IsIndex, PlaceFits, has_place1, has_place2}
-use Rattle.gm_image_text.specs.Fits.{ends_word, IsPlain, IsName, ValueFits, NumbersFit, levels, TermFits}
-use Rattle.gm_image.specs.Ranges.{ValueInRange, InRange}
+use Rattle.gm_image.specs.Names.{is_name_byte, begins_with_letter, is_name}
+use Rattle.gm_image_text.specs.Fits.{ends_word, IsPlain, IsName, NumbersFit, levels, TermFits}
+use Rattle.gm_image.specs.Ranges.{InRange}
 
 -- the parts of a test
 pub both : (a b : Bool) → (a && b) ≡ true → (a ≡ true) × (b ≡ true)

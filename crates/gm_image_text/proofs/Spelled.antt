@@ -1,7 +1,7 @@
 -- The words of a line, and the line of words.
-use Rattle.std.proofs.Common.{◌≡◌, ◌<◌, ◌+◌, ℕ, zero, suc, Bool, true, false, cond, ◌||◌, eqb, List, [], ◌∷◌, ◌++◌, length, refl, ap, sym, ◌∙◌, subst, arith, append_assoc}
-use Rattle.std.specs.Prelude.{Option, Some, None, option_map, ⊤}
-use Rattle.std.specs.List.{flat_map, list_any, AllByRecursion}
+use Rattle.std.proofs.Common.{◌≡◌, ◌<◌, ℕ, Bool, true, false, cond, ◌||◌, eqb, List, [], ◌∷◌, ◌++◌, length, refl, ap, sym, ◌∙◌, subst, arith, append_assoc}
+use Rattle.std.specs.Prelude.{Some, None, option_map}
+use Rattle.std.specs.List.{list_any, AllByRecursion}
 use Rattle.std.proofs.lemmas.Bool.Decides.{nat_tests}
 use Rattle.gm_image_text.specs.Lines.{Line, Word, led, joined, spaced, onto_first, words_of, before_end, at_end, line_words, lines_of, text_of}
 use Rattle.gm_image_text.specs.Fits.{ends_word, IsPlain}

@@ -1,11 +1,10 @@
 -- Each table has the words that its meanings are spelled by, and no others.
-use Rattle.std.proofs.Common.{◌≡◌, Bool, true, false, refl, List}
+use Rattle.std.proofs.Common.{◌≡◌, Bool, true, false, refl, [], ◌∷◌}
 use Rattle.std.specs.Prelude.{Option, Some, None, codes}
 use Rattle.gm_value.specs.declared.values.VType.{VType}
 use Rattle.gm_value.specs.declared.values.VType.TheVariants as vtype
 use Rattle.gm_value.specs.declared.reductions.Reduce.{Reduce}
 use Rattle.gm_value.specs.declared.reductions.Reduce.TheVariants as reduce
-use Rattle.gm_image.specs.Program.{Holder, Direction}
 use Rattle.gm_image_text.specs.declared.heads.Leaf.{Leaf}
 use Rattle.gm_image_text.specs.declared.heads.Leaf.TheVariants as leaf
 use Rattle.gm_image_text.specs.declared.heads.Indexed.{Indexed}
@@ -20,6 +19,8 @@ use Rattle.gm_image_text.specs.declared.heads.PlacedTwo.{PlacedTwo}
 use Rattle.gm_image_text.specs.declared.heads.PlacedTwo.TheVariants as placed_two
 use Rattle.gm_image_text.specs.declared.heads.Head.{Head}
 use Rattle.gm_image_text.specs.declared.heads.Head.TheVariants as head
+use Rattle.gm_image_text.specs.declared.heads.Version.{Version}
+use Rattle.gm_image_text.specs.declared.heads.Version.TheVariants as version
 use Rattle.gm_image_text.specs.declared.heads.VertexHead.{VertexHead}
 use Rattle.gm_image_text.specs.declared.heads.VertexHead.TheVariants as vertex
 use Rattle.gm_image_text.specs.declared.heads.MasterHead.{MasterHead}
@@ -32,15 +33,31 @@ use Rattle.gm_image.specs.declared.lines.Direction.{Direction as Way}
 use Rattle.gm_image.specs.declared.lines.Direction.TheVariants as way
 use Rattle.gm_image_text.specs.Lines.{Word}
 use Rattle.gm_image_text.specs.Fits.{IsPlain}
-use Rattle.gm_image_text.specs.Spelling.{type_word, reduce_word, combiner_word, holder_word, direction_word}
+use Rattle.gm_image_text.specs.Spelling.{type_word, reduce_word, combiner_word, holder_word, direction_word, version_digit}
 use Rattle.gm_image_text.specs.Reading.{input_holder, output_holder}
 use Rattle.gm_image.specs.Items.{direction_of}
-use Rattle.gm_image_text.specs.Tables.{row_in, heads, types, reductions, combiners, flags, vertex_heads, master_heads, input_heads, output_heads, ways}
+use Rattle.gm_image_text.specs.Tables.{row_in, versions, heads, types, reductions, combiners, flags, vertex_heads, master_heads, input_heads, output_heads, ways}
 use Rattle.gm_image_text.proofs.Fields.{WordLaw, table_word}
 
 -- any meaning of a table will do
 abbrev pub Whatever : {T : Type 0} → T → Type 0
 Whatever x = Unit {0}
+
+abbrev pub version_word : Version → Word
+version_word v = version_digit v ∷ []
+
+version_again : (v : Version) → row_in versions (version_word v) ≡ Some v
+unfolding versions
+version_again version.One = refl
+version_again version.Two = refl
+
+version_plain : (v : Version) → IsPlain (version_word v)
+version_plain version.One = refl
+version_plain version.Two = refl
+
+pub versions_word : WordLaw Whatever version_word (row_in versions)
+unfolding versions
+versions_word = table_word version_word versions refl version_again version_plain
 
 type_again : (t : VType) → row_in types (type_word t) ≡ Some t
 unfolding types
@@ -118,8 +135,10 @@ flags_word = table_word flag_word flags refl flag_again flag_plain
 abbrev pub vertex_word : VertexHead → Word
 vertex_word vertex.SetField = codes "set"
 vertex_word vertex.Fold = codes "fold"
+vertex_word vertex.Pick = codes "pick"
 vertex_word vertex.SetRegister = codes "reg"
 vertex_word vertex.Put = codes "put"
+vertex_word vertex.PickPut = codes "pickput"
 vertex_word vertex.Send = codes "send"
 vertex_word vertex.Skip = codes "skip"
 vertex_word vertex.Each = codes "each"
@@ -128,8 +147,10 @@ vertex_again : (h : VertexHead) → row_in vertex_heads (vertex_word h) ≡ Some
 unfolding vertex_heads
 vertex_again vertex.SetField = refl
 vertex_again vertex.Fold = refl
+vertex_again vertex.Pick = refl
 vertex_again vertex.SetRegister = refl
 vertex_again vertex.Put = refl
+vertex_again vertex.PickPut = refl
 vertex_again vertex.Send = refl
 vertex_again vertex.Skip = refl
 vertex_again vertex.Each = refl
@@ -137,8 +158,10 @@ vertex_again vertex.Each = refl
 vertex_plain : (h : VertexHead) → IsPlain (vertex_word h)
 vertex_plain vertex.SetField = refl
 vertex_plain vertex.Fold = refl
+vertex_plain vertex.Pick = refl
 vertex_plain vertex.SetRegister = refl
 vertex_plain vertex.Put = refl
+vertex_plain vertex.PickPut = refl
 vertex_plain vertex.Send = refl
 vertex_plain vertex.Skip = refl
 vertex_plain vertex.Each = refl

@@ -1,8 +1,7 @@
 -- Expressions are read from their spellings and from nothing else.
-use Rattle.std.proofs.Common.{◌≡◌, ◌<◌, ◌≤◌, ℕ, zero, suc, max, Bool, true, false, cond, List, [], ◌∷◌, ◌++◌, length, refl, ap, sym, ◌∙◌, subst, arith, append_assoc}
-use Rattle.std.specs.Prelude.{Option, Some, None, option_map, ⊤}
+use Rattle.std.proofs.Common.{◌≡◌, ◌<◌, ◌≤◌, ℕ, zero, suc, max, Bool, true, false, List, [], ◌∷◌, ◌++◌, length, refl, ap, sym, ◌∙◌, subst, arith, append_assoc}
+use Rattle.std.specs.Prelude.{Option, Some, None}
 use Rattle.std.specs.Fmt.{decimal}
-use Rattle.gm_value.specs.declared.values.Value.{Value}
 use Rattle.gm_value.specs.declared.operations.Op1.{Op1}
 use Rattle.gm_value.specs.declared.operations.Op1.TheVariants as op1
 use Rattle.gm_value.specs.declared.operations.Op2.{Op2}
@@ -31,9 +30,9 @@ use Rattle.gm_image_text.specs.Tables as tables
 use Rattle.gm_image_text.specs.Tables.{row_in}
 use Rattle.gm_image_text.specs.Numbers.{index_in}
 use Rattle.gm_image_text.specs.Reading.{◌>>=◌, Reads, word_at, index_at, constant_at, leaf_term, indexed_term, one_term, placed_one_term, two_term, placed_two_term, choice_term, behind_head, term_at, expression_at}
-use Rattle.gm_image_text.proofs.LineBinds.{some_is, map_some, bind_some}
+use Rattle.gm_image_text.proofs.LineBinds.{some_is, bind_some}
 use Rattle.gm_image_text.proofs.Spelled.{AllPlain, plain_both, plain_behind}
-use Rattle.gm_image_text.proofs.Fields.{WordLaw, FieldLaw, word_field}
+use Rattle.gm_image_text.proofs.Fields.{FieldLaw, word_field}
 use Rattle.gm_image_text.proofs.Numerals.{index_word}
 use Rattle.gm_image_text.proofs.Constants.{constant_field}
 use Rattle.gm_image_text.proofs.TableLaws.{Whatever, head_word, leaf_word, indexed_word, one_word, placed_one_word, two_word, placed_two_word, heads_word}

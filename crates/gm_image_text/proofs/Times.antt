@@ -1,10 +1,10 @@
 -- Parts in a row, and lists behind their headers.
-use Rattle.std.proofs.Common.{◌≡◌, ℕ, zero, suc, List, [], ◌∷◌, ◌++◌, length, refl, ap, sym, ◌∙◌, subst, arith, append_assoc}
-use Rattle.std.specs.Prelude.{Result, Ok, Err, ⊤}
+use Rattle.std.proofs.Common.{◌≡◌, ℕ, zero, suc, List, [], ◌∷◌, ◌++◌, length, refl, ap, sym, subst, arith}
+use Rattle.std.specs.Prelude.{Ok}
 use Rattle.std.specs.List.{flat_map, AllByRecursion}
-use Rattle.gm_image_text.specs.Lines.{Line, Word}
-use Rattle.gm_image_text.specs.Sections.{◌>>=◌, Reads, dep_at, then_at, mapped, times_at}
-use Rattle.gm_image_text.proofs.Binds.{bind_ok, bind_err, ok_is, err_is, Fails}
+use Rattle.gm_image_text.specs.Lines.{Line}
+use Rattle.gm_image_text.specs.Sections.{Reads, then_at, times_at}
+use Rattle.gm_image_text.proofs.Binds.{ok_is}
 use Rattle.gm_image_text.proofs.Spelled.{IsLine}
 use Rattle.gm_image_text.proofs.Parts.{PartLaw, dep_law, Recasts, mapped_law}
 

@@ -1,24 +1,27 @@
 -- What the reading of all lines says of a text.
-use Rattle.std.proofs.Common.{◌≡◌, ◌<◌, ◌≤◌, ◌+◌, ◌-◌, ℕ, zero, suc, Bool, true, false, not, cond, eqb, List, [], ◌∷◌, ◌++◌, length, take, refl, ap, sym, ◌∙◌, subst, arith, append_assoc, length-append}
-use Rattle.std.specs.Prelude.{Option, Some, None, ⊤, Result, Ok, Err}
+use Rattle.std.proofs.Common.{◌≡◌, ◌<◌, ◌≤◌, ◌+◌, ◌-◌, ℕ, suc, true, false, cond, eqb, List, [], ◌∷◌, ◌++◌, length, take, refl, ap, sym, ◌∙◌, subst, arith, append_assoc, length-append}
+use Rattle.std.specs.Prelude.{Result, Ok, Err}
 use Rattle.gm_image.specs.Program.{Program}
+use Rattle.gm_image_text.specs.declared.heads.Version.{Version}
 use Rattle.gm_image_text.specs.Lines.{Line, lines_of, text_of, onto_first}
-use Rattle.gm_image_text.specs.Fits.{Fits}
-use Rattle.gm_image_text.specs.Spelling.{image_lines, image_text}
+use Rattle.gm_image_text.specs.Spelling.{lines_in}
 use Rattle.gm_image_text.specs.Sections.{◌>>=◌, image_at, all_read, whole_at}
 use Rattle.gm_image_text.specs.declared.faults.ImageFault.TheVariants as fault
 use Rattle.gm_image_text.specs.ImageText.{IsTextOf, AreLinesOf, BeginsImage, IsBadLine}
 use Rattle.gm_image_text.proofs.Binds.{bind_ok, bind_err, ok_is, err_is, Fails}
 use Rattle.gm_image_text.proofs.Spelled.{lines_text, text_lines}
-use Rattle.gm_image_text.proofs.Parts.{PartLaw, Stops, IsStuck}
-use Rattle.gm_image_text.proofs.ImageLaw.{image_law}
+use Rattle.gm_image_text.proofs.Parts.{Stops, IsStuck}
+use Rattle.gm_image_text.proofs.ImageLaw.{ImageFits, image_law}
 
 none_behind : (ls : List Line) → ls ++ [] ≡ ls
 none_behind [] = refl
 none_behind (l ∷ ls) = ap (λ v. l ∷ v) (none_behind ls)
 
-abbrev at_end : Program × List Line → Result Program (List Line)
-at_end x = all_read x.0 x.1
+abbrev at_end : (Version × Program) × List Line → Result Program (List Line)
+at_end x = all_read x.0.1 x.1
+
+abbrev lines_of_image : Version × Program → List Line
+lines_of_image z = lines_in z.0 z.1
 
 read_all : (p q : Program) (rest : List Line) → all_read q rest ≡ Ok p → (rest ≡ []) × (q ≡ p)
 read_all p q [] e = (refl, ok_is q p e)
@@ -28,25 +31,25 @@ read_all p q (l ∷ ls) e = cc
 lines_ok : (ls : List Line) (p : Program) → whole_at ls ≡ Ok p → AreLinesOf p ls
 lines_ok ls p e =
     let it = bind_ok (image_at ls) at_end p e in
-    let last = read_all p it.0.0 it.0.1 it.2 in
-    let got : Fits it.0.0 × (ls ≡ image_lines it.0.0 ++ it.0.1) = image_law.ok ls it.0.1 it.0.0 it.1 in
+    let last = read_all p it.0.0.1 it.0.1 it.2 in
+    let got : ImageFits it.0.0 × (ls ≡ lines_of_image it.0.0 ++ it.0.1) = image_law.ok ls it.0.1 it.0.0 it.1 in
     let Q : Program → Type 0 = λ v. AreLinesOf v ls in
-    subst Q last.1 (record { fits = got.0; spelled = sym (got.1 ∙ ap (λ v. image_lines it.0.0 ++ v) last.0 ∙ none_behind (image_lines it.0.0)) })
+    subst Q last.1 (record { version = it.0.0.0; fits = got.0; spelled = sym (got.1 ∙ ap (λ v. lines_of_image it.0.0 ++ v) last.0 ∙ none_behind (lines_of_image it.0.0)) })
 
 pub text_ok : (text : List ℕ) (p : Program) → whole_at (lines_of text) ≡ Ok p → IsTextOf p text
 text_ok text p e =
     let it : AreLinesOf p (lines_of text) = lines_ok (lines_of text) p e in
-    record { fits = it.fits; spelled = sym (text_lines text) ∙ ap text_of (sym it.spelled) }
+    record { version = it.version; fits = it.fits; spelled = sym (text_lines text) ∙ ap text_of (sym it.spelled) }
 
-image_again : (p : Program) → Fits p → image_at (image_lines p) ≡ Ok (p, [])
-image_again p h = ap image_at (sym (none_behind (image_lines p))) ∙ image_law.again p [] h
+image_again : (z : Version × Program) → ImageFits z → image_at (lines_of_image z) ≡ Ok (z, [])
+image_again z h = ap image_at (sym (none_behind (lines_of_image z))) ∙ image_law.again z [] h
 
 pub lines_again : (ls : List Line) (p : Program) → AreLinesOf p ls → whole_at ls ≡ Ok p
-lines_again ls p h = ap whole_at (sym h.spelled) ∙ ap (λ r. r >>= at_end) (image_again p h.fits)
+lines_again ls p h = ap whole_at (sym h.spelled) ∙ ap (λ r. r >>= at_end) (image_again (h.version, p) h.fits)
 
 -- an image's text has the image's lines
 pub text_again : (text : List ℕ) (p : Program) → IsTextOf p text → whole_at (lines_of text) ≡ Ok p
-text_again text p h = lines_again (lines_of text) p (record { fits = h.fits; spelled = sym (ap lines_of h.spelled ∙ lines_text (image_lines p) (image_law.ended p h.fits)) })
+text_again text p h = lines_again (lines_of text) p (record { version = h.version; fits = h.fits; spelled = sym (ap lines_of h.spelled ∙ lines_text (lines_in h.version p) (image_law.ended (h.version, p) h.fits)) })
 
 -- where the reading stops
 record BadAt (ls rest : List Line) : Type 0 where
@@ -63,16 +66,16 @@ no_end ls rest e p h = clash (sym e ∙ lines_again ls p h) where
 
 -- a line that stops the reading begins no image's text
 stuck_line : (front : List Line) (l : Line) (more : List Line) → IsStuck image_at front (l ∷ more) → BeginsImage (front ++ l ∷ []) → ⊥
-stuck_line front l more stuck b = clash (sym (stuck b.more) ∙ ap image_at (sym (append_assoc front (l ∷ []) b.more) ∙ sym b.spelled.spelled) ∙ image_again b.image b.spelled.fits) where
-  clash : ◌≡◌ {A = Result (Program × List Line) (List Line)} (Err (l ∷ b.more)) (Ok (b.image, [])) → ⊥
+stuck_line front l more stuck b = clash (sym (stuck b.more) ∙ ap image_at (sym (append_assoc front (l ∷ []) b.more) ∙ sym b.spelled.spelled) ∙ image_again (b.spelled.version, b.image) b.spelled.fits) where
+  clash : ◌≡◌ {A = Result ((Version × Program) × List Line) (List Line)} (Err (l ∷ b.more)) (Ok ((b.spelled.version, b.image), [])) → ⊥
   clash f = cc
 
 -- neither does a line behind an image
-surplus_line : (q : Program) (l : Line) → Fits q → BeginsImage (image_lines q ++ l ∷ []) → ⊥
+surplus_line : (q : Version × Program) (l : Line) → ImageFits q → BeginsImage (lines_of_image q ++ l ∷ []) → ⊥
 surplus_line q l f b =
-    let same : Ok (q, l ∷ b.more) ≡ Ok (b.image, []) =
-    sym (image_law.again q (l ∷ b.more) f) ∙ ap image_at (sym (append_assoc (image_lines q) (l ∷ []) b.more) ∙ sym b.spelled.spelled) ∙ image_again b.image b.spelled.fits in
-    let rests : l ∷ b.more ≡ [] = ap (λ v. v.1) (ok_is (q, l ∷ b.more) (b.image, []) same) in
+    let same : Ok (q, l ∷ b.more) ≡ Ok ((b.spelled.version, b.image), []) =
+    sym (image_law.again q (l ∷ b.more) f) ∙ ap image_at (sym (append_assoc (lines_of_image q) (l ∷ []) b.more) ∙ sym b.spelled.spelled) ∙ image_again (b.spelled.version, b.image) b.spelled.fits in
+    let rests : l ∷ b.more ≡ [] = ap (λ v. v.1) (ok_is (q, l ∷ b.more) ((b.spelled.version, b.image), []) same) in
     clash rests where
       clash : l ∷ b.more ≡ [] → ⊥
       clash g = cc
@@ -88,23 +91,23 @@ bad_at : (ls rest : List Line) → whole_at ls ≡ Err rest → BadAt ls rest
 bad_at ls rest e = by_fault (bind_err (image_at ls) at_end rest e) where
   by_fault : Fails (image_at ls) at_end rest → BadAt ls rest
   by_fault (Fails.here is) =
-      let s : Stops Fits image_lines image_at ls rest = image_law.fault ls rest is in
+      let s : Stops ImageFits lines_of_image image_at ls rest = image_law.fault ls rest is in
       record {
         front = s.front;
         split = s.split;
-        good = record { image = s.whole; more = s.more; spelled = record { fits = s.fits; spelled = s.begins } };
+        good = record { image = s.whole.1; more = s.more; spelled = record { version = s.whole.0; fits = s.fits; spelled = s.begins } };
         bad = λ l more at b.
             let P : List Line → Type 0 = λ v. IsStuck image_at s.front v in
             stuck_line s.front l more (subst P at s.stuck) b;
         unfinished = λ none p h. no_end ls rest e p h;
       }
   by_fault (Fails.later x was is) =
-      let got : Fits x.0 × (ls ≡ image_lines x.0 ++ x.1) = image_law.ok ls x.1 x.0 was in
-      let tail : x.1 ≡ rest = behind_all x.0 x.1 rest is in
+      let got : ImageFits x.0 × (ls ≡ lines_of_image x.0 ++ x.1) = image_law.ok ls x.1 x.0 was in
+      let tail : x.1 ≡ rest = behind_all x.0.1 x.1 rest is in
       record {
-        front = image_lines x.0;
-        split = got.1 ∙ ap (λ v. image_lines x.0 ++ v) tail;
-        good = record { image = x.0; more = []; spelled = record { fits = got.0; spelled = sym (none_behind (image_lines x.0)) } };
+        front = lines_of_image x.0;
+        split = got.1 ∙ ap (λ v. lines_of_image x.0 ++ v) tail;
+        good = record { image = x.0.1; more = []; spelled = record { version = x.0.0; fits = got.0; spelled = sym (none_behind (lines_of_image x.0)) } };
         bad = λ l more at b. surplus_line x.0 l got.0 b;
         unfinished = λ none p h. no_end ls rest e p h;
       }

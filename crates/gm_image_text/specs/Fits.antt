@@ -1,21 +1,19 @@
 -- What has a spelling: numbers in their ranges, names of bytes that a line can hold, expressions of at most 1,024
--- levels, and one target in each fold and put.
-use Rattle.std.specs.Prelude.{◌≡◌, ℕ, suc, ◌<◌, ◌≤◌, ◌^◌, max, Bool, true, false, ◌||◌, ◌==◌, Option, Some, None, List, [], ◌∷◌, length, IsTrue}
+-- levels, and reductions of one slot. Version 2 spells as well those of two slots and more that take the least or
+-- the greatest; version 1 does not.
+use Rattle.std.specs.Prelude.{◌≡◌, ℕ, suc, ◌<◌, ◌≤◌, max, Bool, false, ◌||◌, ◌==◌, Some, None, List, [], ◌∷◌, length, IsTrue}
 use Rattle.std.specs.List.{list_any, AllByRecursion}
-use Rattle.gm_base.specs.declared.places.Place.{Place}
-use Rattle.gm_value.specs.declared.values.VType.{VType}
 use Rattle.gm_value.specs.declared.values.VType.TheVariants as types
 use Rattle.gm_value.specs.declared.values.Value.{Value}
 use Rattle.gm_value.specs.declared.values.Value.TheVariants as values
-use Rattle.gm_value.specs.declared.operations.Op1.{Op1}
-use Rattle.gm_value.specs.declared.operations.Op1.TheVariants as one
-use Rattle.gm_value.specs.declared.operations.Op2.{Op2}
-use Rattle.gm_value.specs.declared.operations.Op2.TheVariants as two
+use Rattle.gm_value.specs.declared.reductions.Reduce.{Reduce}
 use Rattle.gm_value.specs.Numbers.{fits}
+use Rattle.gm_image.specs.Fits.{is_extreme}
 use Rattle.gm_image.specs.Term.{Term, Const, Global, NodeCount, EdgeCount, Field, Self, OutDegree, InDegree, Register, Message, Neighbour, Column, NodeAt, Live, Unary, Binary, And, Or, Choose}
 use Rattle.gm_image.specs.Program as programs
 use Rattle.gm_image.specs.Program.{Program, Target, SetField, Fold, SetRegister, Put, Send, Skip, Each, Command, SetGlobal, Step, Jump, Test, Turn, Back, Finish, Holder, Scalar, Node, Edge, Item, Handler, Block}
-use Rattle.gm_image.specs.declared.images.Kind.{Kind}
+use Rattle.gm_image_text.specs.declared.heads.Version.{Version}
+use Rattle.gm_image_text.specs.declared.heads.Version.TheVariants as version
 use Rattle.gm_image.specs.Ranges.{IsIndex, PlaceFits, has_place1, has_place2, IsOutputHolder, ResultFits, PlaceIsIndex}
 
 -- a byte that ends a word: LF or a space
@@ -80,20 +78,25 @@ pub record TermFits (a : Term) : Type 0 where
 abbrev pub TargetFits : Target → Type 0
 TargetFits t = IsIndex t.slot × TermFits t.term
 
--- one target
-abbrev pub TargetsFit : List Target → Type 0
-TargetsFit [] = ⊥
-TargetsFit (t ∷ []) = TargetFits t
-TargetsFit (t ∷ u ∷ ts) = ⊥
+-- a version that has reductions of several slots
+abbrev pub HasPicks : Version → Type 0
+HasPicks version.One = ⊥
+HasPicks version.Two = Unit {0}
 
-abbrev pub LineFits : programs.Line → Type 0
-LineFits (SetField f a) = IsIndex f × TermFits a
-LineFits (Fold r p ts) = IsIndex p × TargetsFit ts
-LineFits (SetRegister i a) = IsIndex i × TermFits a
-LineFits (Put r p ts) = IsIndex p × TargetsFit ts
-LineFits (Send k to vs) = IsIndex k × TermFits to × AllByRecursion TermFits vs
-LineFits (Skip n a) = IsIndex n × TermFits a
-LineFits (Each d n) = IsIndex n
+-- the slots of a reduction with their values: one, or several that a least or a greatest chooses
+abbrev pub TargetsFit : Version → Reduce → List Target → Type 0
+TargetsFit v r [] = ⊥
+TargetsFit v r (t ∷ []) = TargetFits t
+TargetsFit v r (t ∷ (u ∷ us)) = HasPicks v × (IsTrue (is_extreme r) × (IsIndex (length (t ∷ (u ∷ us))) × AllByRecursion TargetFits (t ∷ (u ∷ us))))
+
+abbrev pub LineFits : Version → programs.Line → Type 0
+LineFits v (SetField f a) = IsIndex f × TermFits a
+LineFits v (Fold r p ts) = IsIndex p × TargetsFit v r ts
+LineFits v (SetRegister i a) = IsIndex i × TermFits a
+LineFits v (Put r p ts) = IsIndex p × TargetsFit v r ts
+LineFits v (Send k to vs) = IsIndex k × TermFits to × AllByRecursion TermFits vs
+LineFits v (Skip n a) = IsIndex n × TermFits a
+LineFits v (Each d n) = IsIndex n
 
 abbrev pub CommandFits : Command → Type 0
 CommandFits (SetGlobal g a) = IsIndex g × TermFits a
@@ -117,14 +120,14 @@ ListFits F xs = IsIndex (length xs) × AllByRecursion F xs
 abbrev pub Any : {A : Type 0} → A → Type 0
 Any x = Unit {0}
 
-abbrev pub HandlerFits : Handler → Type 0
-HandlerFits h = IsIndex h.kind × ListFits LineFits h.lines
+abbrev pub HandlerFits : Version → Handler → Type 0
+HandlerFits v h = IsIndex h.kind × ListFits (LineFits v) h.lines
 
-abbrev pub BlockFits : Block → Type 0
-BlockFits b = ListFits HandlerFits b.handlers × ListFits LineFits b.body
+abbrev pub BlockFits : Version → Block → Type 0
+BlockFits v b = ListFits (HandlerFits v) b.handlers × ListFits (LineFits v) b.body
 
--- an image that has a spelling
-pub record Fits (p : Program) : Type 0 where
+-- an image that has a spelling in a version
+pub record Fits (v : Version) (p : Program) : Type 0 where
   pub name : IsName p.name
   pub inputs : ListFits InputFits p.inputs
   pub outputs : ListFits OutputFits p.outputs
@@ -135,5 +138,5 @@ pub record Fits (p : Program) : Type 0 where
   pub columns : ListFits Any p.columns
   pub kinds : ListFits Any p.kinds
   pub places : ListFits PlaceIsIndex p.places
-  pub blocks : ListFits BlockFits p.blocks
+  pub blocks : ListFits (BlockFits v) p.blocks
   pub master : ListFits CommandFits p.master

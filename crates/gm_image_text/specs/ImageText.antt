@@ -1,12 +1,15 @@
--- Which texts are the texts of images, and where a text first stops being the beginning of one.
+-- Which texts are the texts of images, and where a text first stops being the beginning of one. An image has one
+-- text in version 2. The same lines under the first line of version 1 are its text as well, unless one of them is a
+-- `pick` or a `pickput`, which version 1 does not have.
 use Rattle.std.specs.Prelude.{◌≡◌, ℕ, ◌+◌, ◌<◌, ◌≤◌, ⊤, List, ◌++◌, length, take, Result, Ok, Err}
 use Rattle.gm_image.specs.declared.images.Image.{Image}
 use Rattle.gm_image.specs.Program.{Program}
 use Rattle.gm_image.specs.Views.{program}
 use Rattle.gm_image_text.specs.declared.faults.ImageFault.{ImageFault}
 use Rattle.gm_image_text.specs.declared.faults.ImageFault.TheVariants as fault
-use Rattle.gm_image_text.specs.Lines.{Line, lines_of}
-use Rattle.gm_image_text.specs.Spelling.{image_lines, image_text}
+use Rattle.gm_image_text.specs.Lines.{Line}
+use Rattle.gm_image_text.specs.declared.heads.Version.{Version}
+use Rattle.gm_image_text.specs.Spelling.{lines_in, text_in}
 use Rattle.gm_image_text.specs.Fits.{Fits}
 
 -- the most bytes that a text may have
@@ -15,13 +18,15 @@ most_bytes = 268435456
 
 -- the text is the image's
 pub record IsTextOf (p : Program) (text : List ℕ) : Type 0 where
-  pub fits : Fits p
-  pub spelled : text ≡ image_text p
+  pub version : Version
+  pub fits : Fits version p
+  pub spelled : text ≡ text_in version p
 
 -- the lines are those of an image's text
 pub record AreLinesOf (p : Program) (lines : List Line) : Type 0 where
-  pub fits : Fits p
-  pub spelled : image_lines p ≡ lines
+  pub version : Version
+  pub fits : Fits version p
+  pub spelled : lines_in version p ≡ lines
 
 -- some image's text begins with these lines
 pub record BeginsImage (front : List Line) : Type 0 where

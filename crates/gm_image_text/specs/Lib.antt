@@ -2,7 +2,6 @@ pub mod Lines
 pub mod Spelling
 pub mod Fits
 pub mod ImageText
-pub mod OneSlot
 pub mod Giving
 pub mod Tables
 pub mod Numbers

@@ -1,5 +1,5 @@
 -- The numbers and constants that words spell, digit by digit.
-use Rattle.std.specs.Prelude.{ℕ, zero, suc, nat_lt, min, Bool, true, false, ◌==◌, if◌then◌else◌, ℤ, pos, negsuc, List, [], ◌∷◌, drop, slice_index, Option, Some, None, option_map, codes, bytes_eq, ⊤}
+use Rattle.std.specs.Prelude.{ℕ, zero, suc, nat_lt, min, Bool, false, ◌==◌, if◌then◌else◌, ℤ, pos, negsuc, [], ◌∷◌, drop, slice_index, Option, Some, None, option_map, codes, bytes_eq, ⊤}
 use Rattle.gm_fields.specs.Fields.{number_in}
 use Rattle.gm_value.specs.declared.values.VType.{VType}
 use Rattle.gm_value.specs.declared.values.VType.TheVariants.{I32, I64, Flag, Node}

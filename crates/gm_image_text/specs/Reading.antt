@@ -1,5 +1,5 @@
 -- Reading a line: what its words are read as, from left to right, if it is one of the lines that is wanted.
-use Rattle.std.specs.Prelude.{◌≡◌, ℕ, zero, suc, Bool, ◌==◌, if◌then◌else◌, List, [], ◌∷◌, ◌++◌, length, Option, Some, None, option_map, codes, bytes_eq}
+use Rattle.std.specs.Prelude.{ℕ, zero, suc, nat_lt, nat_eq, ◌&&◌, if◌then◌else◌, List, [], ◌∷◌, length, Option, Some, None, option_map, codes, bytes_eq}
 use Rattle.std.specs.Borrow.{Bor}
 use Rattle.gm_base.specs.declared.places.Place.{Place}
 use Rattle.gm_value.specs.declared.values.VType.{VType}
@@ -11,7 +11,8 @@ use Rattle.gm_image.specs.declared.images.Kind.{Kind}
 use Rattle.gm_image.specs.Term as T
 use Rattle.gm_image.specs.Term.{Term}
 use Rattle.gm_image.specs.Program as P
-use Rattle.gm_image.specs.Program.{Holder, Item, Command}
+use Rattle.gm_image.specs.Program.{Holder, Item, Command, Target}
+use Rattle.gm_image.specs.Fits.{is_extreme}
 use Rattle.gm_image_text.specs.declared.heads.Leaf.{Leaf}
 use Rattle.gm_image_text.specs.declared.heads.Leaf.TheVariants as leaf
 use Rattle.gm_image_text.specs.declared.heads.Indexed.{Indexed}
@@ -26,6 +27,8 @@ use Rattle.gm_image_text.specs.declared.heads.PlacedTwo.{PlacedTwo}
 use Rattle.gm_image_text.specs.declared.heads.PlacedTwo.TheVariants as placed_two
 use Rattle.gm_image_text.specs.declared.heads.Head.{Head}
 use Rattle.gm_image_text.specs.declared.heads.Head.TheVariants as head
+use Rattle.gm_image_text.specs.declared.heads.Version.{Version}
+use Rattle.gm_image_text.specs.declared.heads.Version.TheVariants as version
 use Rattle.gm_image_text.specs.declared.heads.VertexHead.{VertexHead}
 use Rattle.gm_image_text.specs.declared.heads.VertexHead.TheVariants as vertex
 use Rattle.gm_image_text.specs.declared.heads.MasterHead.{MasterHead}
@@ -36,7 +39,7 @@ use Rattle.gm_image_text.specs.declared.heads.OutputHead.{OutputHead}
 use Rattle.gm_image_text.specs.declared.heads.OutputHead.TheVariants as output
 use Rattle.gm_image.specs.Items.{direction_of}
 use Rattle.gm_image_text.specs.Lines.{Word, Line, words_of, line_words}
-use Rattle.gm_image_text.specs.Tables.{row_in, heads, types, reductions, combiners, vertex_heads, master_heads, input_heads, output_heads, ways}
+use Rattle.gm_image_text.specs.Tables.{row_in, versions, heads, types, reductions, combiners, vertex_heads, master_heads, input_heads, output_heads, ways}
 use Rattle.gm_image_text.specs.Numbers.{index_in, value_in}
 
 infixl 10 ◌>>=◌
@@ -177,15 +180,19 @@ term_at (suc n) ws = word_at (row_in heads) ws >>= λ h. behind_head (λ vs. ter
 abbrev pub expression_at : Reads Term
 expression_at ws = term_at 1024 ws
 
--- expressions to the end of the line, at most so many
-abbrev pub terms_upto : ℕ → List Word → Option (List Term)
-terms_upto k [] = Some []
-terms_upto zero (w ∷ ws) = None
-terms_upto (suc k) (w ∷ ws) = expression_at (w ∷ ws) >>= λ a. terms_upto k a.1 >>= λ more. Some (a.0 ∷ more)
+-- things to the end of the line, at most so many
+abbrev pub all_upto : {X : Type 0} → Reads X → ℕ → List Word → Option (List X)
+all_upto read k [] = Some []
+all_upto read zero (w ∷ ws) = None
+all_upto read (suc k) (w ∷ ws) = read (w ∷ ws) >>= λ x. all_upto read k x.1 >>= λ more. Some (x.0 ∷ more)
+
+-- things to the end of the line
+abbrev pub all_in : {X : Type 0} → Reads X → List Word → Option (List X)
+all_in read ws = all_upto read (length ws) ws
 
 -- expressions to the end of the line
 abbrev pub terms_in : List Word → Option (List Term)
-terms_in ws = terms_upto (length ws) ws
+terms_in ws = all_in expression_at ws
 
 -- types to the end of the line
 abbrev pub types_in : List Word → Option (List VType)
@@ -201,9 +208,9 @@ abbrev pub output_holder : OutputHead → Holder
 output_holder output.Scalar = P.Scalar
 output_holder output.Node = P.Node
 
--- the first line
-abbrev pub first_row : List Word → Option (Unit {0})
-first_row ws = fixed_at (codes "gm-image") ws >>= λ vs. fixed_at (codes "1") vs >>= λ us. ended_at us
+-- the first line, which says the version
+abbrev pub first_row : List Word → Option Version
+first_row ws = behind_at (codes "gm-image") (word_at (row_in versions)) ws
 
 abbrev pub name_row : List Word → Option (List ℕ)
 name_row ws = behind_at (codes "name") name_at ws
@@ -270,18 +277,54 @@ fold_of x = P.Fold x.0 x.1.0 (record { slot = x.1.1.0; term = x.1.1.1 } ∷ [])
 abbrev pub put_of : Reduce × (ℕ × (ℕ × Term)) → P.Line
 put_of x = P.Put x.0 x.1.0 (record { slot = x.1.1.0; term = x.1.1.1 } ∷ [])
 
--- the rest of a vertex line behind its first word
-abbrev pub vertex_behind : VertexHead → List Word → Option P.Line
-vertex_behind vertex.SetField ws = option_map (λ x. P.SetField x.0 x.1) (slot_in ws)
-vertex_behind vertex.Fold ws = option_map fold_of (reduced_in ws)
-vertex_behind vertex.SetRegister ws = option_map (λ x. P.SetRegister x.0 x.1) (slot_in ws)
-vertex_behind vertex.Put ws = option_map put_of (reduced_in ws)
-vertex_behind vertex.Send ws = option_map (λ x. P.Send x.0 x.1.0 x.1.1) (last_at index_at (λ vs. last_at expression_at terms_in vs) ws)
-vertex_behind vertex.Skip ws = option_map (λ x. P.Skip x.0 x.1) (slot_in ws)
-vertex_behind vertex.Each ws = option_map (λ x. P.Each (direction_of x.0) x.1) (last_at (word_at (row_in ways)) only_index ws)
+-- a reduction that takes the least or the greatest
+abbrev pub extreme_from : Option Reduce → Option Reduce
+extreme_from None = None
+extreme_from (Some r) = if is_extreme r then Some r else None
 
-abbrev pub vertex_row : List Word → Option P.Line
-vertex_row ws = word_at (row_in vertex_heads) ws >>= λ h. vertex_behind h.0 h.1
+abbrev pub extreme_in : Word → Option Reduce
+extreme_in word = extreme_from (row_in reductions word)
+
+abbrev pub target_of : ℕ × Term → Target
+target_of x = record { slot = x.0; term = x.1 }
+
+-- a slot and its value
+abbrev pub target_at : Reads Target
+target_at ws = option_map (λ x. (target_of x.0, x.1)) (then_at index_at expression_at ws)
+
+-- two things and more, where a count says how many they are
+abbrev pub counted : {X : Type 0} → ℕ → List X → Option (List X)
+counted n xs = if nat_lt 1 n && nat_eq n (length xs) then Some xs else None
+
+-- a count, and behind it so many slots with their values, which are all words
+abbrev pub several_in : List Word → Option (List Target)
+several_in ws = index_at ws >>= λ n. all_in target_at n.1 >>= λ ts. counted n.0 ts
+
+-- a least or a greatest, a place, and several slots with their values, which are all words, in a version that has them
+abbrev pub picked_in : Version → List Word → Option (Reduce × (ℕ × List Target))
+picked_in version.One ws = None
+picked_in version.Two ws = last_at (word_at extreme_in) (λ vs. last_at index_at several_in vs) ws
+
+abbrev pub pick_of : Reduce × (ℕ × List Target) → P.Line
+pick_of x = P.Fold x.0 x.1.0 x.1.1
+
+abbrev pub pickput_of : Reduce × (ℕ × List Target) → P.Line
+pickput_of x = P.Put x.0 x.1.0 x.1.1
+
+-- the rest of a vertex line behind its first word
+abbrev pub vertex_behind : Version → VertexHead → List Word → Option P.Line
+vertex_behind v vertex.SetField ws = option_map (λ x. P.SetField x.0 x.1) (slot_in ws)
+vertex_behind v vertex.Fold ws = option_map fold_of (reduced_in ws)
+vertex_behind v vertex.Pick ws = option_map pick_of (picked_in v ws)
+vertex_behind v vertex.SetRegister ws = option_map (λ x. P.SetRegister x.0 x.1) (slot_in ws)
+vertex_behind v vertex.Put ws = option_map put_of (reduced_in ws)
+vertex_behind v vertex.PickPut ws = option_map pickput_of (picked_in v ws)
+vertex_behind v vertex.Send ws = option_map (λ x. P.Send x.0 x.1.0 x.1.1) (last_at index_at (λ vs. last_at expression_at terms_in vs) ws)
+vertex_behind v vertex.Skip ws = option_map (λ x. P.Skip x.0 x.1) (slot_in ws)
+vertex_behind v vertex.Each ws = option_map (λ x. P.Each (direction_of x.0) x.1) (last_at (word_at (row_in ways)) only_index ws)
+
+abbrev pub vertex_row : Version → List Word → Option P.Line
+vertex_row v ws = word_at (row_in vertex_heads) ws >>= λ h. vertex_behind v h.0 h.1
 
 -- the rest of a master line behind its first word
 abbrev pub master_behind : MasterHead → List Word → Option Command

@@ -6,6 +6,7 @@ use Rattle.gm_value.specs.declared.values.VType.{VType}
 use Rattle.gm_image.specs.declared.images.Kind.{Kind}
 use Rattle.gm_image.specs.Program as P
 use Rattle.gm_image.specs.Program.{Program, Item, Command, Handler, Block}
+use Rattle.gm_image_text.specs.declared.heads.Version.{Version}
 use Rattle.gm_image_text.specs.Lines.{Word, Line}
 use Rattle.gm_image_text.specs.Reading as rows
 
@@ -55,18 +56,21 @@ listed_at word read ls = mapped (λ z. z.1) (dep_at (row_at (rows.count_row word
 abbrev pub handler_of : (ℕ × ℕ) × List P.Line → Handler
 handler_of z = record { kind = z.0.0; lines = z.1 }
 
-abbrev pub handler_at : Reads Handler
-handler_at ls = mapped handler_of (dep_at (row_at rows.on_row) (λ on ms. times_at (row_at rows.vertex_row) on.1 ms)) ls
+abbrev pub vertex_at : Version → Reads P.Line
+vertex_at v ls = row_at (rows.vertex_row v) ls
+
+abbrev pub handler_at : Version → Reads Handler
+handler_at v ls = mapped handler_of (dep_at (row_at rows.on_row) (λ on ms. times_at (vertex_at v) on.1 ms)) ls
 
 abbrev pub block_of : List Handler × List P.Line → Block
 block_of b = record { handlers = b.0; body = b.1 }
 
-abbrev pub block_at : Reads Block
-block_at ls = mapped block_of (then_at (listed_at (codes "block") handler_at) (listed_at (codes "body") (row_at rows.vertex_row))) ls
+abbrev pub block_at : Version → Reads Block
+block_at v ls = mapped block_of (then_at (listed_at (codes "block") (handler_at v)) (listed_at (codes "body") (vertex_at v))) ls
 
 -- the lines up to the result's
 abbrev pub Opening : Type 0
-Opening = Unit {0} × (List ℕ × (List Item × (List Item × Option (VType × ℕ))))
+Opening = Version × (List ℕ × (List Item × (List Item × Option (VType × ℕ))))
 
 unfoldable pub opening_at : Reads Opening
 opening_at ls =
@@ -101,8 +105,8 @@ middle_at ls =
 abbrev pub Closing : Type 0
 Closing = List Block × List Command
 
-unfoldable pub closing_at : Reads Closing
-closing_at ls = then_at (listed_at (codes "blocks") block_at) (listed_at (codes "master") (row_at rows.master_row)) ls
+unfoldable pub closing_at : Version → Reads Closing
+closing_at v ls = then_at (listed_at (codes "blocks") (block_at v)) (listed_at (codes "master") (row_at rows.master_row)) ls
 
 abbrev pub program_of : Opening × (Middle × Closing) → Program
 program_of x = record {
@@ -120,9 +124,12 @@ program_of x = record {
   master = x.1.1.1;
 }
 
--- an image, and the lines behind it
-abbrev pub image_at : Reads Program
-image_at ls = mapped program_of (then_at opening_at (then_at middle_at closing_at)) ls
+abbrev pub image_of : Opening × (Middle × Closing) → Version × Program
+image_of x = (x.0.0, program_of x)
+
+-- a version and an image, and the lines behind it
+abbrev pub image_at : Reads (Version × Program)
+image_at ls = mapped image_of (dep_at opening_at (λ o ms. then_at middle_at (closing_at o.0) ms)) ls
 
 -- nothing stands behind the image
 abbrev pub all_read : Program → List Line → Result Program (List Line)
@@ -131,4 +138,4 @@ all_read p (l ∷ ls) = Err (l ∷ ls)
 
 -- an image of all lines, or the lines from the first bad one on
 abbrev pub whole_at : List Line → Result Program (List Line)
-whole_at ls = image_at ls >>= λ x. all_read x.0 x.1
+whole_at ls = image_at ls >>= λ x. all_read x.0.1 x.1

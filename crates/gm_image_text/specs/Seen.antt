@@ -7,7 +7,7 @@ use Rattle.gm_image_text.specs.declared.reads.Closing as C
 use Rattle.gm_image_text.specs.Sections.{Opening, Middle, Closing}
 
 abbrev pub opening_seen : O.Opening → Opening
-opening_seen x = (tt, (x.name, (map input x.inputs, (map output x.outputs, x.result))))
+opening_seen x = (x.version, (x.name, (map input x.inputs, (map output x.outputs, x.result))))
 
 abbrev pub middle_seen : M.Middle → Middle
 middle_seen x = (x.globals, (x.fields, (x.registers, (x.columns, (x.kinds, x.places)))))

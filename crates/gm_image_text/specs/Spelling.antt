@@ -18,6 +18,8 @@ use Rattle.gm_image.specs.declared.images.Kind.{Kind}
 use Rattle.gm_image.specs.Term.{Term, Const, Global, NodeCount, EdgeCount, Field, Self, OutDegree, InDegree, Register, Message, Neighbour, Column, NodeAt, Live, Unary, Binary, And, Or, Choose}
 use Rattle.gm_image.specs.Program as programs
 use Rattle.gm_image.specs.Program.{Program, Direction, Out, In, Target, SetField, Fold, SetRegister, Put, Send, Skip, Each, Command, SetGlobal, Step, Jump, Test, Turn, Back, Finish, Holder, Scalar, Node, Edge, Item, Handler, Block}
+use Rattle.gm_image_text.specs.declared.heads.Version.{Version}
+use Rattle.gm_image_text.specs.declared.heads.Version.TheVariants as version
 use Rattle.gm_image_text.specs.Lines.{Word, Line, spaced, text_of}
 
 abbrev pub type_word : VType → Word
@@ -96,12 +98,17 @@ abbrev pub direction_word : Direction → Word
 direction_word Out = codes "out"
 direction_word In = codes "in"
 
--- a line of a vertex program; a fold or a put has one target
+-- a reduction: of one slot with its value, or of how many there are and each of them
+abbrev pub reduction_words : Word → Word → Reduce → ℕ → List Target → List Word
+reduction_words one several r p (t ∷ []) = one ∷ reduce_word r ∷ decimal p ∷ target_words t
+reduction_words one several r p ts = several ∷ reduce_word r ∷ decimal p ∷ decimal (length ts) ∷ flat_map target_words ts
+
+-- a line of a vertex program
 abbrev pub vertex_words : programs.Line → List Word
 vertex_words (SetField f a) = codes "set" ∷ decimal f ∷ term_words a
-vertex_words (Fold r p ts) = codes "fold" ∷ reduce_word r ∷ decimal p ∷ flat_map target_words ts
+vertex_words (Fold r p ts) = reduction_words (codes "fold") (codes "pick") r p ts
 vertex_words (SetRegister i a) = codes "reg" ∷ decimal i ∷ term_words a
-vertex_words (Put r p ts) = codes "put" ∷ reduce_word r ∷ decimal p ∷ flat_map target_words ts
+vertex_words (Put r p ts) = reduction_words (codes "put") (codes "pickput") r p ts
 vertex_words (Send k to vs) = codes "send" ∷ decimal k ∷ (term_words to ++ flat_map term_words vs)
 vertex_words (Skip n a) = codes "skip" ∷ decimal n ∷ term_words a
 vertex_words (Each d n) = codes "each" ∷ direction_word d ∷ decimal n ∷ []
@@ -160,10 +167,18 @@ handler_lines h = spaced (codes "on" ∷ decimal h.kind ∷ decimal (length h.li
 abbrev pub block_lines : Block → List Line
 block_lines b = listed (codes "block") handler_lines b.handlers ++ listed (codes "body") (one_line vertex_words) b.body
 
--- the lines up to the result's
-abbrev pub opening_lines : Program → List Line
-opening_lines p =
-    spaced (codes "gm-image" ∷ codes "1" ∷ [])
+-- the number of a version, which is one digit
+abbrev pub version_digit : Version → ℕ
+version_digit version.One = 49
+version_digit version.Two = 50
+
+abbrev pub version_words : Version → List Word
+version_words v = codes "gm-image" ∷ (version_digit v ∷ []) ∷ []
+
+-- the lines up to the result's: the version, and all others, which are the same in both
+abbrev pub opening_in : Version → Program → List Line
+opening_in v p =
+    spaced (version_words v)
     ∷ spaced (codes "name" ∷ p.name ∷ [])
     ∷ (listed (codes "inputs") (one_line item_words) p.inputs ++ (listed (codes "outputs") (one_line item_words) p.outputs ++ spaced (result_words p.result) ∷ []))
 
@@ -180,10 +195,20 @@ middle_lines p =
 abbrev pub closing_lines : Program → List Line
 closing_lines p = listed (codes "blocks") block_lines p.blocks ++ listed (codes "master") (one_line command_words) p.master
 
--- the lines of an image
-abbrev pub image_lines : Program → List Line
-image_lines p = opening_lines p ++ (middle_lines p ++ closing_lines p)
+-- the lines of an image in a version, which differ in the first alone
+abbrev pub lines_in : Version → Program → List Line
+lines_in v p = opening_in v p ++ (middle_lines p ++ closing_lines p)
 
--- the text of an image
+-- the text of an image in a version
+abbrev pub text_in : Version → Program → List ℕ
+text_in v p = text_of (lines_in v p)
+
+-- what is written for an image: its text in version 2
+abbrev pub opening_lines : Program → List Line
+opening_lines p = opening_in version.Two p
+
+abbrev pub image_lines : Program → List Line
+image_lines p = lines_in version.Two p
+
 abbrev pub image_text : Program → List ℕ
-image_text p = text_of (image_lines p)
+image_text p = text_in version.Two p

@@ -2,7 +2,8 @@
 use Rattle.std.specs.Prelude.{Bool, if◌then◌else◌, List, [], ◌∷◌, map, Option, Some, None, bytes_eq}
 use Rattle.gm_value.specs.declared.values.VType.{VType}
 use Rattle.gm_value.specs.declared.reductions.Reduce.{Reduce}
-use Rattle.gm_image_text.specs.declared.heads.TheConstants.{HEADS, TYPES, REDUCTIONS, COMBINERS, FLAGS, VERTEX_HEADS, MASTER_HEADS, INPUT_HEADS, OUTPUT_HEADS, WAYS}
+use Rattle.gm_image_text.specs.declared.heads.TheConstants.{VERSIONS, HEADS, TYPES, REDUCTIONS, COMBINERS, FLAGS, VERTEX_HEADS, MASTER_HEADS, INPUT_HEADS, OUTPUT_HEADS, WAYS}
+use Rattle.gm_image_text.specs.declared.heads.Version.{Version}
 use Rattle.gm_image_text.specs.declared.heads.Head.{Head}
 use Rattle.gm_image_text.specs.declared.heads.VertexHead.{VertexHead}
 use Rattle.gm_image_text.specs.declared.heads.MasterHead.{MasterHead}
@@ -15,6 +16,9 @@ use Rattle.gm_image_text.specs.Lines.{Word}
 abbrev pub row_in : {T : Type 0} → List (Word × T) → Word → Option T
 row_in [] word = None
 row_in (row ∷ rows) word = if bytes_eq row.0 word then Some row.1 else row_in rows word
+
+unfoldable pub versions : List (Word × Version)
+versions = map (λ row. (row.0.now, row.1)) VERSIONS
 
 unfoldable pub heads : List (Word × Head)
 heads = map (λ row. (row.0.now, row.1)) HEADS

@@ -4,14 +4,14 @@ ghost use Rattle.std.specs.Prelude.{◌≡◌, Some, None, map};
 ghost use Rattle.gm_image.specs.Views.{term};
 ghost use Rattle.gm_image_text.specs.Tables.{heads, types, row_in};
 ghost use Rattle.gm_image_text.specs.Numbers.{index_in};
-ghost use Rattle.gm_image_text.specs.Reading.{words_left, word_at, index_at, constant_at, leaf_term as leaf_term_lem, indexed_term as indexed_term_lem, one_term as one_term_lem, placed_one_term as placed_one_term_lem, two_term as two_term_lem, placed_two_term as placed_two_term_lem, choice_term, behind_head as behind_head_lem, term_at, expression_at, terms_in};
+ghost use Rattle.gm_image_text.specs.Reading.{words_left, word_at, index_at, constant_at, leaf_term as leaf_term_lem, indexed_term as indexed_term_lem, one_term as one_term_lem, placed_one_term as placed_one_term_lem, two_term as two_term_lem, placed_two_term as placed_two_term_lem, choice_term, behind_head as behind_head_lem, term_at, expression_at, slot_in, terms_in};
 ghost use Rattle.gm_image_text.specs.Giving.{GivesLine};
 
 use crate::faults::LineStop;
 use crate::heads::{HEADS, Head, Indexed, Leaf, One, PlacedOne, PlacedTwo, TYPES, Two};
 use crate::numbers::{index_in, value_in};
 use crate::tables::known;
-use crate::words::{Words, next_word};
+use crate::words::{Words, ended, next_word};
 use gm_image::Expr;
 use gm_value::{VType, Value};
 use std::alloc::Global;
@@ -293,6 +293,16 @@ pub fn line_expression<'a>(alloc: Global, words: Words<'a>) -> Result<(Expr, Wor
     ensures { GivesLine (λ x. (term x.0, words_left x.1)) result (expression_at (words_left words.entry)) }
 {
     expression(alloc, words, MOST_LEVELS)
+}
+
+// An index and an expression, which are all words.
+pub fn index_and_expression(alloc: Global, words: Words) -> Result<(u32, Expr), LineStop>
+    ensures { GivesLine (λ x. (x.0, term x.1)) result (slot_in (words_left words.entry)) }
+{
+    let (i, rest) = index(words)?;
+    let (value, rest) = line_expression(alloc, rest)?;
+    ended(rest)?;
+    Ok((i, value))
 }
 
 // Expressions to the end of the line.

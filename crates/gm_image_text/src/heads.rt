@@ -1,7 +1,14 @@
-//! What the first word of an expression says of it.
+//! What words say: the version of a text, and the first word of an expression or of a line.
 
 use gm_image::Direction;
 use gm_value::{Reduce, VType};
+
+// A version of the text. The first has no reductions of several slots.
+#[derive(Clone, Copy)]
+pub enum Version {
+    One,
+    Two,
+}
 
 // An expression without parts.
 #[derive(Clone, Copy)]
@@ -81,8 +88,10 @@ pub enum Head {
 pub enum VertexHead {
     SetField,
     Fold,
+    Pick,
     SetRegister,
     Put,
+    PickPut,
     Send,
     Skip,
     Each,
@@ -113,6 +122,8 @@ pub enum OutputHead {
     Scalar,
     Node,
 }
+
+pub const VERSIONS: [(&[u8], Version); 2] = [(b"1", Version::One), (b"2", Version::Two)];
 
 pub const HEADS: [(&[u8], Head); 32] = [
     (b"c", Head::Constant),
@@ -177,11 +188,13 @@ pub const COMBINERS: [(&[u8], Option<Reduce>); 7] = [
 
 pub const FLAGS: [(&[u8], bool); 2] = [(b"True", true), (b"False", false)];
 
-pub const VERTEX_HEADS: [(&[u8], VertexHead); 7] = [
+pub const VERTEX_HEADS: [(&[u8], VertexHead); 9] = [
     (b"set", VertexHead::SetField),
     (b"fold", VertexHead::Fold),
+    (b"pick", VertexHead::Pick),
     (b"reg", VertexHead::SetRegister),
     (b"put", VertexHead::Put),
+    (b"pickput", VertexHead::PickPut),
     (b"send", VertexHead::Send),
     (b"skip", VertexHead::Skip),
     (b"each", VertexHead::Each),

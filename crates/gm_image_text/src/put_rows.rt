@@ -1,12 +1,12 @@
 //! Writing the lines of an image's text behind a text, each by its words.
 
-ghost use Rattle.std.specs.Prelude.{◌≡◌, ◌++◌, ◌∷◌, [], List, OnOk, map, codes};
+ghost use Rattle.std.specs.Prelude.{◌≡◌, ◌++◌, ◌∷◌, [], List, OnOk, length, map, codes};
 ghost use Rattle.std.specs.Fmt.{decimal};
 ghost use Rattle.std.specs.List.{flat_map};
 ghost use Rattle.gm_image.specs.Views.{term, target, input, output, line, command};
 ghost use Rattle.gm_image.specs.Items.{holder_of, item_of};
 ghost use Rattle.gm_image_text.specs.Lines.{Line as TextLine, joined, spaced, text_of};
-ghost use Rattle.gm_image_text.specs.Spelling.{holder_word as holder_word_lem, type_word as type_word_lem, reduce_word as reduce_word_lem, combiner_word, term_words, target_words, one_line, item_words, kind_words, place_pair, type_lines, vertex_words, command_words, result_words};
+ghost use Rattle.gm_image_text.specs.Spelling.{holder_word as holder_word_lem, type_word as type_word_lem, reduce_word as reduce_word_lem, combiner_word, term_words, target_words, reduction_words, one_line, item_words, kind_words, place_pair, type_lines, vertex_words, command_words, result_words};
 
 use crate::put_expressions::{put_expr, put_exprs, put_slots};
 use crate::put_words::{
@@ -126,6 +126,42 @@ fn put_reduced(
     Ok(())
 }
 
+// Writes a word, a reduction, its place, how many slots it has, and its slots.
+fn put_counted(
+    text: &mut Vec<u8>,
+    word: &[u8],
+    reduce: Reduce,
+    place: u32,
+    slots: &[(u32, Expr)],
+) -> Result<(), NoMemory>
+    ensures { OnOk result (text.new.items ≡ text.old.items ++ joined (word.now ∷ reduce_word_lem reduce ∷ decimal place ∷ decimal (length slots.now) ∷ flat_map target_words (map target slots.now))) }
+{
+    put(text, word)?;
+    put_word(text, reduce_word(reduce))?;
+    put_number(text, place)?;
+    put_number(text, slots.len())?;
+    put_slots(text, slots)?;
+    Ok(())
+}
+
+// Writes a reduction, whose word is the first where it has one slot, and else the second.
+fn put_reduction(
+    text: &mut Vec<u8>,
+    one: &[u8],
+    several: &[u8],
+    reduce: Reduce,
+    place: u32,
+    slots: &[(u32, Expr)],
+) -> Result<(), NoMemory>
+    ensures { OnOk result (text.new.items ≡ text.old.items ++ joined (reduction_words one.now several.now reduce place (map target slots.now))) }
+{
+    if slots.len() == 1 {
+        put_reduced(text, one, reduce, place, slots)
+    } else {
+        put_counted(text, several, reduce, place, slots)
+    }
+}
+
 // Writes a word, an index and an expression.
 fn put_set(text: &mut Vec<u8>, word: &[u8], index: u32, value: &Expr) -> Result<(), NoMemory>
     ensures { OnOk result (text.new.items ≡ text.old.items ++ joined (word.now ∷ decimal index ∷ term_words (term value.now))) }
@@ -166,13 +202,13 @@ fn put_vertex(text: &mut Vec<u8>, vertex: &VertexLine) -> Result<(), NoMemory>
             reduce,
             place,
             slots,
-        } => put_reduced(text, b"fold", *reduce, *place, slots.as_slice()),
+        } => put_reduction(text, b"fold", b"pick", *reduce, *place, slots.as_slice()),
         VertexLine::SetRegister(register, value) => put_set(text, b"reg", *register, value),
         VertexLine::Put {
             reduce,
             place,
             slots,
-        } => put_reduced(text, b"put", *reduce, *place, slots.as_slice()),
+        } => put_reduction(text, b"put", b"pickput", *reduce, *place, slots.as_slice()),
         VertexLine::Send { kind, to, values } => put_send(text, *kind, to, values.as_slice()),
         VertexLine::Skip(count, condition) => put_set(text, b"skip", *count, condition),
         VertexLine::EachOut(count) => put_only(text, b"each out", *count),

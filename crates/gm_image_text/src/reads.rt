@@ -11,6 +11,7 @@ ghost use Rattle.gm_image_text.specs.Giving.{GivesText};
 ghost use Rattle.gm_image_text.specs.ImageText.{IsTextOf, IsBadLine, IsReadOf, most_bytes};
 
 use crate::faults::{ImageFault, TextStop};
+use crate::heads::Version;
 use crate::rows::{first_row, name_row, result_row};
 use crate::sections::{blocks, judged, line_words, listed};
 use crate::words::count_lines;
@@ -25,6 +26,7 @@ const MOST_BYTES: usize = 268_435_456;
 // What stands in the lines up to the result's.
 #[derive(Drop)]
 pub struct Opening {
+    version: Version,
     name: Items<u8>,
     inputs: Items<InputItem>,
     outputs: Items<OutputItem>,
@@ -49,9 +51,9 @@ pub struct Closing {
     master: Items<MasterLine>,
 }
 
-// The first line.
-fn first_line<'a>(text: &'a [u8]) -> Result<((), &'a [u8]), TextStop<'a>>
-    ensures { GivesText (λ x. (tt, lines_of x.1.now)) result (row_at first_row_lem (lines_of text.now)) }
+// The first line, which says the version.
+fn first_line<'a>(text: &'a [u8]) -> Result<(Version, &'a [u8]), TextStop<'a>>
+    ensures { GivesText (λ x. (x.0, lines_of x.1.now)) result (row_at first_row_lem (lines_of text.now)) }
 {
     let (line, rest) = line_words(text)?;
     judged(first_row(line), text, rest)
@@ -78,13 +80,14 @@ fn result_line<'a>(text: &'a [u8]) -> Result<(Option<(VType, u32)>, &'a [u8]), T
 fn read_opening<'a>(alloc: Global, text: &'a [u8]) -> Result<(Opening, &'a [u8]), TextStop<'a>>
     ensures { GivesText (λ x. (opening_seen x.0, lines_of x.1.now)) result (opening_at (lines_of text.now)) }
 {
-    let ((), rest) = first_line(text)?;
+    let (version, rest) = first_line(text)?;
     let (name, rest) = name_line(alloc, rest)?;
     let (inputs, rest) = listed(alloc, b"inputs", rest)?;
     let (outputs, rest) = listed(alloc, b"outputs", rest)?;
     let (result, rest) = result_line(rest)?;
     Ok((
         Opening {
+            version,
             name,
             inputs,
             outputs,
@@ -120,10 +123,14 @@ fn read_middle<'a>(alloc: Global, text: &'a [u8]) -> Result<(Middle, &'a [u8]), 
 
 // The lines from there to the last.
 #[tactic(auto, unfolding(crate::specs::Sections::closing_at))]
-fn read_closing<'a>(alloc: Global, text: &'a [u8]) -> Result<(Closing, &'a [u8]), TextStop<'a>>
-    ensures { GivesText (λ x. (closing_seen x.0, lines_of x.1.now)) result (closing_at (lines_of text.now)) }
+fn read_closing<'a>(
+    alloc: Global,
+    version: Version,
+    text: &'a [u8],
+) -> Result<(Closing, &'a [u8]), TextStop<'a>>
+    ensures { GivesText (λ x. (closing_seen x.0, lines_of x.1.now)) result (closing_at version (lines_of text.now)) }
 {
-    let (blocks, rest) = blocks(alloc, text)?;
+    let (blocks, rest) = blocks(alloc, version, text)?;
     let (master, rest) = listed(alloc, b"master", rest)?;
     Ok((Closing { blocks, master }, rest))
 }
@@ -134,7 +141,7 @@ fn whole<'a>(alloc: Global, text: &'a [u8]) -> Result<Image, TextStop<'a>>
 {
     let (opening, rest) = read_opening(alloc, text)?;
     let (middle, rest) = read_middle(alloc, rest)?;
-    let (closing, rest) = read_closing(alloc, rest)?;
+    let (closing, rest) = read_closing(alloc, opening.version, rest)?;
     if !rest.is_empty() {
         return Err(TextStop::Bad(rest));
     }
@@ -154,13 +161,14 @@ fn whole<'a>(alloc: Global, text: &'a [u8]) -> Result<Image, TextStop<'a>>
     })
 }
 
-/// The image that a text spells. The text is read once, and none of it is copied but the names.
+/// The image that a text of version 1 or 2 spells. The text is read once, and none of it is copied but the names.
 ///
 /// # Errors
 ///
 /// `TooLong` for a text of more than 268,435,456 bytes. `BadText` with the number, from 1, of the first line with
-/// which the lines so far begin no image's text: of a last line without its end, of the line behind the end where
-/// one is wanted, of the first line behind the image. `NoMemory`.
+/// which the lines so far begin no image's text of either version: of a last line without its end, of the line behind
+/// the end where one is wanted, of the first line behind the image, in version 1 of a `pick` or a `pickput`.
+/// `NoMemory`.
 pub fn read_image(alloc: Global, text: &[u8]) -> Result<Image, ImageFault>
     ensures image { IfOk result (λ image. IsTextOf (program image) text.now) }
     ensures only { (p : Program) → IsTextOf p text.now → length text.now ≤ most_bytes → IsReadOf p result }

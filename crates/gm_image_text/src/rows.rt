@@ -1,27 +1,27 @@
 //! Reading the lines of an image's text, each by its words.
 
-ghost use Rattle.std.specs.Prelude.{[], ◌∷◌, List, Option, Some};
+ghost use Rattle.std.specs.Prelude.{List, Option};
 ghost use Rattle.gm_base.specs.declared.places.Place.{Place as PlaceValue};
 ghost use Rattle.gm_value.specs.declared.values.VType.{VType as VTypeValue};
 ghost use Rattle.gm_image.specs.declared.images.Kind.{Kind as KindValue};
-ghost use Rattle.gm_image.specs.Program.{Item, Line as ProgramLine, Command};
-ghost use Rattle.gm_image.specs.Views.{term, input, output, line, command};
+ghost use Rattle.gm_image.specs.Program.{Item, Command};
+ghost use Rattle.gm_image.specs.Views.{input, output, line, command};
 ghost use Rattle.gm_image_text.specs.Lines.{Word};
-ghost use Rattle.gm_image_text.specs.Tables.{row_in, reductions};
-ghost use Rattle.gm_image_text.specs.Reading.{words_left, word_at, name_at, types_in, item_at, slot_in, only_index as only_index_lem, reduced_in, first_row as first_row_lem, name_row as name_row_lem, count_row as count_row_lem, on_row as on_row_lem, result_in, result_row as result_row_lem, input_row, output_row, type_row, kind_row, place_row, vertex_row, vertex_behind as vertex_behind_lem, master_row, master_behind as master_behind_lem};
+ghost use Rattle.gm_image_text.specs.Reading.{words_left, name_at, types_in, item_at, slot_in, only_index as only_index_lem, first_row as first_row_lem, name_row as name_row_lem, count_row as count_row_lem, on_row as on_row_lem, result_in, result_row as result_row_lem, input_row, output_row, type_row, kind_row, place_row, vertex_row as vertex_row_lem, vertex_behind as vertex_behind_lem, master_row, master_behind as master_behind_lem};
 ghost use Rattle.gm_image_text.specs.Giving.{GivesLine};
 
-use crate::expressions::{index, line_expression, line_expressions, vtype};
+use crate::expressions::{index, index_and_expression, line_expression, line_expressions, vtype};
 use crate::faults::LineStop;
 use crate::heads::{
     COMBINERS, INPUT_HEADS, InputHead, MASTER_HEADS, MasterHead, OUTPUT_HEADS, OutputHead,
-    REDUCTIONS, VERTEX_HEADS, VertexHead, WAYS,
+    VERSIONS, VERTEX_HEADS, Version, VertexHead, WAYS,
 };
+use crate::reductions::{picked, reduced, single};
 use crate::tables::{known, same};
 use crate::words::{Words, ended, expect, next_word};
 use gm_base::{Items, Place};
-use gm_image::{Direction, Expr, InputItem, Kind, MasterLine, OutputItem, VertexLine};
-use gm_value::{Reduce, VType};
+use gm_image::{Direction, InputItem, Kind, MasterLine, OutputItem, VertexLine};
+use gm_value::VType;
 use std::alloc::Global;
 
 // What a line spells.
@@ -39,13 +39,16 @@ pub trait Row: Sized + Drop {
         ensures { GivesLine seen result (row_at (words_left words.entry)) };
 }
 
-// The first line.
-pub fn first_row(words: Words) -> Result<(), LineStop>
-    ensures { GivesLine (λ x. tt) result (first_row_lem (words_left words.entry)) }
+// The version, which the first line says.
+#[tactic(auto, unfolding(crate::specs::Tables::versions))]
+pub fn first_row(words: Words) -> Result<Version, LineStop>
+    ensures { GivesLine (λ x. x) result (first_row_lem (words_left words.entry)) }
 {
     let rest = expect(b"gm-image", words)?;
-    let rest = expect(b"1", rest)?;
-    ended(rest)
+    let (word, rest) = next_word(rest)?;
+    let version = known(&VERSIONS, word)?;
+    ended(rest)?;
+    Ok(version)
 }
 
 // A name.
@@ -226,26 +229,6 @@ impl Row for Place {
     }
 }
 
-// A reduction.
-#[tactic(auto, unfolding(crate::specs::Tables::reductions))]
-fn reduction<'a>(words: Words<'a>) -> Result<(Reduce, Words<'a>), LineStop>
-    ensures { GivesLine (λ x. (x.0, words_left x.1)) result (word_at (row_in reductions) (words_left words.entry)) }
-{
-    let (word, rest) = next_word(words)?;
-    let reduce = known(&REDUCTIONS, word)?;
-    Ok((reduce, rest))
-}
-
-// An index and an expression, which are all words.
-fn index_and_expression(alloc: Global, words: Words) -> Result<(u32, Expr), LineStop>
-    ensures { GivesLine (λ x. (x.0, term x.1)) result (slot_in (words_left words.entry)) }
-{
-    let (i, rest) = index(words)?;
-    let (value, rest) = line_expression(alloc, rest)?;
-    ended(rest)?;
-    Ok((i, value))
-}
-
 // An index, which is all words.
 fn only_index(words: Words) -> Result<u32, LineStop>
     ensures { GivesLine (λ x. x) result (only_index_lem (words_left words.entry)) }
@@ -255,28 +238,9 @@ fn only_index(words: Words) -> Result<u32, LineStop>
     Ok(i)
 }
 
-// A reduction, a place, and one slot with its value, which are all words.
-fn reduced(alloc: Global, words: Words) -> Result<(Reduce, u32, (u32, Expr)), LineStop>
-    ensures { GivesLine (λ x. (x.0, (x.1, (x.2.0, term x.2.1)))) result (reduced_in (words_left words.entry)) }
-{
-    let (reduce, rest) = reduction(words)?;
-    let (place, rest) = index(rest)?;
-    let slot = index_and_expression(alloc, rest)?;
-    Ok((reduce, place, slot))
-}
-
-// A list of one thing.
-fn single<T: Drop>(alloc: Global, item: T) -> Result<Items<T>, LineStop>
-    ensures { GivesLine (λ x. x) result (Some (item ∷ [])) }
-{
-    let mut items = Vec::new(alloc);
-    items.push(item)?;
-    Ok(Items::new(items))
-}
-
 // The rest of a send behind its first word.
 fn send(alloc: Global, words: Words) -> Result<VertexLine, LineStop>
-    ensures { GivesLine line result (vertex_behind_lem VertexHead.Send (words_left words.entry)) }
+    ensures { GivesLine line result (vertex_behind_lem Version.Two VertexHead.Send (words_left words.entry)) }
 {
     let (kind, rest) = index(words)?;
     let (to, rest) = line_expression(alloc, rest)?;
@@ -291,7 +255,7 @@ fn send(alloc: Global, words: Words) -> Result<VertexLine, LineStop>
 // The rest of an each behind its first word.
 #[tactic(auto, unfolding(crate::specs::Tables::ways))]
 fn each(words: Words) -> Result<VertexLine, LineStop>
-    ensures { GivesLine line result (vertex_behind_lem VertexHead.Each (words_left words.entry)) }
+    ensures { GivesLine line result (vertex_behind_lem Version.Two VertexHead.Each (words_left words.entry)) }
 {
     let (word, rest) = next_word(words)?;
     let direction = known(&WAYS, word)?;
@@ -303,8 +267,13 @@ fn each(words: Words) -> Result<VertexLine, LineStop>
 }
 
 // The rest of a vertex line behind its first word.
-fn vertex_behind(alloc: Global, head: VertexHead, words: Words) -> Result<VertexLine, LineStop>
-    ensures { GivesLine line result (vertex_behind_lem head (words_left words.entry)) }
+fn vertex_behind(
+    alloc: Global,
+    version: Version,
+    head: VertexHead,
+    words: Words,
+) -> Result<VertexLine, LineStop>
+    ensures { GivesLine line result (vertex_behind_lem version head (words_left words.entry)) }
 {
     match head {
         VertexHead::SetField => {
@@ -314,6 +283,14 @@ fn vertex_behind(alloc: Global, head: VertexHead, words: Words) -> Result<Vertex
         VertexHead::Fold => {
             let (reduce, place, slot) = reduced(alloc, words)?;
             let slots = single(alloc, slot)?;
+            Ok(VertexLine::Fold {
+                reduce,
+                place,
+                slots,
+            })
+        }
+        VertexHead::Pick => {
+            let (reduce, place, slots) = picked(alloc, version, words)?;
             Ok(VertexLine::Fold {
                 reduce,
                 place,
@@ -333,6 +310,14 @@ fn vertex_behind(alloc: Global, head: VertexHead, words: Words) -> Result<Vertex
                 slots,
             })
         }
+        VertexHead::PickPut => {
+            let (reduce, place, slots) = picked(alloc, version, words)?;
+            Ok(VertexLine::Put {
+                reduce,
+                place,
+                slots,
+            })
+        }
         VertexHead::Send => send(alloc, words),
         VertexHead::Skip => {
             let (count, condition) = index_and_expression(alloc, words)?;
@@ -342,19 +327,14 @@ fn vertex_behind(alloc: Global, head: VertexHead, words: Words) -> Result<Vertex
     }
 }
 
-impl Row for VertexLine {
-    ghost Seen = { ProgramLine };
-
-    ghost seen = { line };
-
-    ghost row_at = { vertex_row };
-
-    #[tactic(auto, unfolding(crate::specs::Tables::vertex_heads))]
-    fn read(alloc: Global, words: Words) -> Result<Self, LineStop> {
-        let (word, rest) = next_word(words)?;
-        let head = known(&VERTEX_HEADS, word)?;
-        vertex_behind(alloc, head, rest)
-    }
+// A vertex line of a version.
+#[tactic(auto, unfolding(crate::specs::Tables::vertex_heads))]
+pub fn vertex_row(alloc: Global, version: Version, words: Words) -> Result<VertexLine, LineStop>
+    ensures { GivesLine line result (vertex_row_lem version (words_left words.entry)) }
+{
+    let (word, rest) = next_word(words)?;
+    let head = known(&VERTEX_HEADS, word)?;
+    vertex_behind(alloc, version, head, rest)
 }
 
 // The rest of a master line behind its first word.

@@ -1,11 +1,10 @@
 //! Writing an image's text.
 
-ghost use Rattle.std.specs.Prelude.{◌≡◌, ◌≤◌, ◌++◌, ◌∷◌, [], OnOk, IfOk, IsTrue, length, codes};
+ghost use Rattle.std.specs.Prelude.{◌≡◌, ◌≤◌, ◌++◌, ◌∷◌, [], ◌<◌, ◌⊎◌, Err, OnOk, IfOk, length, codes};
 ghost use Rattle.std.specs.Fmt.{decimal};
 ghost use Rattle.std.specs.List.{flat_map};
 ghost use Rattle.gm_image.specs.Views.{handler, block, program};
 ghost use Rattle.gm_image_text.specs.Lines.{spaced, text_of};
-ghost use Rattle.gm_image_text.specs.OneSlot.{has_one_targets};
 ghost use Rattle.gm_image_text.specs.ImageText.{IsTextOf, IsReadOf, most_bytes};
 ghost use Rattle.gm_image_text.specs.Spelling.{listed, handler_lines, block_lines, opening_lines, middle_lines, closing_lines, image_text};
 
@@ -65,7 +64,7 @@ impl Spelled for Block {
 fn put_opening(text: &mut Vec<u8>, image: &Image) -> Result<(), NoMemory>
     ensures { OnOk result (text.new.items ≡ text.old.items ++ text_of (opening_lines (program image.now))) }
 {
-    put(text, b"gm-image 1\n")?;
+    put(text, b"gm-image 2\n")?;
     put(text, b"name")?;
     put_word(text, image.name.as_slice())?;
     put(text, b"\n")?;
@@ -108,29 +107,28 @@ pub fn written(alloc: Global, image: &Image) -> Result<Vec<u8>, NoMemory>
     Ok(text)
 }
 
-/// The text of an image: its lines in their order, each of words with one space between two, and ended with LF. The
-/// image is gone through once. Where each of its reductions has one slot, the text is the one text of this image, and
-/// `read_image` answers it with this image, unless it is longer than 268,435,456 bytes; a reduction of several slots has
-/// no spelling.
+/// The text of an image in version 2: its lines in their order, each of words with one space between two, and ended with
+/// LF. The image is gone through once. It is the one text of this image in this version, and `read_image` answers it
+/// with this image, unless it is longer than 268,435,456 bytes.
 ///
 /// # Errors
 ///
 /// `NoMemory`, and nothing else.
 pub fn write_image(alloc: Global, image: &Sound) -> Result<Vec<u8>, NoMemory>
     ensures spelled { IfOk result (λ text. text.items ≡ image_text (program image.now)) }
-    ensures text { IsTrue (has_one_targets (program image.now)) → IfOk result (λ text. IsTextOf (program image.now) text.items) }
+    ensures text { IfOk result (λ text. IsTextOf (program image.now) text.items) }
 {
     written(alloc, image.image())
 }
 
-/// What is written for an image and read again. It is the image, where each of its reductions has one slot and its text
-/// is at most 268,435,456 bytes long.
+/// What is written for an image and read again. It is the image, where its text is at most 268,435,456 bytes long.
 ///
 /// # Errors
 ///
-/// `NoMemory`, and for an image with a reduction of several slots or with a longer text what `read_image` says of it.
+/// `NoMemory`, and `TooLong` for an image with a longer text.
 pub fn written_and_read(alloc: Global, image: &Sound) -> Result<Image, ImageFault>
-    ensures { IsTrue (has_one_targets (program image.now)) → length (image_text (program image.now)) ≤ most_bytes → IsReadOf (program image.now) result }
+    ensures read { length (image_text (program image.now)) ≤ most_bytes → IsReadOf (program image.now) result }
+    ensures too_long { most_bytes < length (image_text (program image.now)) → result ≡ Err ImageFault.TooLong ⊎ result ≡ Err ImageFault.NoMemory }
 {
     let text = write_image(alloc, image)?;
     read_image(alloc, text.as_slice())

@@ -1,7 +1,5 @@
-use Rattle.std.proofs.Common.{◌≡◌, ◌-◌, suc, subst, sym, arith}
-use Rattle.gm_image.specs.Views.{term}
+use Rattle.std.proofs.Common.{◌≡◌, ◌-◌, suc, arith}
 use Rattle.gm_image_text.specs.Reading.{words_left}
-use Rattle.gm_image_text.specs.Giving.{GivesLine}
 use Rattle.gm_image_text.proofs.Shorter.{term_step}
 use Rattle.gm_image_text.proofs.expressions.+expressions.Goals as goal
 

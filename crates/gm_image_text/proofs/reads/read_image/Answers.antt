@@ -1,8 +1,8 @@
-use Rattle.std.proofs.Common.{◌≡◌, ◌<◌, ◌≤◌, ◌+◌, ◌-◌, length, arith, sym, ◌∙◌}
+use Rattle.std.proofs.Common.{◌≤◌, length, arith, sym, ◌∙◌}
 use Rattle.gm_image.specs.Views.{program}
 use Rattle.gm_image_text.specs.Lines.{lines_of}
 use Rattle.gm_image_text.proofs.Binds.{ok_is, never}
-use Rattle.gm_image_text.proofs.Whole.{text_ok, text_again, fault_within, fault_line, fault_is_line, few_lines}
+use Rattle.gm_image_text.proofs.Whole.{text_ok, text_again, fault_within, fault_is_line, few_lines}
 use Rattle.gm_image_text.proofs.reads.read_image.Goals as goal
 
 pub overflow_sub-before : goal.overflow_sub-before

@@ -1,4 +1,3 @@
-use Rattle.std.proofs.Common.{sym, ◌∙◌, refl}
 use Rattle.std.proofs.lemmas.Result.{err_from_is_err_and}
 use Rattle.gm_image_text.specs.Sections.{row_at}
 use Rattle.gm_image_text.proofs.Filling.{goes_none, goes_more, goes_err, goes_end}

@@ -1,4 +1,4 @@
-use Rattle.std.proofs.Common.{◌+◌, ◌∷◌, sym, ap, ◌∙◌, eqb, take, drop, Some}
+use Rattle.std.proofs.Common.{◌+◌, sym, ap, ◌∙◌, eqb, take, drop, Some}
 use Rattle.gm_image_text.specs.Lines.{words_of, lines_of}
 use Rattle.gm_image_text.proofs.Cutting.{position_some, position_none, behind, cut_some, cut_none}
 use Rattle.gm_image_text.proofs.words.cut_line.Goals as goal

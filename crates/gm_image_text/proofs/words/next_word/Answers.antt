@@ -1,4 +1,4 @@
-use Rattle.std.proofs.Common.{◌+◌, ◌∷◌, sym, ap, ◌∙◌, eqb, take, drop, Some}
+use Rattle.std.proofs.Common.{◌+◌, sym, ap, ◌∙◌, eqb, take, drop, Some}
 use Rattle.gm_image_text.specs.Lines.{words_of}
 use Rattle.gm_image_text.specs.Reading.{next_at, words_left}
 use Rattle.gm_image_text.proofs.Cutting.{position_some, position_none, behind, words_some, words_none}

@@ -1,8 +1,9 @@
 use Rattle.std.proofs.Common.{List, ℕ, [], ◌∷◌, ◌++◌, map, ap, ◌∙◌}
 use Rattle.std.specs.Prelude.{codes}
 use Rattle.gm_image.specs.Views.{input, output}
+use Rattle.gm_image_text.specs.declared.heads.Version.TheVariants as version
 use Rattle.gm_image_text.specs.Lines.{led, spaced}
-use Rattle.gm_image_text.specs.Spelling.{listed, one_line, item_words, result_words}
+use Rattle.gm_image_text.specs.Spelling.{version_words, listed, one_line, item_words, result_words}
 use Rattle.gm_image_text.proofs.Writing.{two_texts, text_seen, line_text, named_line}
 use Rattle.gm_image_text.proofs.writes.put_opening.Goals as goal
 
@@ -20,7 +21,7 @@ returns c =
     let inputs = listed (codes "inputs") (one_line item_words) (map input i.inputs) in
     let outputs = listed (codes "outputs") (one_line item_words) (map output i.outputs) in
     let result = spaced (result_words i.result) in
-    let first = spaced (codes "gm-image" ∷ codes "1" ∷ []) in
+    let first = spaced (version_words version.Two) in
     let named = spaced (codes "name" ∷ i.name ∷ []) in
     two_texts t0 t1 t6 (first ∷ []) (named ∷ (inputs ++ (outputs ++ result ∷ []))) (line_text t0 t1 first c.in_ok-put.ensures)
     (two_texts t1 t7 t6 (named ∷ []) (inputs ++ (outputs ++ result ∷ []))

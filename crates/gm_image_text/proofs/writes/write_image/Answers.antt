@@ -12,5 +12,5 @@ returns c =
     let spelled : IfOk c.written.result (λ text. text.items ≡ image_text (program c.args.image.now)) = subst P c.image.ensures.same c.written.ensures in
     record {
       spelled = spelled;
-      text = λ one. written_text (program c.image.result.now) (program c.args.image.now) c.written.result (ap program c.image.ensures.same) c.image.ensures.sound c.image.ensures.numbers one spelled;
+      text = written_text (program c.image.result.now) (program c.args.image.now) c.written.result (ap program c.image.ensures.same) c.image.ensures.sound c.image.ensures.numbers spelled;
     }

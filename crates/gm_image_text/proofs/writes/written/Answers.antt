@@ -1,7 +1,7 @@
 use Rattle.std.proofs.Common.{[], ◌≡◌, ◌++◌, ap, ◌∙◌}
 use Rattle.gm_image.specs.Views.{program}
 use Rattle.gm_image_text.specs.Lines.{text_of}
-use Rattle.gm_image_text.specs.Spelling.{opening_lines, middle_lines, closing_lines, image_text}
+use Rattle.gm_image_text.specs.Spelling.{opening_lines, middle_lines, closing_lines}
 use Rattle.gm_image_text.proofs.Writing.{two_texts}
 use Rattle.gm_image_text.proofs.writes.written.Goals as goal
 
