@@ -466,6 +466,54 @@ const EDGES: [(&str, &str); 45] = [
     ),
 ];
 
+// Argument reductions, which rest on all their values.
+const TUPLES: [(&str, &str); 11] = [
+    (
+        "Foreach (n: G.Nodes) { Foreach (t: n.Nbrs) { Edge e = t.ToEdge(); <t.p; t.q> min= <n.v; e.w>; } }",
+        "accepted",
+    ),
+    (
+        "Foreach (n: G.Nodes) { Foreach (t: n.Nbrs) { Edge e = t.ToEdge(); <n.p; n.q> max= <e.w; n.v>; } }",
+        "accepted",
+    ),
+    (
+        "Foreach (n: G.Nodes) { Foreach (t: n.InNbrs) { Edge e = t.ToEdge(); <n.p; n.q> max= <t.v; e.w>; } }",
+        "accepted",
+    ),
+    (
+        "Foreach (n: G.Nodes) { Foreach (t: n.Nbrs) { Int k = t.v; <a; s> min= <k; t>; } }",
+        "accepted",
+    ),
+    (
+        "Foreach (n: G.Nodes) { Foreach (t: n.Nbrs) { Edge e = t.ToEdge(); <n.p; n.q> max= <t.v; e.w>; } }",
+        "C7 at 2:89",
+    ),
+    (
+        "Foreach (n: G.Nodes) { Foreach (t: n.Nbrs) { Edge e = t.ToEdge(); <n.p; n.q> max= <e.w; t.v>; } }",
+        "C7 at 2:84",
+    ),
+    (
+        "Foreach (n: G.Nodes) { Foreach (t: n.Nbrs) { Edge e = t.ToEdge(); Int k = e.w; <n.p; n.q> max= <k; t.v>; } }",
+        "C7 at 2:75",
+    ),
+    (
+        "Foreach (n: G.Nodes) { Foreach (t: n.InNbrs) { Edge e = t.ToEdge(); <t.p; t.q> min= <n.v; e.w>; } }",
+        "C7 at 2:91",
+    ),
+    (
+        "Foreach (n: G.Nodes) { <n.p; n.q> min= <1; s.v>; }",
+        "C5 at 2:44",
+    ),
+    (
+        "Foreach (n: G.Nodes) { <n.p; n.q> min= <1; Count(t: s.Nbrs)>; }",
+        "C2 at 2:53",
+    ),
+    (
+        "Foreach (n: G.Nodes) { Foreach (t: n.Nbrs) { <t.p; t.q> min= <1; Count(u: t.Nbrs)>; } }",
+        "C3 at 2:75",
+    ),
+];
+
 // C8: levels are asked of the iterator of a search, in its body.
 const LEVELS: [(&str, &str); 6] = [
     (
@@ -559,6 +607,7 @@ fn canonical_form(rt: HostRuntime) -> Result<(), Fail> {
     statements_hold(&rt, rt.alloc(), HEAD, &READS)?;
     statements_hold(&rt, rt.alloc(), HEAD, &BODIES)?;
     statements_hold(&rt, rt.alloc(), HEAD, &EDGES)?;
+    statements_hold(&rt, rt.alloc(), HEAD, &TUPLES)?;
     statements_hold(&rt, rt.alloc(), HEAD, &LEVELS)?;
     statements_hold(&rt, rt.alloc(), HEAD, &OWN_EDGES)?;
     statements_hold(&rt, rt.alloc(), HEAD, &FIRST_FORMS)?;

@@ -271,7 +271,7 @@ const ROWS: [(&str, &str); 116] = [
     ),
     (
         "Procedure f(G: Graph) { <a.x; a.y> min= <1; 2>; }",
-        "refused Syntax at 1:25",
+        "accepted",
     ),
     ("Procedure f(G: Graph) {{}; {;;}}", "accepted"),
     ("Procedure f(G: Graph) {\n\n   ?", "refused Syntax at 3:4"),
@@ -305,9 +305,65 @@ const ROWS: [(&str, &str); 116] = [
     ),
 ];
 
+// Argument reductions: a tuple of targets and one of values, each of two entries or more.
+const TUPLES: [(&str, &str); 40] = [
+    ("<x; y> min= <1; 2>;", "accepted"),
+    ("<x; y> max= <1; 2>;", "accepted"),
+    ("<x.p; y.q, z> max= <1; 2, 3, 4> @ n;", "accepted"),
+    ("<x; y> min= <1; 2, 3>;", "accepted"),
+    ("<Nodes.Nbrs; min, max>min=<min; max>;", "accepted"),
+    ("<x; y> min= <1 + 2 * -3; -INF>;", "accepted"),
+    ("<x; y> min= <(a < b); (a ? b : c)>;", "accepted"),
+    (
+        "<x; y> min= <Sum(n: G.Nodes)(a < b){c > d}; n.Degree()>;",
+        "accepted",
+    ),
+    (
+        "<x; y> min= <Count(n: G.Nodes); Exist(n: G.Nodes)(a)>;",
+        "accepted",
+    ),
+    (
+        "If (a) <x; y> min= <1; 2>; Else <x; y> max= <1; 2>;",
+        "accepted",
+    ),
+    ("While (a) <x; y> min= <1; 2>;", "accepted"),
+    ("Foreach (n: G.Nodes) <x; y> min= <1; 2>;", "accepted"),
+    (
+        "Foreach (n: G.Nodes) (a < b) <x; y> min= <1; 2>;",
+        "accepted",
+    ),
+    ("<x; y> min= <1; 2>", "refused Syntax at 1:43"),
+    ("<x; y> min= <1; 2> @ 3;", "refused Syntax at 1:46"),
+    ("<x; y> min= <1; 2> @;", "refused Syntax at 1:45"),
+    ("<x; y> min= <1; 2 @ n>;", "refused Syntax at 1:43"),
+    ("<x> min= <1; 2>;", "refused Syntax at 1:27"),
+    ("<x, y> min= <1; 2>;", "refused Syntax at 1:27"),
+    ("<x; y; z> min= <1; 2>;", "refused Syntax at 1:30"),
+    ("<x; > min= <1; 2>;", "refused Syntax at 1:29"),
+    ("<> min= <1; 2>;", "refused Syntax at 1:26"),
+    ("<x; y, > min= <1; 2>;", "refused Syntax at 1:32"),
+    ("<x; y + 1> min= <1; 2>;", "refused Syntax at 1:31"),
+    ("<x; y> += <1; 2>;", "refused Syntax at 1:32"),
+    ("<x; y> = <1; 2>;", "refused Syntax at 1:32"),
+    ("<x; y> <= <1; 2>;", "refused Syntax at 1:32"),
+    ("<x; y> &&= <1; 2>;", "refused Syntax at 1:32"),
+    ("<x; y>++;", "refused Syntax at 1:31"),
+    ("<x; y> min = <1; 2>;", "refused Syntax at 1:32"),
+    ("<x; y> min= 1;", "refused Syntax at 1:37"),
+    ("<x; y> min= <1>;", "refused Syntax at 1:39"),
+    ("<x; y> min= <1, 2>;", "refused Syntax at 1:39"),
+    ("<x; y> min= <1; 2; 3>;", "refused Syntax at 1:42"),
+    ("<x; y> min= <1; >;", "refused Syntax at 1:41"),
+    ("<x; y> min= <a < b; 2>;", "refused Syntax at 1:40"),
+    ("<x; y> min= <1; a > b>;", "refused Syntax at 1:45"),
+    ("<x; y> min= <1; a == b>;", "refused Syntax at 1:43"),
+    ("<x; y> min= <a ? b : c; 2>;", "refused Syntax at 1:40"),
+    ("x min= <1; 2>;", "refused Syntax at 1:32"),
+];
+
 // A procedure with every production, in one line.
 const WHOLE: &str =
-    "Procedure f(G: Graph, v: N_P<Int>(G); m: E_P<Long>): Int { Int a = 1; Bool b, c; G.p = v.q + 2; a <= 3 @ n; a min= 4 @ n; a++; Foreach (n: G.Nodes)(n.v > 1) { ; } If (a == 1) a = 2; Else a = 3; While (!b) { } Do { } While (a < b); InBFS (n: G.Nodes From r)(a) { } InReverse (b) { } Return (Int) Sum(t: n.Nbrs)(True){t.x % 2} ? -INF : Count(t: n.UpNbrs); }";
+    "Procedure f(G: Graph, v: N_P<Int>(G); m: E_P<Long>): Int { Int a = 1; Bool b, c; G.p = v.q + 2; a <= 3 @ n; a min= 4 @ n; <a; G.p, b> max= <a + 1; (a < b), 2> @ n; a++; Foreach (n: G.Nodes)(n.v > 1) { ; } If (a == 1) a = 2; Else a = 3; While (!b) { } Do { } While (a < b); InBFS (n: G.Nodes From r)(a) { } InReverse (b) { } Return (Int) Sum(t: n.Nbrs)(True){t.x % 2} ? -INF : Count(t: n.UpNbrs); }";
 
 fn verdict(alloc: Global, text: &[u8]) -> Result<String, AllocError> {
     match scan(alloc, text) {
@@ -349,9 +405,23 @@ fn texts(rt: HostRuntime) -> Result<(), Fail> {
 }
 
 #[test]
+fn tuples(rt: HostRuntime) -> Result<(), Fail> {
+    let alloc = rt.alloc();
+    for (statement, expected) in &TUPLES {
+        let text = repeated(alloc, " ", statement, 1, "}")?;
+        assert_eq!(rt;
+            verdict(alloc, text.as_str().as_bytes())?.as_str(),
+            *expected,
+            "{text}"
+        );
+    }
+    Ok(())
+}
+
+#[test]
 fn depths(rt: HostRuntime) -> Result<(), Fail> {
     let alloc = rt.alloc();
-    let rows: [(&str, &str, usize, &str, &str); 14] = [
+    let rows: [(&str, &str, usize, &str, &str); 18] = [
         ("", "{", 65, "", "refused TooDeep at 1:88"),
         ("", "{", 64, ";", "refused TooDeep at 1:88"),
         ("", "{", 64, ")", "refused Syntax at 1:88"),
@@ -372,6 +442,10 @@ fn depths(rt: HostRuntime) -> Result<(), Fail> {
         ("x=", "-", 256, "1;}", "refused TooDeep at 1:282"),
         ("x=", "-", 256, ";}", "refused Syntax at 1:282"),
         ("x=", "1+", 128, "1;}", "refused TooDeep at 1:282"),
+        ("<x;y>min=<", "-", 255, "1;2>;}", "accepted"),
+        ("<x;y>min=<", "-", 256, "1;2>;}", "refused TooDeep at 1:290"),
+        ("<x;y>min=<1;", "-", 256, "1>;}", "refused TooDeep at 1:292"),
+        ("<x;y>min=<1;1", ",1+1", 100, ">;}", "accepted"),
     ];
     for (front, piece, count, end, expected) in &rows {
         let text = repeated(alloc, front, piece, *count, end)?;

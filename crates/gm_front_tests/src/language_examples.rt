@@ -8,7 +8,7 @@ const HEAD: &str =
     "Procedure f(G: Graph, a: Int, b: Int, c: Bool, s: Node, v: N_P<Int>, w: E_P<Int>; p: N_P<Int>, q: N_P<Int>, r: N_P<Bool>): Int {";
 
 // Each rule, and after it the usual ways to mend it.
-const EXAMPLES: [(&str, &str); 37] = [
+const EXAMPLES: [(&str, &str); 43] = [
     (
         "Foreach (n: G.Nodes) { n.p = Sum(t: n.Nbrs) {t.p}; }",
         "R1 at 2:46",
@@ -113,6 +113,30 @@ const EXAMPLES: [(&str, &str); 37] = [
     ),
     (
         "Foreach (n: G.Nodes) { Foreach (t: n.Nbrs) { Edge e = t.ToEdge(); } }",
+        "accepted",
+    ),
+    (
+        "Foreach (n: G.Nodes) { Foreach (t: n.Nbrs) { <t.p; t.q> min= <n.v; n.q>; } }",
+        "R2 at 2:68",
+    ),
+    (
+        "N_P<Int> d; G.d = G.q; Foreach (n: G.Nodes) { Foreach (t: n.Nbrs) { <t.p; t.q> min= <n.v; n.d>; } }",
+        "accepted",
+    ),
+    (
+        "Foreach (n: G.Nodes) { Foreach (t: n.Nbrs) { <t.p; t.q> min= <n.v; 1>; t.p min= 0; } }",
+        "R3 at 2:72",
+    ),
+    (
+        "Foreach (n: G.Nodes) { Foreach (t: n.Nbrs) { <t.p; t.q> min= <n.v; 1>; <t.p; t.q> min= <0; 0>; } }",
+        "accepted",
+    ),
+    (
+        "Foreach (n: G.Nodes) { Foreach (t: n.Nbrs) { Edge e = t.ToEdge(); <n.p; n.q> min= <t.v; e.w>; } }",
+        "C7 at 2:89",
+    ),
+    (
+        "Foreach (n: G.Nodes) { Foreach (t: n.InNbrs) { Edge e = t.ToEdge(); <n.p; n.q> min= <t.v; e.w>; } }",
         "accepted",
     ),
 ];

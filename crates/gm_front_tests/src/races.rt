@@ -386,6 +386,110 @@ const MIXED: [(&str, &str); 29] = [
     ("Foreach (n: G.Nodes) { c &= n.r; c &&= n.r; }", "accepted"),
 ];
 
+// Argument reductions, whose targets are reduced to together.
+const TUPLES: [(&str, &str); 25] = [
+    (
+        "Foreach (n: G.Nodes) { Foreach (t: n.Nbrs) { <t.p; t.q> min= <n.v; 1>; <t.p; t.q> min= <n.v; 2>; } }",
+        "accepted",
+    ),
+    (
+        "Foreach (n: G.Nodes) { Foreach (t: n.Nbrs) { <t.p; t.r> min= <n.v; c>; t.q min= 1; } }",
+        "accepted",
+    ),
+    (
+        "Foreach (n: G.Nodes) { Foreach (t: n.Nbrs) { <t.p; t.q> min= <n.v; 1>; } Foreach (u: n.InNbrs) { <n.p; n.q> min= <u.v; 2>; } }",
+        "accepted",
+    ),
+    (
+        "Foreach (n: G.Nodes) { Foreach (t: n.Nbrs) { <n.p; n.q> max= <t.v; 1>; } Foreach (u: n.Nbrs) { n.p min= u.v; } }",
+        "accepted",
+    ),
+    (
+        "Foreach (n: G.Nodes) { <n.p; n.q> min= <n.v; n.q>; n.p += n.q; }",
+        "accepted",
+    ),
+    ("Foreach (n: G.Nodes) { <a; s> max= <n.v; n>; }", "accepted"),
+    (
+        "Foreach (n: G.Nodes) { <a; s> max= <n.v; n>; } Foreach (n: G.Nodes) { a min= n.v; }",
+        "accepted",
+    ),
+    (
+        "<a; b> min= <3; b>; <a; b> max= <a; 4>; a += 1;",
+        "accepted",
+    ),
+    // R3: another list of targets, another word, or one target alone
+    (
+        "Foreach (n: G.Nodes) { Foreach (t: n.Nbrs) { <t.p; t.q> min= <n.v; 1>; <t.q; t.p> min= <n.v; 2>; } }",
+        "R3 at 2:73",
+    ),
+    (
+        "Foreach (n: G.Nodes) { Foreach (t: n.Nbrs) { <t.p; t.q> min= <n.v; 1>; <t.p; t.q> max= <n.v; 1>; } }",
+        "R3 at 2:73",
+    ),
+    (
+        "Foreach (n: G.Nodes) { Foreach (t: n.Nbrs) { <t.p; t.q> min= <n.v; 1>; <t.p; t.r> min= <n.v; c>; } }",
+        "R3 at 2:73",
+    ),
+    (
+        "Foreach (n: G.Nodes) { Foreach (t: n.Nbrs) { <t.p; t.q> min= <n.v; 1>; <t.p; t.q, t.r> min= <n.v; 1, c>; } }",
+        "R3 at 2:73",
+    ),
+    (
+        "Foreach (n: G.Nodes) { Foreach (t: n.Nbrs) { <t.p; t.q> min= <n.v; 1>; t.p min= 1; } }",
+        "R3 at 2:72",
+    ),
+    (
+        "Foreach (n: G.Nodes) { Foreach (t: n.Nbrs) { t.q max= 1; <t.p; t.q> max= <n.v; 1>; } }",
+        "R3 at 2:64",
+    ),
+    (
+        "Foreach (n: G.Nodes) { Foreach (t: n.Nbrs) { <t.p; t.q> min= <n.v; 1>; } Foreach (u: n.InNbrs) { n.q min= u.v; } }",
+        "R3 at 2:98",
+    ),
+    (
+        "Foreach (n: G.Nodes) { Foreach (t: n.Nbrs) { <n.p; n.q> max= <t.v; 1>; n.p max= t.v; } }",
+        "R3 at 2:72",
+    ),
+    (
+        "Foreach (n: G.Nodes) { <a; b> min= <n.v; 1>; b min= 3; }",
+        "R3 at 2:46",
+    ),
+    // R2: a target is read, or written at its own node
+    (
+        "Foreach (n: G.Nodes) { Foreach (t: n.Nbrs) { <t.p; t.q> min= <n.q; 1>; } }",
+        "R2 at 2:63",
+    ),
+    (
+        "Foreach (n: G.Nodes) { Foreach (t: n.Nbrs) { <t.p; t.q> min= <1; t.p>; } }",
+        "R2 at 2:66",
+    ),
+    (
+        "Foreach (n: G.Nodes) { Foreach (t: n.Nbrs) { <n.p; n.q> max= <t.v; n.q>; } }",
+        "R2 at 2:68",
+    ),
+    (
+        "Foreach (n: G.Nodes) { Foreach (t: n.Nbrs) { <t.p; t.q> min= <n.v; 1>; } n.q = 1; }",
+        "R2 at 2:74",
+    ),
+    (
+        "Foreach (n: G.Nodes) { <a; b> min= <n.v; a>; }",
+        "R2 at 2:42",
+    ),
+    // R1, R5 and R6
+    (
+        "Foreach (n: G.Nodes) { <n.p; n.q> min= <n.v; Sum(t: n.Nbrs) {t.q}>; }",
+        "R1 at 2:62",
+    ),
+    (
+        "Foreach (n: G.Nodes) { <a; b> min= <n.v; 1>; b = 3; }",
+        "R5 at 2:46",
+    ),
+    (
+        "Foreach (n: G.Nodes) { n.q <= 1; Foreach (t: n.Nbrs) { <t.p; t.q> min= <n.v; 1>; } }",
+        "R6 at 2:62",
+    ),
+];
+
 // R4 and R5: a property or a scalar is written from where it is not the iteration's own.
 const STRAY: [(&str, &str); 30] = [
     (
@@ -587,7 +691,7 @@ const LEAST: [(&str, &str); 11] = [
 ];
 
 // The accesses of loops: place, loop and inner loop, variable, kind.
-const ACCESSES: [(&str, &str); 16] = [
+const ACCESSES: [(&str, &str); 18] = [
     (
         "Foreach (n: G.Nodes) { n.p = n.v + a; }",
         "2:24 1.0 p OwnWrite; 2:30 1.0 v OwnRead; 2:36 1.0 a OwnRead",
@@ -644,6 +748,14 @@ const ACCESSES: [(&str, &str); 16] = [
     (
         "Foreach (n: G.Nodes) { Int k = 0; k = k + 1; If (k > 1) { k += 1; } n.p = k; s = n; }",
         "2:69 1.0 p OwnWrite; 2:78 1.0 s StrayWrite",
+    ),
+    (
+        "Foreach (n: G.Nodes) { Foreach (t: n.Nbrs) { <t.p; t.q> min= <n.v; t.v>; } }",
+        "2:47 1.2 p PushReduce(Min p q); 2:52 1.2 q PushReduce(Min p q); 2:63 1.2 v OwnRead; 2:68 1.2 v OtherRead",
+    ),
+    (
+        "Foreach (n: G.Nodes) { <n.p; n.q> max= <n.v; (c ? 1 : 2)>; }",
+        "2:25 1.0 p OwnRead; 2:25 1.0 p OwnWrite; 2:30 1.0 q OwnRead; 2:30 1.0 q OwnWrite; 2:41 1.0 v OwnRead; 2:47 1.0 c OwnRead",
     ),
     (
         "Foreach (n: G.Nodes) { While (c) { n.r &&= c; } Do { } While (a > 1); c &= True; }",
@@ -750,6 +862,7 @@ fn races(rt: HostRuntime) -> Result<(), Fail> {
     statements_hold(&rt, rt.alloc(), HEAD, &OTHERS)?;
     statements_hold(&rt, rt.alloc(), HEAD, &PUSHED)?;
     statements_hold(&rt, rt.alloc(), HEAD, &MIXED)?;
+    statements_hold(&rt, rt.alloc(), HEAD, &TUPLES)?;
     statements_hold(&rt, rt.alloc(), HEAD, &STRAY)?;
     statements_hold(&rt, rt.alloc(), HEAD, &DEFERRED)?;
     statements_hold(&rt, rt.alloc(), HEAD, &LEAST)?;

@@ -598,6 +598,69 @@ const TARGETS: [(&str, &str); 34] = [
     ("a += True @ s;", "T9 at 2:3"),
 ];
 
+// Argument reductions.
+const TUPLES: [(&str, &str); 42] = [
+    ("<a; s> min= <1; s>;", "accepted"),
+    ("<s.p; s.q, s.r, s.t> max= <a; a, c, NIL>;", "accepted"),
+    ("<b; a> min= <a; Count(n: G.Nodes)>;", "accepted"),
+    ("<a; c, b> max= <INF; (a < b), -INF>;", "accepted"),
+    (
+        "Foreach (n: G.Nodes) { Foreach (m: n.Nbrs) { <m.p; m.t> min= <n.v; n> @ n; } }",
+        "accepted",
+    ),
+    ("For (n: G.Nodes) { <a; s> max= <n.v; n> @ n; }", "accepted"),
+    ("<s.q; s.p> min= <2147483648; 1>;", "accepted"),
+    // T1, T7 and T8: the parts by themselves.
+    ("<a; y> min= <1; 2>;", "T1 at 2:5"),
+    ("<a; b> min= <1; y>;", "T1 at 2:17"),
+    ("<s.y; s.p> min= <1; 2>;", "T1 at 2:4"),
+    ("<a; b> min= <1; 2> @ y;", "T1 at 2:22"),
+    ("<a; b> min= <k; 2>; Int k;", "T1 at 2:14"),
+    ("<G.p; G.q> min= <1; 2>;", "T7 at 2:2"),
+    ("<s.p; s.a> min= <1; 2>;", "T7 at 2:7"),
+    ("<a; b> min= <1; a + c>;", "T8 at 2:19"),
+    ("<a; b> min= <2147483648; 1>;", "T8 at 2:14"),
+    // T9: a value does not fit its target, or the lists differ in length.
+    ("<a; b> min= <b; 1>;", "T9 at 2:8"),
+    ("<a; s> min= <1; 2>;", "T9 at 2:8"),
+    ("<a; c> max= <1; a>;", "T9 at 2:8"),
+    ("<a; s, b> max= <1; NIL, True>;", "T9 at 2:11"),
+    ("<s.p; s.q> min= <s.q; 1>;", "T9 at 2:12"),
+    ("<a; b> min= <1; 2, 3>;", "T9 at 2:8"),
+    ("<a; b, c> min= <1; 2>;", "T9 at 2:11"),
+    ("<p; q> min= <1; 2>;", "T9 at 2:8"),
+    ("<c; a> min= <1; 1>;", "T9 at 2:8"),
+    // T11: the first target is no number.
+    ("<c; a> min= <True; 1>;", "T11 at 2:8"),
+    ("<s; a> max= <s; 1>;", "T11 at 2:8"),
+    ("<s.r; s.p> min= <True; 1>;", "T11 at 2:12"),
+    ("<s.t; s.p> max= <NIL; 1>;", "T11 at 2:12"),
+    // T12: the targets do not belong together, or one may not be assigned.
+    ("<s.p; a> min= <1; 2>;", "T12 at 2:7"),
+    ("<a; s.p> min= <1; 2>;", "T12 at 2:5"),
+    ("<a; b, a> min= <1; 2, 3>;", "T12 at 2:8"),
+    ("<s.p; s.p> min= <1; 2>;", "T12 at 2:7"),
+    ("<s.p; s.q, s.q, a> min= <1; 2, 3, 4>;", "T12 at 2:12"),
+    ("Node k = s; <s.p; k.q> min= <1; 2>;", "T12 at 2:19"),
+    (
+        "Foreach (n: G.Nodes) { Foreach (m: n.Nbrs) { <n.p; m.q> min= <1; 2>; } }",
+        "T12 at 2:52",
+    ),
+    (
+        "Foreach (n: G.Nodes) { <a; n> min= <1; n>; }",
+        "T12 at 2:28",
+    ),
+    ("<a; w> max= <1; 2>;", "T12 at 2:5"),
+    (
+        "Foreach (n: G.Nodes) { Edge e = n.ToEdge(); <e.w; e.w> min= <1; 2>; }",
+        "T12 at 2:46",
+    ),
+    ("<a; a> min= <True; y>;", "T12 at 2:5"),
+    // T13: the name after @ is no iterator around the statement.
+    ("<a; b> min= <1; 2> @ s;", "T13 at 2:22"),
+    ("<a; b> min= <1; True> @ s;", "T9 at 2:8"),
+];
+
 // T14: values that are returned.
 const RETURNS: [(&str, &str); 10] = [
     ("Return 1;", "accepted"),
@@ -709,6 +772,7 @@ fn texts(rt: HostRuntime) -> Result<(), Fail> {
     statements_hold(&rt, rt.alloc(), &CONDITIONS)?;
     statements_hold(&rt, rt.alloc(), &REDUCTIONS)?;
     statements_hold(&rt, rt.alloc(), &TARGETS)?;
+    statements_hold(&rt, rt.alloc(), &TUPLES)?;
     statements_hold(&rt, rt.alloc(), &RETURNS)?;
     statements_hold(&rt, rt.alloc(), &SEVERAL)?;
     Ok(())
