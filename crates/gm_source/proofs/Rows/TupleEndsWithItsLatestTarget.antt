@@ -4,7 +4,7 @@
 --       Int best = 9;
 --       Foreach (t: n.Nbrs) {
 --         Int score = 2;
---         <best; score> min= <t.v; 1>;
+--         <score; best> max= <1; t.v>;
 --         n.s += score;
 --       }
 --       n.m = best;
@@ -43,7 +43,7 @@ tuple_ends_with_its_latest_target_program = record {
   body =
       (sequence ((Foreach (key 1 Operator) (place 2 3) (head 4 Domain.Nodes 0 (place 2 15)) (Const (Flag true)) (sequence ((Declare (key 3 Operator) 5 (Some (Const (I32 (pos 9))))) ∷
       (Foreach (key 4 Operator) (place 4 5) (head 6 Domain.OutNbrs 4 (place 4 17)) (Const (Flag true)) (sequence ((Declare (key 6 Operator) 7 (Some (Const (I32 (pos 2))))) ∷
-      (Combine (key 7 Operator) (total (key 7 Total) (place 6 21) (place 6 21)) Reduce.Min ((Target.Scalar 5 (place 6 8)) ∷ (Target.Scalar 7 (place 6 14)) ∷ []) ((Property 6 1 (place 6 27)) ∷ (Const (I32 (pos 1))) ∷ [])) ∷
+      (Combine (key 7 Operator) (total (key 7 Total) (place 6 21) (place 6 21)) Reduce.Max ((Target.Scalar 7 (place 6 8)) ∷ (Target.Scalar 5 (place 6 15)) ∷ []) ((Const (I32 (pos 1))) ∷ (Property 6 1 (place 6 30)) ∷ [])) ∷
       (Combine (key 8 Operator) (total (key 8 Total) (place 7 11) (place 7 11)) Reduce.Sum ((Target.Property 4 3 (place 7 7)) ∷ []) ((Var 7 (place 7 14)) ∷ [])) ∷ []))) ∷
       (Assign (key 9 Operator) (Target.Property 4 2 (place 9 5)) (Var 5 (place 9 11))) ∷ []))) ∷ []));
 }
