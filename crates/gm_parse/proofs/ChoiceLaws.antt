@@ -16,12 +16,12 @@ use Rattle.gm_parse.specs.declared.faults.Fault.{Fault}
 use Rattle.gm_parse.specs.declared.levels.Level.{Level}
 use Rattle.gm_parse.specs.declared.levels.Level.TheVariants as levels
 use Rattle.gm_parse.specs.Terminals.{The, fits}
-use Rattle.gm_parse.specs.Grammar.{Part, Rule, Token, Of, ◌▸◌, ◌∣◌, Many, the, a_name, Unary, Reduction, Relation, Sum, Parameters, rule, procedure_sign, bare_sign, element_sign, bearer_sign, cast_sign, range_sign, loop_word_sign, value_sign, test_sign, relation_sign, sum_sign, product_sign, equality_sign, ReduceSign}
+use Rattle.gm_parse.specs.Grammar.{Part, Rule, Token, Of, ◌▸◌, ◌∣◌, Many, the, a_name, Unary, Reduction, Relation, Sum, Parameters, rule, procedure_sign, bare_sign, element_sign, bearer_sign, cast_sign, range_sign, loop_word_sign, value_sign, test_sign, argument_sign, relation_sign, sum_sign, product_sign, equality_sign, ReduceSign}
 use Rattle.gm_parse.specs.Factored.{factored, in_parentheses, simple, atom}
 use Rattle.gm_parse.specs.Levels.{part_of, operand_of, signs_of, tighter_of}
 use Rattle.gm_parse.specs.Foresight.{begins, is_empty, starts, next, starts_next}
 use Rattle.gm_parse.specs.Goes.{is_choice, IsChoiceOf, Goes, Sees}
-use Rattle.gm_parse.specs.Choices.{procedure_word, bare_type, element_type, bearer_word, cast_type, range_word, loop_word, value_reduction, test_reduction, reduce_sign, product_infix, sum_infix, relation_infix, equality_infix, and_infix, or_infix, infix_of}
+use Rattle.gm_parse.specs.Choices.{procedure_word, bare_type, element_type, bearer_word, cast_type, range_word, loop_word, value_reduction, test_reduction, reduce_sign, argument_operation, product_infix, sum_infix, relation_infix, equality_infix, and_infix, or_infix, infix_of}
 use Rattle.gm_parse.proofs.Paths.{choice_full, sees_word, goes_left, goes_right, goes_part}
 
 -- found by a meaning that agrees with a choice
@@ -109,6 +109,14 @@ reduce_starts (Some _) = refl
 pub is_reduce : {r : Option Reduce} {p o : Option Word} → r ≡ option_and_then reduce_sign p → p ≡ o → IsChoiceOf (rule ReduceSign) (is_some r) o
 unfolding rule
 is_reduce e g = found_by reduce_sign (rule ReduceSign) refl reduce_starts e g
+
+argument_starts : (o : Option Word) → is_some (option_and_then argument_operation o) ≡ starts_next o argument_sign
+argument_starts None = refl
+argument_starts (Some words.Name) = refl
+argument_starts (Some _) = refl
+
+pub is_argument : {r : Option Reduce} {p o : Option Word} → r ≡ option_and_then argument_operation p → p ≡ o → IsChoiceOf argument_sign (is_some r) o
+is_argument e g = found_by argument_operation argument_sign refl argument_starts e g
 
 infix_starts : (l : Level) (o : Option Word) → is_some (option_and_then (infix_of l) o) ≡ starts_next o (signs_of l)
 infix_starts levels.Or None = refl

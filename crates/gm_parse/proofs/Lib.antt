@@ -12,5 +12,6 @@ mod NumberLaws
 mod TypeLaws
 mod NestingLaws
 mod StatementLaws
+mod TupleLaws
 mod Verdict
 mod SupportLaws

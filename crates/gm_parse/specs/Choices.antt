@@ -100,6 +100,12 @@ reduce_sign words.OrOrAssign = Some reduces.Or
 reduce_sign words.OrAssign = Some reduces.Or
 reduce_sign _ = None
 
+-- the operation of an argument reduction
+abbrev pub argument_operation : Word → Option Reduce
+argument_operation words.MinAssign = Some reduces.Min
+argument_operation words.MaxAssign = Some reduces.Max
+argument_operation _ = None
+
 -- an operator between two operands, by its level
 abbrev pub product_infix : Word → Option Infix
 product_infix words.Star = Some (infixes.Op operations.Mul)

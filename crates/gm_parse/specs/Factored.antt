@@ -4,7 +4,7 @@
 use Rattle.gm_token.specs.declared.words.Word.{Word}
 use Rattle.gm_token.specs.declared.words.Word.TheVariants as words
 use Rattle.gm_parse.specs.Terminals.{The}
-use Rattle.gm_parse.specs.Grammar.{Part, Program, Procedure, Parameters, Group, TypeName, OfGraph, Block, Statement, AtName, Target, ReduceSign, Condition, Range, Expression, Disjunction, Conjunction, Equality, Relation, Sum, Product, Unary, Primary, Reduction, Head, Braces, SearchHead, Reverse, InStatement, InExpression, Rule, Token, Of, ◌▸◌, ◌∣◌, Maybe, Many, Within, the, a_name, procedure_sign, bare_sign, element_sign, bearer_sign, loop_word_sign, range_sign, from_sign, product_sign, sum_sign, relation_sign, equality_sign, value_sign, test_sign, cast_sign, a_property, a_declaration, a_value, a_deferred_value, a_reduced_value, an_increment, a_loop, an_if, a_while, a_do, a_search, a_return, a_choice, a_member, rule}
+use Rattle.gm_parse.specs.Grammar.{Part, Program, Procedure, Parameters, Group, TypeName, OfGraph, Block, Statement, AtName, Target, ReduceSign, Condition, Range, Expression, Disjunction, Conjunction, Equality, Relation, Sum, Product, Unary, Primary, Reduction, Head, Braces, SearchHead, Reverse, InStatement, InExpression, Rule, Token, Of, ◌▸◌, ◌∣◌, Maybe, Many, Within, the, a_name, procedure_sign, bare_sign, element_sign, bearer_sign, loop_word_sign, range_sign, from_sign, product_sign, sum_sign, relation_sign, equality_sign, value_sign, test_sign, cast_sign, a_property, a_declaration, a_value, a_deferred_value, a_reduced_value, an_increment, a_loop, an_if, a_while, a_do, a_search, an_argument_reduction, a_return, a_choice, a_member, rule}
 
 -- what comes after a target
 abbrev pub assigned : Rule
@@ -32,7 +32,7 @@ simple = Of Reduction ∣ atom
 
 -- one equation for each part
 unfoldable pub factored : Part → Rule
-factored Statement = Within InStatement (Of Block ∣ the words.Semicolon ∣ a_declaration ∣ an_assignment ∣ a_loop ∣ an_if ∣ a_while ∣ a_do ∣ a_search ∣ a_return)
+factored Statement = Within InStatement (Of Block ∣ the words.Semicolon ∣ a_declaration ∣ an_assignment ∣ a_loop ∣ an_if ∣ a_while ∣ a_do ∣ a_search ∣ an_argument_reduction ∣ a_return)
 factored Expression = Within InExpression (Of Unary ▸ rest)
 factored Unary = the words.Bang ▸ Of Unary ∣ the words.Minus ▸ Of Unary ∣ the words.Plus ▸ the words.Inf ∣ in_parentheses ∣ simple
 factored Program = rule Program

@@ -26,7 +26,7 @@ operand_words = names ++ (words.LeftParen ∷ words.Plus ∷ words.Minus ∷ wor
 
 -- the words with which a statement begins
 abbrev pub statement_words : List Word
-statement_words = names ++ type_words ++ (words.Semicolon ∷ words.LeftBrace ∷ words.Foreach ∷ words.For ∷ words.If ∷ words.While ∷ words.Do ∷ words.InBFS ∷ words.Return ∷ [])
+statement_words = names ++ type_words ++ (words.Semicolon ∷ words.LeftBrace ∷ words.Foreach ∷ words.For ∷ words.If ∷ words.While ∷ words.Do ∷ words.InBFS ∷ words.Less ∷ words.Return ∷ [])
 
 -- the words that may come after an expression that is no operand
 abbrev pub after_expression : List Word
@@ -73,22 +73,22 @@ follows OfGraph = names ++ (words.Semicolon ∷ words.RightParen ∷ words.Comma
 follows Block = statement_words ++ (words.RightBrace ∷ words.Else ∷ words.InReverse ∷ [])
 follows Statement = statement_words ++ (words.RightBrace ∷ words.Else ∷ [])
 follows AtName = words.Semicolon ∷ []
-follows Target = words.Assign ∷ words.LessEqual ∷ words.PlusPlus ∷ words.PlusAssign ∷ words.StarAssign ∷ words.MinAssign ∷ words.MaxAssign ∷ words.AndAndAssign ∷ words.OrOrAssign ∷ words.AndAssign ∷ words.OrAssign ∷ []
+follows Target = words.Semicolon ∷ words.Comma ∷ words.Greater ∷ words.Assign ∷ words.LessEqual ∷ words.PlusPlus ∷ words.PlusAssign ∷ words.StarAssign ∷ words.MinAssign ∷ words.MaxAssign ∷ words.AndAndAssign ∷ words.OrOrAssign ∷ words.AndAssign ∷ words.OrAssign ∷ []
 follows ReduceSign = operand_words
-follows Condition = statement_words ++ (words.RightParen ∷ words.Colon ∷ words.Less ∷ words.Greater ∷ words.RightBrace ∷ words.LessEqual ∷ words.At ∷ words.Star ∷ words.Slash ∷ words.Percent ∷ words.Plus ∷ words.Minus ∷ words.GreaterEqual ∷ words.Equal ∷ words.NotEqual ∷ words.AndAnd ∷ words.OrOr ∷ words.Question ∷ [])
+follows Condition = statement_words ++ (words.RightParen ∷ words.Colon ∷ words.Comma ∷ words.Less ∷ words.Greater ∷ words.RightBrace ∷ words.LessEqual ∷ words.At ∷ words.Star ∷ words.Slash ∷ words.Percent ∷ words.Plus ∷ words.Minus ∷ words.GreaterEqual ∷ words.Equal ∷ words.NotEqual ∷ words.AndAnd ∷ words.OrOr ∷ words.Question ∷ [])
 follows Range = words.RightParen ∷ []
 follows Expression = after_expression
 follows Disjunction = []
 follows Conjunction = after_expression ++ (words.OrOr ∷ words.Question ∷ [])
 follows Equality = after_expression ++ (words.AndAnd ∷ words.OrOr ∷ words.Question ∷ [])
 follows Relation = after_expression ++ (words.Equal ∷ words.NotEqual ∷ words.AndAnd ∷ words.OrOr ∷ words.Question ∷ [])
-follows Sum = after_expression ++ (words.Less ∷ words.Greater ∷ words.LessEqual ∷ words.GreaterEqual ∷ words.Equal ∷ words.NotEqual ∷ words.AndAnd ∷ words.OrOr ∷ words.Question ∷ [])
-follows Product = after_expression ++ (words.Less ∷ words.Greater ∷ words.LessEqual ∷ words.Plus ∷ words.Minus ∷ words.GreaterEqual ∷ words.Equal ∷ words.NotEqual ∷ words.AndAnd ∷ words.OrOr ∷ words.Question ∷ [])
-follows Unary = after_expression ++ (words.Less ∷ words.Greater ∷ words.LessEqual ∷ words.Star ∷ words.Slash ∷ words.Percent ∷ words.Plus ∷ words.Minus ∷ words.GreaterEqual ∷ words.Equal ∷ words.NotEqual ∷ words.AndAnd ∷ words.OrOr ∷ words.Question ∷ [])
+follows Sum = after_expression ++ (words.Comma ∷ words.Less ∷ words.Greater ∷ words.LessEqual ∷ words.GreaterEqual ∷ words.Equal ∷ words.NotEqual ∷ words.AndAnd ∷ words.OrOr ∷ words.Question ∷ [])
+follows Product = after_expression ++ (words.Comma ∷ words.Less ∷ words.Greater ∷ words.LessEqual ∷ words.Plus ∷ words.Minus ∷ words.GreaterEqual ∷ words.Equal ∷ words.NotEqual ∷ words.AndAnd ∷ words.OrOr ∷ words.Question ∷ [])
+follows Unary = after_expression ++ (words.Comma ∷ words.Less ∷ words.Greater ∷ words.LessEqual ∷ words.Star ∷ words.Slash ∷ words.Percent ∷ words.Plus ∷ words.Minus ∷ words.GreaterEqual ∷ words.Equal ∷ words.NotEqual ∷ words.AndAnd ∷ words.OrOr ∷ words.Question ∷ [])
 follows Primary = []
-follows Reduction = after_expression ++ (words.Less ∷ words.Greater ∷ words.LessEqual ∷ words.Star ∷ words.Slash ∷ words.Percent ∷ words.Plus ∷ words.Minus ∷ words.GreaterEqual ∷ words.Equal ∷ words.NotEqual ∷ words.AndAnd ∷ words.OrOr ∷ words.Question ∷ [])
-follows Head = statement_words ++ (words.RightParen ∷ words.Colon ∷ words.Less ∷ words.Greater ∷ words.RightBrace ∷ words.LessEqual ∷ words.At ∷ words.Star ∷ words.Slash ∷ words.Percent ∷ words.Plus ∷ words.Minus ∷ words.GreaterEqual ∷ words.Equal ∷ words.NotEqual ∷ words.AndAnd ∷ words.OrOr ∷ words.Question ∷ [])
-follows Braces = after_expression ++ (words.Less ∷ words.Greater ∷ words.LessEqual ∷ words.Star ∷ words.Slash ∷ words.Percent ∷ words.Plus ∷ words.Minus ∷ words.GreaterEqual ∷ words.Equal ∷ words.NotEqual ∷ words.AndAnd ∷ words.OrOr ∷ words.Question ∷ [])
+follows Reduction = after_expression ++ (words.Comma ∷ words.Less ∷ words.Greater ∷ words.LessEqual ∷ words.Star ∷ words.Slash ∷ words.Percent ∷ words.Plus ∷ words.Minus ∷ words.GreaterEqual ∷ words.Equal ∷ words.NotEqual ∷ words.AndAnd ∷ words.OrOr ∷ words.Question ∷ [])
+follows Head = statement_words ++ (words.RightParen ∷ words.Colon ∷ words.Comma ∷ words.Less ∷ words.Greater ∷ words.RightBrace ∷ words.LessEqual ∷ words.At ∷ words.Star ∷ words.Slash ∷ words.Percent ∷ words.Plus ∷ words.Minus ∷ words.GreaterEqual ∷ words.Equal ∷ words.NotEqual ∷ words.AndAnd ∷ words.OrOr ∷ words.Question ∷ [])
+follows Braces = after_expression ++ (words.Comma ∷ words.Less ∷ words.Greater ∷ words.LessEqual ∷ words.Star ∷ words.Slash ∷ words.Percent ∷ words.Plus ∷ words.Minus ∷ words.GreaterEqual ∷ words.Equal ∷ words.NotEqual ∷ words.AndAnd ∷ words.OrOr ∷ words.Question ∷ [])
 follows SearchHead = words.LeftBrace ∷ []
 follows Reverse = statement_words ++ (words.RightBrace ∷ words.Else ∷ [])
 

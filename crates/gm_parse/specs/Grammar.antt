@@ -134,6 +134,22 @@ a_deferred_value = the words.LessEqual ▸ Of Expression ▸ Maybe (Of AtName) �
 abbrev pub a_reduced_value : Rule
 a_reduced_value = Of ReduceSign ▸ Of Expression ▸ Maybe (Of AtName) ▸ the words.Semicolon
 
+-- the operations of an argument reduction
+abbrev pub argument_sign : Rule
+argument_sign = the words.MinAssign ∣ the words.MaxAssign
+
+-- two or more in angle brackets: the first, a semicolon, and the others with commas between them
+abbrev pub a_tuple : Rule → Rule
+a_tuple x = the words.Less ▸ x ▸ the words.Semicolon ▸ x ▸ Many (the words.Comma ▸ x) ▸ the words.Greater
+
+-- a value of a tuple: an expression of its own, which ends where a relation would begin
+abbrev pub an_entry : Rule
+an_entry = Within InExpression (Of Sum)
+
+-- a reduction assignment of a tuple of values to a tuple of targets
+abbrev pub an_argument_reduction : Rule
+an_argument_reduction = a_tuple (Of Target) ▸ argument_sign ▸ a_tuple an_entry ▸ Maybe (Of AtName) ▸ the words.Semicolon
+
 -- what counts a target up
 abbrev pub an_increment : Rule
 an_increment = the words.PlusPlus ▸ the words.Semicolon
@@ -179,7 +195,7 @@ rule Group = a_name ▸ Many (the words.Comma ▸ a_name) ▸ the words.Colon �
 rule TypeName = bare_sign ∣ element_sign ▸ Maybe (Of OfGraph) ∣ a_property
 rule OfGraph = the words.LeftParen ▸ a_name ▸ the words.RightParen
 rule Block = the words.LeftBrace ▸ Many (Of Statement) ▸ the words.RightBrace
-rule Statement = Within InStatement (Of Block ∣ the words.Semicolon ∣ a_declaration ∣ Of Target ▸ a_value ∣ Of Target ▸ a_deferred_value ∣ Of Target ▸ a_reduced_value ∣ Of Target ▸ an_increment ∣ a_loop ∣ an_if ∣ a_while ∣ a_do ∣ a_search ∣ a_return)
+rule Statement = Within InStatement (Of Block ∣ the words.Semicolon ∣ a_declaration ∣ Of Target ▸ a_value ∣ Of Target ▸ a_deferred_value ∣ Of Target ▸ a_reduced_value ∣ Of Target ▸ an_increment ∣ a_loop ∣ an_if ∣ a_while ∣ a_do ∣ a_search ∣ an_argument_reduction ∣ a_return)
 rule AtName = the words.At ▸ a_name
 rule Target = a_name ▸ Maybe (the words.Dot ▸ a_name)
 rule ReduceSign = the words.PlusAssign ∣ the words.StarAssign ∣ the words.MinAssign ∣ the words.MaxAssign ∣ the words.AndAndAssign ∣ the words.OrOrAssign ∣ the words.AndAssign ∣ the words.OrAssign

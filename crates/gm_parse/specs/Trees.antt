@@ -20,9 +20,9 @@ use Rattle.gm_ast.specs.Surface as trees
 use Rattle.gm_parse.specs.declared.levels.Level.{Level}
 use Rattle.gm_parse.specs.declared.levels.Level.TheVariants as levels
 use Rattle.gm_parse.specs.Terminals.{Terminal, The, AnyName, fits}
-use Rattle.gm_parse.specs.Grammar.{Part, Expression, Disjunction, Relation, Unary, Primary}
+use Rattle.gm_parse.specs.Grammar.{Part, Expression, Disjunction, Relation, Sum, Unary, Primary}
 use Rattle.gm_parse.specs.Levels.{part_of, operand_of}
-use Rattle.gm_parse.specs.Choices.{procedure_word, bare_type, element_type, bearer_word, cast_type, range_word, loop_word, value_reduction, test_reduction, reduce_sign, infix_of}
+use Rattle.gm_parse.specs.Choices.{procedure_word, bare_type, element_type, bearer_word, cast_type, range_word, loop_word, value_reduction, test_reduction, reduce_sign, argument_operation, infix_of}
 
 -- ---- single tokens
 
@@ -152,6 +152,18 @@ pub data ReadsTarget : List Token → SurfaceTarget → List Token → Type 0 wh
   property : {us vs ws xs : List Token} {x m : SurfaceName} {p : Place}
       → ReadsName us x vs → Reads words.Dot vs p ws → ReadsName ws m xs → ReadsTarget us (record { owner = x; property = Some m }) xs
 
+-- two or more, each read so: the first, a semicolon, and the others with commas between them
+pub data ReadsEntries {A : Type 0} (ReadsOne : List Token → A → List Token → Type 0) : List Token → List A → List Token → Type 0 where
+  two : {us vs ws xs : List Token} {a b : A} {p : Place}
+      → ReadsOne us a vs → Reads words.Semicolon vs p ws → ReadsOne ws b xs → ReadsEntries ReadsOne us (a ∷ b ∷ []) xs
+  more : {us vs ws xs : List Token} {es : List A} {a : A} {p : Place}
+      → ReadsEntries ReadsOne us es vs → Reads words.Comma vs p ws → ReadsOne ws a xs → ReadsEntries ReadsOne us (es ++ a ∷ []) xs
+
+-- such a row in angle brackets
+pub data ReadsTuple {A : Type 0} (ReadsOne : List Token → A → List Token → Type 0) : List Token → List A → List Token → Type 0 where
+  tuple : {us vs ws xs : List Token} {es : List A} {p q : Place}
+      → Reads words.Less us p vs → ReadsEntries ReadsOne vs es ws → Reads words.Greater ws q xs → ReadsTuple ReadsOne us es xs
+
 -- `@` and the name of an iterator
 pub data ReadsAt : List Token → Option SurfaceName → List Token → Type 0 where
   absent : {us : List Token} → ReadsAt us None us
@@ -186,6 +198,9 @@ mutual
     reduce : {us vs ws xs ys zs : List Token} {t : SurfaceTarget} {o : Reduce} {e : SurfaceExpr} {x : Option SurfaceName} {p q : Place}
         → ReadsTarget us t vs → ReadsAs reduce_sign vs o p ws → ReadsTree Expression ws e xs → ReadsAt xs x ys → Reads words.Semicolon ys q zs
         → ReadsStmt us (trees.Combine (t ∷ []) o p (e ∷ []) x) zs
+    reduce_tuple : {us vs ws xs ys zs : List Token} {ts : List SurfaceTarget} {o : Reduce} {es : List SurfaceExpr} {x : Option SurfaceName} {p q : Place}
+        → ReadsTuple ReadsTarget us ts vs → ReadsAs argument_operation vs o p ws → ReadsTuple (ReadsTree Sum) ws es xs → ReadsAt xs x ys → Reads words.Semicolon ys q zs
+        → ReadsStmt us (trees.Combine ts o p es x) zs
     increment : {us vs ws xs : List Token} {t : SurfaceTarget} {p q : Place}
         → ReadsTarget us t vs → Reads words.PlusPlus vs p ws → Reads words.Semicolon ws q xs → ReadsStmt us (trees.Increment t p) xs
     loop : {us vs ws xs : List Token} {o : LoopWord} {h : SurfaceHead} {f : SurfaceExpr} {s : SurfaceStmt} {p : Place}

@@ -2,7 +2,7 @@
 
 ghost use Rattle.std.specs.Prelude.{◌≡◌};
 ghost use Rattle.std.specs.Option.{option_and_then};
-ghost use Rattle.gm_parse.specs.Choices.{procedure_word, bare_type, element_type, bearer_word, cast_type, range_word, loop_word, value_reduction, test_reduction, reduce_sign, product_infix, sum_infix, relation_infix, equality_infix, and_infix, or_infix, infix_of};
+ghost use Rattle.gm_parse.specs.Choices.{procedure_word, bare_type, element_type, bearer_word, cast_type, range_word, loop_word, value_reduction, test_reduction, reduce_sign, argument_operation, product_infix, sum_infix, relation_infix, equality_infix, and_infix, or_infix, infix_of};
 
 use crate::levels::Level;
 use gm_ast::surface::{Bearer, Infix, LoopWord, Range, ReductionWord, TypeWord};
@@ -135,6 +135,17 @@ pub fn reduce_sign(next: Option<Word>) -> Option<Reduce>
         Word::AndAssign => Some(Reduce::And),
         Word::OrOrAssign => Some(Reduce::Or),
         Word::OrAssign => Some(Reduce::Or),
+        _ => None,
+    }
+}
+
+/// The sign of an argument reduction.
+pub fn argument_operation(next: Option<Word>) -> Option<Reduce>
+    ensures { result ≡ option_and_then argument_operation next }
+{
+    match next? {
+        Word::MinAssign => Some(Reduce::Min),
+        Word::MaxAssign => Some(Reduce::Max),
         _ => None,
     }
 }

@@ -4,7 +4,7 @@ ghost use Rattle.std.specs.Prelude.{◌≡◌, ◌≢◌, ◌+◌, ◌≤◌, �
 ghost use Rattle.gm_token.specs.declared.words.Word.TheVariants.{Number};
 ghost use Rattle.gm_token.specs.Tokens.{Token, words_of};
 ghost use Rattle.gm_ast.specs.SurfaceTree.{name_of, expr_of, test_of, head_of};
-ghost use Rattle.gm_parse.specs.Grammar.{Of, Maybe, Many, ◌▸◌, the, a_member, test_sign, Range as RangePart, Unary, Relation, Expression, Primary, Reduction, Braces, Condition, Head as HeadPart};
+ghost use Rattle.gm_parse.specs.Grammar.{Of, Maybe, Many, ◌▸◌, the, a_member, test_sign, an_entry, Range as RangePart, Sum, Unary, Relation, Expression, Primary, Reduction, Braces, Condition, Head as HeadPart};
 ghost use Rattle.gm_parse.specs.Factored.{in_parentheses, atom};
 ghost use Rattle.gm_parse.specs.Goes.{Goes, end_of};
 ghost use Rattle.gm_parse.specs.Levels.{part_of, operand_of, signs_of};
@@ -467,4 +467,20 @@ pub fn expression(
     let (no, end) = expression(alloc, tokens, colon, within)?;
     let choice = chosen(alloc, question, either, yes, no)?;
     Ok((choice, end))
+}
+
+/// A value of a tuple: a sum, which is no part of another expression.
+pub fn entry(
+    alloc: Global,
+    tokens: &Tokens,
+    at: usize,
+    around: Around,
+) -> Result<(SpelledExpr, usize), Fault>
+    ensures goes { Goes an_entry around (words_of tokens.now) at (end_of result) }
+    ensures tree { IfOk result (λ read. ReadsTree Sum (drop at tokens.now.tokens) (expr_of read.0) (drop read.1 tokens.now.tokens)) }
+    ensures next { IfOk result (λ read. (at < read.1) × (read.1 ≤ length tokens.now.tokens) × (around.statements ≤ 64)) }
+{
+    let within = around.in_expression(at);
+    let (value, end) = operand(alloc, tokens, at, Level::Relation, within)?;
+    Ok((value, end))
 }

@@ -10,6 +10,7 @@ mod nodes;
 mod procedures;
 mod reading;
 mod statements;
+mod tuples;
 mod types;
 
 pub use around::Around;

@@ -242,6 +242,7 @@ fn begins_statement(word: Word) -> bool
         Word::While => true,
         Word::Do => true,
         Word::InBFS => true,
+        Word::Less => true,
         Word::Return => true,
         _ => false,
     }

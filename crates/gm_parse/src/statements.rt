@@ -19,14 +19,15 @@ use crate::reading::{
     choose, eat, eat_name, next_is, next_is_expression, next_is_loop, next_is_name,
     next_is_statement, next_is_type, peek, skip,
 };
+use crate::tuples::argument_reduction;
 use crate::types::{more_names, type_name};
 use gm_ast::surface::{Name, SpelledExpr, SpelledStmt, SpelledTarget};
 use gm_base::Place;
 use gm_token::{Tokens, Word};
 use std::alloc::Global;
 
-// A name, or a property of one.
-fn target_name(
+/// A name, or a property of one.
+pub fn target_name(
     alloc: Global,
     tokens: &Tokens,
     at: usize,
@@ -57,8 +58,8 @@ fn target_name(
     ))
 }
 
-// `@` and the name of an iterator, if they are there.
-fn at_iterator(
+/// `@` and the name of an iterator, if they are there.
+pub fn at_iterator(
     alloc: Global,
     tokens: &Tokens,
     at: usize,
@@ -294,6 +295,9 @@ fn statement(
     } else if next_is(tokens, at, Word::InBFS) {
         let (found, end) = searching(alloc, tokens, at, inside)?;
         Ok((found, end))
+    } else if next_is(tokens, at, Word::Less) {
+        let (picked, end) = argument_reduction(alloc, tokens, at, inside)?;
+        Ok((picked, end))
     } else {
         let (returned, end) = returning(alloc, tokens, at, inside)?;
         Ok((returned, end))

@@ -1,7 +1,7 @@
 use Rattle.std.proofs.Common.{List, refl, ap, ◌∙◌, arith}
 use Rattle.std.specs.Option.{option_and_then}
 use Rattle.gm_token.specs.Tokens.{words_of}
-use Rattle.gm_parse.specs.Grammar.{TypeName, Block, Statement, Target, Reverse, InStatement, Of, a_loop, an_if, a_while, a_do, a_search, loop_word_sign, rule}
+use Rattle.gm_parse.specs.Grammar.{TypeName, Block, Statement, Target, Reverse, InStatement, Of, a_loop, an_if, a_while, a_do, a_search, a_tuple, loop_word_sign, rule}
 use Rattle.gm_parse.specs.Factored.{factored}
 use Rattle.gm_parse.specs.Choices.{loop_word}
 use Rattle.gm_parse.specs.Trees.{ReadsStmt, ReadsMany, ReadsBlock, ReadsReverse}
@@ -90,13 +90,21 @@ pub statement-returns-in_ok-found-clause-goes : goal.statement-returns-in_ok-fou
 unfolding rule factored
 statement-returns-in_ok-found-clause-goes t c = goes_part Statement (goes_within InStatement (as_around (c.in_statement-inside.ensures c.args.at) c.in_ok-found.ensures.goes (λ a r h. goes_right (sees_block c.next_is.ensures c.if-next_is.false) (goes_right (sees c.next_is-else-next_is.ensures c.if-next_is-2.false) (goes_right (sees_first (Of TypeName) _ refl (sees c.next_is_type.ensures c.if-next_is_type.false)) (goes_right (sees_first (Of Target) _ refl (sees_target c.next_is_name.ensures c.if-next_is_name.false)) (goes_right (sees_first loop_word_sign _ refl (sees c.next_is_loop.ensures c.if-next_is_loop.false)) (goes_right (sees_then c.next_is-else-next_is_loop.ensures c.if-next_is-3.false) (goes_right (sees_then c.next_is-else-next_is-3.ensures c.if-next_is-4.false) (goes_right (sees_then c.next_is-else-next_is-4.ensures c.if-next_is-5.false) (goes_left (sees_then c.next_is-else-next_is-5.ensures c.if-next_is-6.true) h)))))))))))
 
+pub statement-returns-in_err-picked-clause-goes : goal.statement-returns-in_err-picked-clause-goes
+unfolding rule factored
+statement-returns-in_err-picked-clause-goes t c = at_exit c.from_residual-in_err-picked.result c.from_residual-in_err-picked.ensures.1 (goes_part Statement (goes_within InStatement (as_around (c.in_statement-inside.ensures c.args.at) c.in_err-picked.ensures.goes (λ a r h. goes_right (sees_block c.next_is.ensures c.if-next_is.false) (goes_right (sees c.next_is-else-next_is.ensures c.if-next_is-2.false) (goes_right (sees_first (Of TypeName) _ refl (sees c.next_is_type.ensures c.if-next_is_type.false)) (goes_right (sees_first (Of Target) _ refl (sees_target c.next_is_name.ensures c.if-next_is_name.false)) (goes_right (sees_first loop_word_sign _ refl (sees c.next_is_loop.ensures c.if-next_is_loop.false)) (goes_right (sees_then c.next_is-else-next_is_loop.ensures c.if-next_is-3.false) (goes_right (sees_then c.next_is-else-next_is-3.ensures c.if-next_is-4.false) (goes_right (sees_then c.next_is-else-next_is-4.ensures c.if-next_is-5.false) (goes_right (sees_then c.next_is-else-next_is-5.ensures c.if-next_is-6.false) (goes_left (sees_first (a_tuple (Of Target)) _ refl (sees_then c.next_is-else-next_is-6.ensures c.if-next_is-7.true)) h)))))))))))))
+
 pub statement-returns-in_err-returned-clause-goes : goal.statement-returns-in_err-returned-clause-goes
 unfolding rule factored
-statement-returns-in_err-returned-clause-goes t c = at_exit c.from_residual-in_err-returned.result c.from_residual-in_err-returned.ensures.1 (goes_part Statement (goes_within InStatement (as_around (c.in_statement-inside.ensures c.args.at) c.in_err-returned.ensures.goes (λ a r h. goes_right (sees_block c.next_is.ensures c.if-next_is.false) (goes_right (sees c.next_is-else-next_is.ensures c.if-next_is-2.false) (goes_right (sees_first (Of TypeName) _ refl (sees c.next_is_type.ensures c.if-next_is_type.false)) (goes_right (sees_first (Of Target) _ refl (sees_target c.next_is_name.ensures c.if-next_is_name.false)) (goes_right (sees_first loop_word_sign _ refl (sees c.next_is_loop.ensures c.if-next_is_loop.false)) (goes_right (sees_then c.next_is-else-next_is_loop.ensures c.if-next_is-3.false) (goes_right (sees_then c.next_is-else-next_is-3.ensures c.if-next_is-4.false) (goes_right (sees_then c.next_is-else-next_is-4.ensures c.if-next_is-5.false) (goes_right (sees_then c.next_is-else-next_is-5.ensures c.if-next_is-6.false) (h)))))))))))))
+statement-returns-in_err-returned-clause-goes t c = at_exit c.from_residual-in_err-returned.result c.from_residual-in_err-returned.ensures.1 (goes_part Statement (goes_within InStatement (as_around (c.in_statement-inside.ensures c.args.at) c.in_err-returned.ensures.goes (λ a r h. goes_right (sees_block c.next_is.ensures c.if-next_is.false) (goes_right (sees c.next_is-else-next_is.ensures c.if-next_is-2.false) (goes_right (sees_first (Of TypeName) _ refl (sees c.next_is_type.ensures c.if-next_is_type.false)) (goes_right (sees_first (Of Target) _ refl (sees_target c.next_is_name.ensures c.if-next_is_name.false)) (goes_right (sees_first loop_word_sign _ refl (sees c.next_is_loop.ensures c.if-next_is_loop.false)) (goes_right (sees_then c.next_is-else-next_is_loop.ensures c.if-next_is-3.false) (goes_right (sees_then c.next_is-else-next_is-3.ensures c.if-next_is-4.false) (goes_right (sees_then c.next_is-else-next_is-4.ensures c.if-next_is-5.false) (goes_right (sees_then c.next_is-else-next_is-5.ensures c.if-next_is-6.false) (goes_right (sees_first (a_tuple (Of Target)) _ refl (sees_then c.next_is-else-next_is-6.ensures c.if-next_is-7.false)) h)))))))))))))
+
+pub statement-returns-in_ok-picked-clause-goes : goal.statement-returns-in_ok-picked-clause-goes
+unfolding rule factored
+statement-returns-in_ok-picked-clause-goes t c = goes_part Statement (goes_within InStatement (as_around (c.in_statement-inside.ensures c.args.at) c.in_ok-picked.ensures.goes (λ a r h. goes_right (sees_block c.next_is.ensures c.if-next_is.false) (goes_right (sees c.next_is-else-next_is.ensures c.if-next_is-2.false) (goes_right (sees_first (Of TypeName) _ refl (sees c.next_is_type.ensures c.if-next_is_type.false)) (goes_right (sees_first (Of Target) _ refl (sees_target c.next_is_name.ensures c.if-next_is_name.false)) (goes_right (sees_first loop_word_sign _ refl (sees c.next_is_loop.ensures c.if-next_is_loop.false)) (goes_right (sees_then c.next_is-else-next_is_loop.ensures c.if-next_is-3.false) (goes_right (sees_then c.next_is-else-next_is-3.ensures c.if-next_is-4.false) (goes_right (sees_then c.next_is-else-next_is-4.ensures c.if-next_is-5.false) (goes_right (sees_then c.next_is-else-next_is-5.ensures c.if-next_is-6.false) (goes_left (sees_first (a_tuple (Of Target)) _ refl (sees_then c.next_is-else-next_is-6.ensures c.if-next_is-7.true)) h))))))))))))
 
 pub statement-returns-in_ok-returned-clause-goes : goal.statement-returns-in_ok-returned-clause-goes
 unfolding rule factored
-statement-returns-in_ok-returned-clause-goes t c = goes_part Statement (goes_within InStatement (as_around (c.in_statement-inside.ensures c.args.at) c.in_ok-returned.ensures.goes (λ a r h. goes_right (sees_block c.next_is.ensures c.if-next_is.false) (goes_right (sees c.next_is-else-next_is.ensures c.if-next_is-2.false) (goes_right (sees_first (Of TypeName) _ refl (sees c.next_is_type.ensures c.if-next_is_type.false)) (goes_right (sees_first (Of Target) _ refl (sees_target c.next_is_name.ensures c.if-next_is_name.false)) (goes_right (sees_first loop_word_sign _ refl (sees c.next_is_loop.ensures c.if-next_is_loop.false)) (goes_right (sees_then c.next_is-else-next_is_loop.ensures c.if-next_is-3.false) (goes_right (sees_then c.next_is-else-next_is-3.ensures c.if-next_is-4.false) (goes_right (sees_then c.next_is-else-next_is-4.ensures c.if-next_is-5.false) (goes_right (sees_then c.next_is-else-next_is-5.ensures c.if-next_is-6.false) (h))))))))))))
+statement-returns-in_ok-returned-clause-goes t c = goes_part Statement (goes_within InStatement (as_around (c.in_statement-inside.ensures c.args.at) c.in_ok-returned.ensures.goes (λ a r h. goes_right (sees_block c.next_is.ensures c.if-next_is.false) (goes_right (sees c.next_is-else-next_is.ensures c.if-next_is-2.false) (goes_right (sees_first (Of TypeName) _ refl (sees c.next_is_type.ensures c.if-next_is_type.false)) (goes_right (sees_first (Of Target) _ refl (sees_target c.next_is_name.ensures c.if-next_is_name.false)) (goes_right (sees_first loop_word_sign _ refl (sees c.next_is_loop.ensures c.if-next_is_loop.false)) (goes_right (sees_then c.next_is-else-next_is_loop.ensures c.if-next_is-3.false) (goes_right (sees_then c.next_is-else-next_is-3.ensures c.if-next_is-4.false) (goes_right (sees_then c.next_is-else-next_is-4.ensures c.if-next_is-5.false) (goes_right (sees_then c.next_is-else-next_is-5.ensures c.if-next_is-6.false) (goes_right (sees_first (a_tuple (Of Target)) _ refl (sees_then c.next_is-else-next_is-6.ensures c.if-next_is-7.false)) h))))))))))))
 
 pub statement-returns-in_ok-body-clause-tree : goal.statement-returns-in_ok-body-clause-tree
 unfolding rule factored
