@@ -15,7 +15,7 @@ use Rattle.gm_value.specs.declared.values.Value.{Value}
 use Rattle.gm_graph.specs.declared.builds.Shape.{Shape}
 use Rattle.gm_run.specs.Answers.{Ran}
 use Rattle.gm_run.specs.Programs.{shape_of, inputs_of}
-use Rattle.gm_input.specs.Answers.{Format, Saying, IsGraphAnswer, bad_argument, ran as graph_ran, IsTextAnswer, bad_graph, good_graph, edge_list}
+use Rattle.gm_input.specs.Answers.{GraphFormat, Saying, IsGraphAnswer, bad_argument, ran as graph_ran, IsTextAnswer, bad_graph, good_graph, format_of}
 use Rattle.gm_input.specs.Outside.{Outside, KeepsFiles, IsText, on_input, in_file, IsUnread, input_fault, file_fault, file_absent}
 use Rattle.gm_input.specs.Roads.{Road, IsReply, no_code, bad_code, no_graph, over, IsCode, in_front, alone, AreTexts, parted, apart}
 use Rattle.gm_driver.specs.Fronts.{most_program}
@@ -50,7 +50,7 @@ graph_status : (inputs : List Input) (words : List (List ℕ)) (Ran : Saying) (g
 graph_status inputs words Ran g text status so (bad_argument said) = status_given status BadInput said.says.1 tt
 graph_status inputs words Ran g text status so (graph_ran args is r) = so g args text status r
 
-text_status : (f : Format) (shape : Shape) (inputs : List Input) (words : List (List ℕ)) (Ran : Saying) (graph text : List ℕ) (status : Status)
+text_status : (f : GraphFormat) (shape : Shape) (inputs : List Input) (words : List (List ℕ)) (Ran : Saying) (graph text : List ℕ) (status : Status)
     → SaysAnswers Ran → IsTextAnswer f shape inputs words Ran graph text status → IsAnswerStatus status
 text_status f shape inputs words Ran graph text status so (bad_graph said) = status_given status BadInput said.says.1 tt
 text_status f shape inputs words Ran graph text status so (good_graph g is a) = graph_status inputs words Ran g text status so a
@@ -121,13 +121,13 @@ run_ends : (prog graph : List ℕ) (words : List (List ℕ)) (options : Options)
 run_ends prog graph words options b a text status r =
     road_ends (program_road words options) prog graph b a text status
     (λ whole said. status_given status RefusedStatus said.says.1 tt)
-    (λ p whole said. text_status edge_list (shape_of p) (inputs_of p) words (Ran p options.turns) whole text status (program_answers p options.turns) said) r
+    (λ p whole said. text_status (format_of options.format) (shape_of p) (inputs_of p) words (Ran p options.turns) whole text status (program_answers p options.turns) said) r
 
 exec_ends : (name graph : List ℕ) (words : List (List ℕ)) (options : Options) (s : Audience) (b a : Outside) (text : List ℕ) (status : Status) → IsExecReply name graph words options s b a text status → Ends b a status
 exec_ends name graph words options s b a text status r =
     road_ends (image_road words options s) name graph b a text status
     (λ whole said. status_given status BadInput said.says.1 tt)
-    (λ p whole said. text_status edge_list (image.shape_of p) (image.inputs_of p) words (exec.Ran p options.turns options.observe s) whole text status (image_answers p options.turns options.observe s) said) r
+    (λ p whole said. text_status (format_of options.format) (image.shape_of p) (image.inputs_of p) words (exec.Ran p options.turns options.observe s) whole text status (image_answers p options.turns options.observe s) said) r
 
 job_ends : (asked : Option Job) (ways : List (List Note → List ℕ)) (held : List (List Note)) (b a : Outside) (text : List ℕ) (status : Status) → IsJobReply asked ways held b a text status → Ends b a status
 job_ends asked ways held b a text status (usage is input files says) = answers (status_given status Usage says.1 tt) (none_missed b a input.quiet files)

@@ -73,5 +73,5 @@ program_right words options = record {
   stands = λ whole p stands. whole_stands most_program whole p refl stands;
   bad = λ whole text status said. said_refused most_program whole text status refl said;
   short = λ bytes p stands. let few : length bytes ≤ MAX_TEXT = stands.typed.spelled.scanned.0 in omega (arith, few);
-  over = λ p whole text status answer. text_answer_front (shape_of p) (inputs_of p) words (Ran p options.turns) whole text status answer;
+  over = λ p whole text status answer. text_answer_front options.format (shape_of p) (inputs_of p) words (Ran p options.turns) whole text status answer;
 }

@@ -26,7 +26,7 @@ program_road words options = record {
   most = most_program;
   stands = λ whole p. StandsFor whole p;
   bad = λ whole text status. SaysRefused whole text status;
-  over = λ p graph text status. IsTextAnswer p words options.turns graph text status;
+  over = λ p graph text status. IsTextAnswer p words options graph text status;
 }
 
 -- what is to be written for the run of a program over a graph, by their names

@@ -31,8 +31,8 @@ IsUsage (Some (job.Demo n options)) = ⊥
 -- what is to be written for a job, and the status: the usage line, or the reply of a check, a run, the run of an image or
 -- a demonstration. There are observers, each with a way to report and the notes that it holds: where the run of an image
 -- is to be observed, they are told of it, and what they report of all that they then hold is written behind its listing.
--- Of the other options of a run its bound on turns alone changes what is written. Nothing is read for the usage line and
--- for a demonstration
+-- Of the other options of a run the format of its graph and its bound on turns alone change what is written. Nothing is
+-- read for the usage line and for a demonstration
 pub data IsJobReply (asked : Option Job) (ways : List (List Note → List ℕ)) (held : List (List Note)) (before after : Outside) (text : List ℕ) (status : Status) : Type 0 where
   usage : IsUsage asked → KeepsInput before after → KeepsFiles before after → Says text status usage_text Usage → IsJobReply asked ways held before after text status
   checked : (prog : List ℕ) → asked ≡ Some (job.Check prog) → IsCheckReply prog before after text status → IsJobReply asked ways held before after text status

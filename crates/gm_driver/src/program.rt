@@ -155,7 +155,8 @@ fn reply<S: Source, F: Files>(
 /// checks the program in the same way, and runs it over the graph; where both are `-`, the graph stands behind the
 /// first line that is exactly `%%`. `exec IMAGE GRAPH NAME=VALUE ..` reads and judges an image in the same way, and runs
 /// it over the graph; with `--observe` each of the observers is told one note for each superstep, and their reports
-/// follow the listing, in their order. `demo N` runs the shortest paths over a graph of N nodes that it makes itself.
+/// follow the listing, in their order. With `--format mtx` the graph of `run` and `exec` is a Matrix Market text. `demo N`
+/// runs the shortest paths over a graph of N nodes that it makes itself.
 /// The command `compile`, and `run` with `--image`, are answered by the usage line so far, as are words that ask for no
 /// job.
 ///

@@ -36,7 +36,7 @@ fn run_steps<S: Source, F: Files>(
 }
 
 /// The reply for the run of a program over a graph, by their names. `words` are the words NAME=VALUE for the program's
-/// scalar inputs, and `options` say how many turns may begin.
+/// scalar inputs, and `options` say what the format of the graph text is and how many turns may begin.
 pub fn run<S: Source, F: Files>(
     alloc: Global,
     prog: &str,

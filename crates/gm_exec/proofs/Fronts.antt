@@ -41,5 +41,5 @@ image_right words options a = record {
   stands = λ whole p stands. whole_stands most_image whole p refl stands;
   bad = λ whole text status said. said_flaw most_image whole text status refl said;
   short = λ bytes p stands. let few : length bytes ≤ most_bytes = stands.short in omega (arith, few);
-  over = λ p whole text status answer. text_answer_front (shape_of p) (inputs_of p) words (Ran p options.turns options.observe a) whole text status answer;
+  over = λ p whole text status answer. text_answer_front options.format (shape_of p) (inputs_of p) words (Ran p options.turns options.observe a) whole text status answer;
 }

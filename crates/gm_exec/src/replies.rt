@@ -46,9 +46,9 @@ fn exec_steps<S: Source, F: Files>(
 }
 
 /// The reply for the run of an image over a graph, by their names. `words` are the words NAME=VALUE for the image's
-/// scalar inputs; `options` say how many turns may begin, and whether the observers are told of the run and report behind
-/// its listing. The name `-` stands for standard input; where both names are `-`, the graph stands behind
-/// the first line that is exactly `%%`.
+/// scalar inputs; `options` say what the format of the graph text is, how many turns may begin, and whether the observers
+/// are told of the run and report behind its listing. The name `-` stands for standard input; where both names are `-`,
+/// the graph stands behind the first line that is exactly `%%`.
 ///
 /// The image is read and judged first: `image TooLong`, `image BadText at line L` or `image RULE at line L` is bad
 /// input, and then nothing is read behind it. Then the graph is read and judged, then the words are, and then the image

@@ -16,8 +16,8 @@ use gm_observe::Observer;
 use gm_words::Options;
 use std::alloc::Global;
 
-/// The answer of an image over a graph text. `words` are the words NAME=VALUE for its scalar inputs; `options` say how
-/// many turns may begin, and whether the observers are told of the run and report.
+/// The answer of an image over a graph text. `words` are the words NAME=VALUE for its scalar inputs; `options` say what
+/// the format of the text is, how many turns may begin, and whether the observers are told of the run and report.
 ///
 /// The text stands for a graph with a column for each property among the inputs, or the answer is
 /// `graph KIND at line L` or `graph TooLong`; the words give each scalar input a value, or it is `argument KIND NAME`,
@@ -38,7 +38,7 @@ pub fn run_text(
     ensures same_ways { map (λ o. says_of o) observers.new ≡ map (λ o. says_of o) observers.old }
 {
     let shape = shape_of(alloc, image.image())?;
-    let graph = graph_of(alloc, text, &shape)?;
+    let graph = graph_of(alloc, options.format, text, &shape)?;
     let inputs = inputs_of(alloc, image.image())?;
     let args = arguments(alloc, &inputs, words, &graph)?;
     Ok(run_with(

@@ -1,12 +1,13 @@
 //! Words as a command line gives them.
 use gm_base::{Items, Text};
 use gm_partition::Owner;
-use gm_words::{Job, Options, WordsStop, read_words};
+use gm_words::{Format, Job, Options, WordsStop, read_words};
 use std::alloc::{AllocError, Global};
 use std::test::Fail;
 
 // Words, parted by one space each, and what they ask for: the command, its files, the words that assign, the
-// number of workers, the partition and the number of turns. All of it was written by hand, from the rules.
+// number of workers, the partition, the number of turns, and `mtx` where the graph file is no edge list. All of it was
+// written by hand, from the rules.
 const ROWS: &str = "run => usage
 run - => usage
 run a => usage
@@ -105,6 +106,23 @@ run a b --turns 09223372036854775807 => usage
 run a b --turns -5 => usage
 run a b --turns 5 --turns 5 => usage
 run a b --turns => usage
+run a b --format edges => run a b [] 4 mod 1000000
+run a b --format=edges => run a b [] 4 mod 1000000
+run a b --format mtx => run a b [] 4 mod 1000000 mtx
+run --format=mtx a b k=1 => run a b [k=1] 4 mod 1000000 mtx
+run - --format mtx - => run - - [] 4 mod 1000000 mtx
+run a b --format MTX => usage
+run a b --format mtx2 => usage
+run a b --format mt => usage
+run a b --format= => usage
+run a b --format => usage
+run a b --format - => usage
+run a b --format mtx --format mtx => usage
+run a b --format edges --format mtx => usage
+run a b --mtx => usage
+run a b --form mtx => usage
+run a -- --format => run a --format [] 4 mod 1000000
+run a b --format mtx --image --observe => run a b [] 4 mod 1000000 mtx image observe
 run a b --image => run a b [] 4 mod 1000000 image
 run --image a b => run a b [] 4 mod 1000000 image
 run a b --image k=1 => run a b [k=1] 4 mod 1000000 image
@@ -148,6 +166,7 @@ check a -- => check a
 check -- --image => check --image
 check - --image => usage
 check a --workers 8 => usage
+check a --format mtx => usage
 check a --turns 8 => usage
 check --help => usage
 check -a => usage
@@ -158,6 +177,7 @@ compile - => compile -
 compile a b => usage
 compile -- -a => compile -a
 compile a --observe => usage
+compile a --format=edges => usage
 compile a --partition mod => usage
 exec => usage
 exec a => usage
@@ -171,6 +191,10 @@ exec a b --image => usage
 exec a b --image --observe => usage
 exec a b --workers 64 --partition=spread:9 --turns 7 => exec a b [] 64 spread:9 7
 exec a b --workers 65 => usage
+exec a b --format mtx => exec a b [] 4 mod 1000000 mtx
+exec a b --format=edges --observe => exec a b [] 4 mod 1000000 observe
+exec a b --format mtx --format mtx => usage
+exec a b --format real => usage
 exec a b root => usage
 exec a b -- -x=1 => exec a b [-x=1] 4 mod 1000000
 demo => usage
@@ -190,16 +214,22 @@ demo 5 k=1 => usage
 demo 5 --workers 3 --partition block => demo 5 3 block 1000000
 demo --workers=3 5 => demo 5 3 mod 1000000
 demo 5 --turns 3 => usage
+demo 5 --format edges => usage
+demo 5 --format mtx => usage
 demo 5 --image => usage
 demo 5 --observe => usage";
 
 fn options_text(alloc: Global, options: Options) -> Result<String, AllocError> {
     let workers = options.workers;
     let turns = options.turns;
+    let format = match options.format {
+        Format::Edges => "",
+        Format::Mtx => " mtx",
+    };
     match options.owner {
-        Owner::Mod => format!(in alloc; "{workers} mod {turns}"),
-        Owner::Block => format!(in alloc; "{workers} block {turns}"),
-        Owner::Spread(shift) => format!(in alloc; "{workers} spread:{shift} {turns}"),
+        Owner::Mod => format!(in alloc; "{workers} mod {turns}{format}"),
+        Owner::Block => format!(in alloc; "{workers} block {turns}{format}"),
+        Owner::Spread(shift) => format!(in alloc; "{workers} spread:{shift} {turns}{format}"),
     }
 }
 

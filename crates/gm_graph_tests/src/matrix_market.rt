@@ -6,7 +6,7 @@ ghost use Rattle.gm_loader.specs.GraphText.{HasColumns};
 use gm_base::{Items, MemSource};
 use gm_graph::{Graph, Shape};
 use gm_loader::{GraphFault, Limits, parse_graph};
-use gm_mtx::{MtxFault, load_mtx, parse_mtx};
+use gm_mtx::{MtxFault, consume_mtx, load_mtx, parse_mtx};
 use gm_value::{VType, Value};
 use std::alloc::{AllocError, Global};
 use std::fmt::Write;
@@ -122,8 +122,8 @@ fn shape_of(alloc: Global, letters: (&str, &str)) -> Result<Shape, AllocError> {
     })
 }
 
-// What comes of a text, with columns of the types of some letters, both by `parse_mtx` and by `load_mtx` from a source
-// that gives three bytes per read: the two must agree.
+// What comes of a text, with columns of the types of some letters, by `parse_mtx`, by `consume_mtx` and by `load_mtx` from a
+// source that gives three bytes per read: the three must agree.
 fn comes_of(
     rt: &(impl Abort + AllocGlobal),
     letters: (&str, &str),
@@ -139,6 +139,10 @@ fn comes_of(
     assert!(rt; nodes < 100 && edges < 100);
     let parsed = parse_mtx(rt.alloc(), text, &shape, limits);
     let parsed = outcome(rt.alloc(), parsed, 0, nodes as u32, edges as u32)?;
+    let bytes = Vec::from_slice(rt.alloc(), text)?;
+    let consumed = consume_mtx(rt.alloc(), bytes, &shape, limits);
+    let consumed = outcome(rt.alloc(), consumed, 0, nodes as u32, edges as u32)?;
+    assert_eq!(rt; parsed.as_str(), consumed.as_str());
     let bytes = Vec::from_slice(rt.alloc(), text)?;
     let mut source = MemSource::new(bytes, 3, Vec::new(rt.alloc()));
     let loaded = load_mtx(rt.alloc(), &mut source, &shape, limits);

@@ -3,10 +3,12 @@
 
 ghost use Rattle.std.specs.Prelude.{◌≡◌, IfOk};
 ghost use Rattle.gm_base.specs.declared.statuses.Status.TheVariants.{BadInput, ReadFault};
+ghost use Rattle.gm_mtx.specs.FaultLines.{IsTextFault as IsMatrixTextFault, mtx_text};
 ghost use Rattle.gm_input.specs.Texts.{IsTextFault, IsWordFault, Says, absent_text, argument_line as argument_line_lem, argument_text as argument_text_lem, graph_line as graph_line_lem, graph_text as graph_text_lem, read_fault_text};
 
 use gm_base::{NoMemory, Status, Text};
 use gm_loader::{GraphFault, Limits};
+use gm_mtx::MtxFault;
 use gm_words::ArgFault;
 use itoa::Buffer;
 use std::alloc::Global;
@@ -64,7 +66,7 @@ fn graph_line(alloc: Global, kind: &[u8], number: u64) -> Result<Vec<u8>, NoMemo
     Ok(text)
 }
 
-// The line for a fault of a graph text; a read that failed and want of memory have none.
+// The line for a fault of an edge list; a read that failed and want of memory have none.
 fn graph_text(alloc: Global, fault: GraphFault) -> Result<Vec<u8>, NoMemory>
     ensures { IfOk result (λ text. IsTextFault fault × (text.items ≡ graph_text_lem fault)) }
 {
@@ -80,12 +82,40 @@ fn graph_text(alloc: Global, fault: GraphFault) -> Result<Vec<u8>, NoMemory>
     }
 }
 
-/// The answer for a fault of a graph text.
+/// The answer for a fault of an edge list.
 pub fn bad_graph(alloc: Global, fault: GraphFault) -> Result<Answer, NoMemory>
     ensures { IfOk result (λ a. IsTextFault fault × Says a.text.items a.status (graph_text_lem fault) BadInput) }
 {
     Ok(Answer {
         text: graph_text(alloc, fault)?,
+        status: Status::BadInput,
+    })
+}
+
+// The line for a fault of a Matrix Market text; a read that failed and want of memory have none.
+fn matrix_text(alloc: Global, fault: MtxFault) -> Result<Vec<u8>, NoMemory>
+    ensures { IfOk result (λ text. IsMatrixTextFault fault × (text.items ≡ mtx_text fault)) }
+{
+    match fault {
+        MtxFault::BadHeader(number) => graph_line(alloc, b"BadHeader", number),
+        MtxFault::Unsupported(number) => graph_line(alloc, b"Unsupported", number),
+        MtxFault::BadLine(number) => graph_line(alloc, b"BadLine", number),
+        MtxFault::MissingColumn(number) => graph_line(alloc, b"MissingColumn", number),
+        MtxFault::OutOfRange(number) => graph_line(alloc, b"OutOfRange", number),
+        MtxFault::CountDiffers(number) => graph_line(alloc, b"CountDiffers", number),
+        MtxFault::TooManyNodes(number) => graph_line(alloc, b"TooManyNodes", number),
+        MtxFault::TooManyEdges(number) => graph_line(alloc, b"TooManyEdges", number),
+        MtxFault::TooLong => Ok(Vec::from_slice(alloc, b"graph TooLong\n")?),
+        MtxFault::ReadFault | MtxFault::NoMemory => Err(NoMemory),
+    }
+}
+
+/// The answer for a fault of a Matrix Market text.
+pub fn bad_matrix(alloc: Global, fault: MtxFault) -> Result<Answer, NoMemory>
+    ensures { IfOk result (λ a. IsMatrixTextFault fault × Says a.text.items a.status (mtx_text fault) BadInput) }
+{
+    Ok(Answer {
+        text: matrix_text(alloc, fault)?,
         status: Status::BadInput,
     })
 }

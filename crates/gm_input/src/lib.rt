@@ -11,7 +11,7 @@ mod names;
 mod roads;
 
 pub use answers::{
-    Answer, GRAPH_LIMITS, absent, bad_argument, bad_graph, fixed_answer, read_fault,
+    Answer, GRAPH_LIMITS, absent, bad_argument, bad_graph, bad_matrix, fixed_answer, read_fault,
 };
 pub use fronts::{Front, FrontStop, read_front, read_rest};
 pub use halts::{Halt, answered, settled};

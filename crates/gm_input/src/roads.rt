@@ -6,21 +6,24 @@ ghost use Rattle.std.specs.Prelude.{◌≡◌, ◌<◌, [], false, IfOk, IfErr, 
 ghost use Rattle.gm_words.specs.Arguments.{values_bound};
 ghost use Rattle.gm_words.specs.Jobs.{AllAssign};
 ghost use Rattle.gm_loader.specs.GraphText.{HasColumns};
-ghost use Rattle.gm_input.specs.Answers.{IsGraphOf, SaysBadArgument, SaysBadGraph, edge_list};
+ghost use Rattle.gm_input.specs.Answers.{IsGraphOf, SaysBadArgument, SaysBadGraph, edge_list, format_of, matrix_market};
 ghost use Rattle.gm_input.specs.Halts.{IfAnswered};
 ghost use Rattle.gm_input.specs.Names.{IsNameStop};
 ghost use Rattle.gm_input.specs.Outside.{Outside, outside};
 ghost use Rattle.gm_input.specs.Roads.{IsCodeRead, IsGraphRead, SaysUnread};
 
-use crate::answers::{Answer, GRAPH_LIMITS, absent, bad_argument, bad_graph, read_fault};
+use crate::answers::{
+    Answer, GRAPH_LIMITS, absent, bad_argument, bad_graph, bad_matrix, read_fault,
+};
 use crate::fronts::{Front, read_front, read_rest};
 use crate::halts::{Halt, answered};
 use crate::names::{NameStop, are_input, read_named};
 use gm_base::{Files, NoMemory, Source, Text};
 use gm_graph::{Graph, Shape};
 use gm_loader::parse_graph;
+use gm_mtx::consume_mtx;
 use gm_value::Value;
-use gm_words::{Input, bind};
+use gm_words::{Format, Input, bind};
 use std::alloc::Global;
 
 // How many bytes of a graph text are read at most: one more than a text may have, so that a longer one is seen.
@@ -143,16 +146,40 @@ pub fn read_graph<S: Source, F: Files>(
     }
 }
 
-/// The graph that a text stands for, with columns of this shape, or the answer that says what is wrong with the text. The
-/// text is let go. This is the one place where the reader of a format of graph texts is called.
-pub fn graph_of(alloc: Global, text: Vec<u8>, shape: &Shape) -> Result<Graph, Halt>
-    ensures graph { IfOk result (IsGraphOf edge_list shape.now text.items) }
+// The graph of an edge list, or the answer that says what is wrong with it.
+fn listed_graph(alloc: Global, text: &[u8], shape: &Shape) -> Result<Graph, Halt>
+    ensures graph { IfOk result (IsGraphOf edge_list shape.now text.now) }
     ensures columns { IfOk result (HasColumns (length shape.now.nodes) (length shape.now.edges)) }
-    ensures halt { IfErr result (λ halt. IfAnswered halt (λ a. SaysBadGraph edge_list shape.now text.items a.text.items a.status)) }
+    ensures halt { IfErr result (λ halt. IfAnswered halt (λ a. SaysBadGraph edge_list shape.now text.now a.text.items a.status)) }
 {
-    match parse_graph(alloc, &text, shape, &GRAPH_LIMITS) {
+    match parse_graph(alloc, text, shape, &GRAPH_LIMITS) {
         Ok(graph) => Ok(graph),
         Err(fault) => Err(answered(bad_graph(alloc, fault))),
+    }
+}
+
+// The graph of a Matrix Market text, or the answer that says what is wrong with it.
+fn matrix_graph(alloc: Global, text: Vec<u8>, shape: &Shape) -> Result<Graph, Halt>
+    ensures graph { IfOk result (IsGraphOf matrix_market shape.now text.items) }
+    ensures columns { IfOk result (HasColumns (length shape.now.nodes) (length shape.now.edges)) }
+    ensures halt { IfErr result (λ halt. IfAnswered halt (λ a. SaysBadGraph matrix_market shape.now text.items a.text.items a.status)) }
+{
+    match consume_mtx(alloc, text, shape, &GRAPH_LIMITS) {
+        Ok(graph) => Ok(graph),
+        Err(fault) => Err(answered(bad_matrix(alloc, fault))),
+    }
+}
+
+/// The graph that a text of a format stands for, with columns of this shape, or the answer that says what is wrong with
+/// the text. The text is let go. This is the one place where the readers of the formats are called.
+pub fn graph_of(alloc: Global, format: Format, text: Vec<u8>, shape: &Shape) -> Result<Graph, Halt>
+    ensures graph { IfOk result (IsGraphOf (format_of format) shape.now text.items) }
+    ensures columns { IfOk result (HasColumns (length shape.now.nodes) (length shape.now.edges)) }
+    ensures halt { IfErr result (λ halt. IfAnswered halt (λ a. SaysBadGraph (format_of format) shape.now text.items a.text.items a.status)) }
+{
+    match format {
+        Format::Edges => listed_graph(alloc, &text, shape),
+        Format::Mtx => matrix_graph(alloc, text, shape),
     }
 }
 

@@ -52,7 +52,7 @@ fn run_with(
 }
 
 /// The answer of a checked program over a graph text. `words` are the words NAME=VALUE for its scalar inputs, and
-/// `options` say how many turns may begin.
+/// `options` say what the format of the text is and how many turns may begin.
 ///
 /// The text stands for a graph with a column for each property among the inputs, or the answer is
 /// `graph KIND at line L` or `graph TooLong`; the words give each scalar input a value, or it is `argument KIND NAME`,
@@ -65,10 +65,10 @@ pub fn run_text(
     text: Vec<u8>,
 ) -> Result<Answer, Halt>
     requires { AllAssign words.now }
-    ensures { IfSaid result (λ a. IsTextAnswer (program_of program.now) words.now options.now.turns text.items a.text.items a.status) }
+    ensures { IfSaid result (λ a. IsTextAnswer (program_of program.now) words.now options.now text.items a.text.items a.status) }
 {
     let shape = shape_of(alloc, program.tree())?;
-    let graph = graph_of(alloc, text, &shape)?;
+    let graph = graph_of(alloc, options.format, text, &shape)?;
     let inputs = inputs_of(alloc, program.tree())?;
     let args = arguments(alloc, &inputs, words, &graph)?;
     Ok(run_with(alloc, program, &graph, &args, options.turns)?)

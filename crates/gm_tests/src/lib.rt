@@ -29,6 +29,8 @@ mod language;
 #[cfg(test)]
 mod loops;
 #[cfg(test)]
+mod matrix_market;
+#[cfg(test)]
 mod phases;
 #[cfg(test)]
 mod readings;

@@ -8,7 +8,7 @@ const USAGE: &str =
     "usage: gm run PROG GRAPH | check PROG | compile PROG | exec IMAGE GRAPH | demo N\n";
 
 // Words that ask for nothing.
-const FAULTY: [&str; 33] = [
+const FAULTY: [&str; 40] = [
     "",
     "run",
     "run -",
@@ -23,6 +23,10 @@ const FAULTY: [&str; 33] = [
     "run - - --turns 9223372036854775808",
     "run - - --partition spread",
     "run - - --partition spread:4294967296",
+    "run - - --format",
+    "run - - --format real",
+    "run - - --format mtx --format mtx",
+    "exec - - --format edges --format=mtx",
     "run - - -k=1",
     "run - - --k=1",
     "run - - --turn 5",
@@ -31,6 +35,7 @@ const FAULTY: [&str; 33] = [
     "check --image -",
     "check - --image",
     "check - --turns 5",
+    "check - --format mtx",
     "check -x",
     "Check -",
     "Run - -",
@@ -41,6 +46,8 @@ const FAULTY: [&str; 33] = [
     "demo 1000001",
     "demo 1 2",
     "demo 5 --turns 3",
+    "demo 5 --format mtx",
+    "demo 5 --format edges",
     "demo x",
 ];
 

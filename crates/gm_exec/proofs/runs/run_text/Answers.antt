@@ -4,7 +4,7 @@ use Rattle.std.proofs.lemmas.Result.{IfOk-weaker}
 use Rattle.gm_words.specs.Arguments.{values_bound}
 use Rattle.gm_image.specs.Views.{program}
 use Rattle.gm_machine.specs.Machine.{machine}
-use Rattle.gm_input.specs.Answers.{IsGraphOf, bad_argument, bad_graph, edge_list, good_graph, ran}
+use Rattle.gm_input.specs.Answers.{IsGraphOf, bad_argument, bad_graph, format_of, good_graph, ran}
 use Rattle.gm_input.proofs.Answering.{said_on, weaker}
 use Rattle.gm_exec.specs.Answers.{IsTextAnswer}
 use Rattle.gm_exec.specs.Runs.{IsUntold}
@@ -26,7 +26,7 @@ returns-in_err-graph-clause-untold g c =
 
 pub returns-in_err-args-clause-answer : goal.returns-in_err-args-clause-answer
 returns-in_err-args-clause-answer g c =
-    let graph : IsGraphOf edge_list (shape_of (program c.args.image.now)) c.args.text.items c.in_ok-graph.graph = rw (c.in_ok-shape.ensures, c.image.ensures.same) at c.in_ok-graph.ensures.graph in
+    let graph : IsGraphOf (format_of c.args.options.now.format) (shape_of (program c.args.image.now)) c.args.text.items c.in_ok-graph.graph = rw (c.in_ok-shape.ensures, c.image.ensures.same) at c.in_ok-graph.ensures.graph in
     said_on (λ a. IsTextAnswer (program c.args.image.now) c.args.words.now c.args.options.now _ c.args.text.items a.text.items a.status)
     c.from_residual-in_err-args.result c.in_err-args.field-0.0 c.from_residual-in_err-args.ensures.1
     (weaker _ _ c.in_err-args.field-0.0
@@ -45,7 +45,7 @@ run_with-requires g c =
 
 pub returns-clause-answer : goal.returns-clause-answer
 returns-clause-answer g c =
-    let graph : IsGraphOf edge_list (shape_of (program c.args.image.now)) c.args.text.items c.in_ok-graph.graph = rw (c.in_ok-shape.ensures, c.image.ensures.same) at c.in_ok-graph.ensures.graph in
+    let graph : IsGraphOf (format_of c.args.options.now.format) (shape_of (program c.args.image.now)) c.args.text.items c.in_ok-graph.graph = rw (c.in_ok-shape.ensures, c.image.ensures.same) at c.in_ok-graph.ensures.graph in
     let values : values_bound (inputs_of (program c.args.image.now)) c.args.words.now c.in_ok-graph.graph.numbers ≡ Ok c.in_ok-args.args.items =
     rw (c.deref.ensures.value, c.in_ok-inputs.ensures, c.image-2.ensures.same) at c.in_ok-args.ensures.values in
     good_graph c.in_ok-graph.graph graph (ran c.in_ok-args.args.items values (rw c.deref-2.ensures.value at c.in_ok-run_with.ensures.ran))
