@@ -13,7 +13,7 @@ use Rattle.gm_image.specs.Program.{Program}
 use Rattle.gm_image.specs.Rows.{handled_lines}
 use Rattle.gm_image.specs.Soundness.{is_sound}
 use Rattle.gm_machine.specs.declared.faults.Fault.{Fault}
-use Rattle.gm_machine.specs.Contributions.{Contribution}
+use Rattle.gm_machine.specs.Taking.{Contribution}
 use Rattle.gm_machine.specs.Faults.{lesser, least_from, least_fault}
 use Rattle.gm_machine.specs.Taking.{settled, Settled}
 use Rattle.gm_machine.specs.Laws.{SameStep}
