@@ -1,155 +1,169 @@
--- All pots closed one after another.
-use Rattle.std.proofs.Common.{◌≡◌, ℕ, ◌+◌, zero, suc, ◌<◌, ◌≤◌, Bool, true, false, cond, List, [], ◌∷◌, ◌++◌, map, take, length, get_or, arith, refl, sym, ap, subst, ◌∙◌, Option, Some, None, ⊎_elim, inl, inr}
-use Rattle.std.specs.Prelude.{◌⊎◌}
+-- All pots closed one after another, the last one first.
+use Rattle.std.proofs.Common.{◌≡◌, ℕ, ◌+◌, zero, suc, ◌<◌, ◌≤◌, Bool, true, false, cond, List, [], ◌∷◌, ◌++◌, map, drop, length, get_or, arith, refl, sym, ap, subst, ◌∙◌, Option, Some, None, Result, ⊎_elim, inl, inr}
+use Rattle.std.specs.Prelude.{◌⊎◌, All}
 use Rattle.std.specs.Map.{lookup, keys_of}
 use Rattle.std.proofs.lemmas.Bool.{cases_Bool}
-use Rattle.std.proofs.lemmas.List.{take_all, take_more}
+use Rattle.std.proofs.lemmas.List.Elements.{All-nil}
 use Rattle.gm_value.specs.declared.values.Value.{Value}
 use Rattle.gm_value.specs.Bag.{IsIn}
-use Rattle.gm_source.specs.declared.contributions.Contribution.{Contribution}
 use Rattle.gm_source.specs.declared.faults.Fault.{Fault}
 use Rattle.gm_source.specs.declared.slots.Slot.{Slot}
 use Rattle.gm_source.specs.declared.slots.Write.{Write}
-use Rattle.gm_source.specs.Stores.{Store, slot_eq, overlaid}
-use Rattle.gm_source.specs.Faults.{least, somes}
-use Rattle.gm_source.specs.Contributions.{to_slot, value_after, slot_fault}
-use Rattle.gm_source.proofs.ContributionLaws.{slot_eq-true}
-use Rattle.gm_store.specs.Held.{Held, store_of, shape_of}
+use Rattle.gm_source.specs.Stores.{Store, slots_eq, has_slot, read, reads, overlaid}
+use Rattle.gm_source.specs.Faults.{least, somes, fault_of}
+use Rattle.gm_source.specs.Contributions.{Contribution, to_target, target_fault, target_taken, values_or, value_among, settled_store}
+use Rattle.gm_store.specs.Held.{Held, HasSlot, held_at, store_of, shape_of}
 use Rattle.gm_totals.specs.declared.pots.Pot.{Pot}
 use Rattle.gm_totals.specs.declared.totals.Totals.{Totals}
 use Rattle.gm_totals.specs.declared.totals.Closed.{Closed}
-use Rattle.gm_totals.specs.Pots.{SlotStands, PotStands}
-use Rattle.gm_totals.specs.Standing.{pot_at, slots_of, IsPotOf, StandsFor, least_with, ClosesSlot, WritesWithin, Settles}
-use Rattle.gm_totals.proofs.Leasts.{least-last, somes-append}
-use Rattle.gm_totals.proofs.Settling.{HasAll, writes_of, slot_eq-itself, own-some, writes-settle, faults-settle}
-use Rattle.gm_totals.proofs.Slots.{lookup-first}
+use Rattle.gm_totals.specs.Given.{is_several}
+use Rattle.gm_totals.specs.Pots.{TargetStands, PotStands, IsTaking, kept_values}
+use Rattle.gm_totals.specs.Standing.{keyed, pot_at, targets_of, IsPotOf, StandsFor, least_with, ClosesTarget, Sets, WritesWithin, Settles}
+use Rattle.gm_totals.proofs.Keys.{slots_eq-itself, slots_eq-same, lookup-first}
+use Rattle.gm_totals.proofs.Owners.{value_from, from-targets}
+use Rattle.gm_totals.proofs.Settling.{HasAll, own-some, store-same, read-settled, edge-overlaid, values-length, among-has, faults-settle, reads-held}
+use Rattle.gm_totals.proofs.Tuples.{drop-here, drop-past}
 use Rattle.gm_totals.proofs.Placing.{get-key, length-keys, placed-first}
 
 -- a key that a look-up finds is one of the keys
-pub lookup-in : {X : Type 0} (slot : Slot) (es : List (Slot × X)) (x : X) → lookup (slot_eq slot) es ≡ Some x → IsIn slot (keys_of es)
+pub lookup-in : {X : Type 0} (slot : List Slot) (es : List (List Slot × X)) (x : X) → lookup (slots_eq slot) es ≡ Some x → IsIn slot (keys_of es)
 lookup-in slot [] x e = absurd (apart e)
   where
     apart : None ≡ Some x → ⊥
     apart h = cc
 lookup-in slot (p ∷ es) x e =
     ⊎_elim
-    (λ (same : slot_eq slot p.0 ≡ true). inl (slot_eq-true slot p.0 same))
-    (λ (other : slot_eq slot p.0 ≡ false). inr (lookup-in slot es x (sym (ap (λ b. cond b (Some p.1) (lookup (slot_eq slot) es)) other) ∙ e)))
-    (cases_Bool (slot_eq slot p.0))
+    (λ (same : slots_eq slot p.0 ≡ true). inl (slots_eq-same slot p.0 same))
+    (λ (other : slots_eq slot p.0 ≡ false). inr (lookup-in slot es x (sym (ap (λ b. cond b (Some p.1) (lookup (slots_eq slot) es)) other) ∙ e)))
+    (cases_Bool (slots_eq slot p.0))
 
--- the slots of all pots are those that have contributions
-pub has_all : (totals : Totals) (cs : List Contribution) → StandsFor totals cs → HasAll cs (keys_of totals.pots.items)
-has_all totals cs stands slot = by (pot_at totals slot) refl (stands slot).stands
+-- the targets of all pots are those that have contributions
+pub has_all : (totals : Totals) (cs : List Contribution) → StandsFor totals cs → HasAll cs (targets_of totals)
+has_all totals cs stands slots = by (pot_at totals slots) refl (stands.stands slots)
   where
-    by : (o : Option Pot) → pot_at totals slot ≡ o → SlotStands o (to_slot slot cs) → IsIn slot (keys_of totals.pots.items) ⊎ (to_slot slot cs ≡ [])
+    by : (o : Option Pot) → pot_at totals slots ≡ o → TargetStands (is_several slots) o (to_target slots cs) → IsIn slots (targets_of totals) ⊎ (to_target slots cs ≡ [])
     by None e is = inr is
-    by (Some pot) e is = inl (lookup-in slot totals.pots.items pot e)
+    by (Some pot) e is = inl (lookup-in slots (keyed totals) pot e)
 
--- a pot that a look-up finds stands for its slot's contributions
-pub pot_stands : (totals : Totals) (cs : List Contribution) (slot : Slot) (pot : Pot) → pot_at totals slot ≡ Some pot → StandsFor totals cs → PotStands pot (to_slot slot cs)
-pot_stands totals cs slot pot is stands = subst (λ o. SlotStands o (to_slot slot cs)) is (stands slot).stands
+-- a pot that a look-up finds stands for its target's contributions
+pub pot_stands : (totals : Totals) (cs : List Contribution) (slots : List Slot) (pot : Pot) → pot_at totals slots ≡ Some pot → StandsFor totals cs
+    → PotStands (is_several slots) pot (to_target slots cs)
+pot_stands totals cs slots pot is stands = subst (λ o. TargetStands (is_several slots) o (to_target slots cs)) is (stands.stands slots)
 
--- one more fault among some
-least_some : (o : Option Fault) (os : List (Option Fault)) → least (somes (os ++ o ∷ [])) ≡ least_with o (least (somes os))
-least_some None os = ap least (somes-append os (None ∷ []) ∙ append_nil (somes os))
-  where
-    append_nil : (fs : List Fault) → fs ++ [] ≡ fs
-    append_nil [] = refl
-    append_nil (f ∷ fs) = ap (λ l. f ∷ l) (append_nil fs)
-least_some (Some f) os = ap least (somes-append os (Some f ∷ [])) ∙ least-last (somes os) f
+-- one more fault before some
+least_some : (o : Option Fault) (os : List (Option Fault)) → least (somes (o ∷ os)) ≡ least_with o (least (somes os))
+least_some None os = refl
+least_some (Some f) os = refl
 
-map-last : {A B : Type 0} (f : A → B) (xs : List A) (x : A) → map f (xs ++ x ∷ []) ≡ map f xs ++ f x ∷ []
-map-last f [] x = refl
-map-last f (y ∷ ys) x = ap (λ l. f y ∷ l) (map-last f ys x)
+-- some targets are closed: their slots hold what the first one leaves them, and the fault is the least of theirs
+pub record AreClosed (s : Store) (cs : List Contribution) (ts : List (List Slot)) (closed : Closed) : Type 0 where
+  pub writes : (slot : Slot) → read (overlaid s closed.writes.items) slot ≡ value_from s cs slot ts
+  pub fault : closed.fault ≡ least (somes (map (target_fault s cs) ts))
 
--- some slots are closed: a write for each, and the least of their faults
-pub record AreClosed (s : Store) (cs : List Contribution) (ks : List Slot) (closed : Closed) : Type 0 where
-  pub writes : closed.writes.items ≡ writes_of (value_after s cs) ks
-  pub fault : closed.fault ≡ least (somes (map (slot_fault s cs) ks))
-
--- the first slots of totals are closed
-pub record AreFirst (held : Held) (totals : Totals) (n : ℕ) (closed : Closed) : Type 0 where
-  pub slots : (edge : ℕ → ℕ → Value) (cs : List Contribution) → StandsFor totals cs → AreClosed (store_of edge held) cs (take n (keys_of totals.pots.items)) closed
+-- the targets from a number on are closed
+pub record AreLast (held : Held) (totals : Totals) (n : ℕ) (closed : Closed) : Type 0 where
+  pub targets : (edge : ℕ → ℕ → Value) (cs : List Contribution) → StandsFor totals cs → AreClosed (store_of edge held) cs (drop n (targets_of totals)) closed
   pub within : WritesWithin (shape_of held) closed
 
--- one slot more
-pub closed-more : (held : Held) (edge : ℕ → ℕ → Value) (cs : List Contribution) (ks : List Slot) (slot : Slot) (pot : Pot) (old new : Closed)
-    → AreClosed (store_of edge held) cs ks old → ClosesSlot held slot pot old new → PotStands pot (to_slot slot cs) → AreClosed (store_of edge held) cs (ks ++ slot ∷ []) new
-closed-more held edge cs ks slot pot old new are closes stands =
+-- one target more
+pub closed-more : (held : Held) (edge : ℕ → ℕ → Value) (cs : List Contribution) (ts : List (List Slot)) (slots : List Slot) (pot : Pot) (old new : Closed)
+    → AreClosed (store_of edge held) cs ts old → ClosesTarget held slots pot old new → PotStands (is_several slots) pot (to_target slots cs)
+    → AreClosed (store_of edge held) cs (slots ∷ ts) new
+closed-more held edge cs ts slots pot old new are closes stands =
     let s = store_of edge held in
     let step = closes edge cs stands in
+    let values = values_or (reads s slots) (target_taken s cs slots) in
     record {
-      writes = step.0 ∙ ap (λ ws. ws ++ record { slot = slot; value = value_after s cs slot } ∷ []) are.writes
-          ∙ sym (map-last (λ k. let w : Write = record { slot = k; value = value_after s cs k } in w) ks slot);
-      fault = step.1 ∙ ap (least_with (slot_fault s cs slot)) are.fault
-          ∙ sym (ap (λ os. least (somes os)) (map-last (slot_fault s cs) ks slot) ∙ least_some (slot_fault s cs slot) (map (slot_fault s cs) ks));
+      writes = λ slot.
+          step.0 s slot ∙ among-has slot slots values (read (overlaid s old.writes.items) slot) (read s slot) (values-length s cs slots)
+          ∙ ap (cond (has_slot slot slots) (value_among slot slots values (read s slot))) (are.writes slot);
+      fault = step.1 ∙ ap (least_with (target_fault s cs slots)) are.fault ∙ sym (least_some (target_fault s cs slots) (map (target_fault s cs) ts));
     }
 
 -- totals have no pot where they stand for no contribution
-pub no_pots : (totals : Totals) (cs : List Contribution) → StandsFor totals cs → (length totals.pots.items ≡ 0 → cs ≡ []) × (cs ≡ [] → length totals.pots.items ≡ 0)
-no_pots totals cs stands = (λ none. nothing cs (subst (λ es. HasAll cs (keys_of es)) (no_items totals.pots.items none) (has_all totals cs stands)), λ none. by totals.pots.items none (λ q. (stands q).stands))
+pub no_pots : (totals : Totals) (cs : List Contribution) → StandsFor totals cs → (keyed totals ≡ [] → cs ≡ []) × (cs ≡ [] → keyed totals ≡ [])
+no_pots totals cs stands = (λ none. nothing cs (subst (λ es. HasAll cs (keys_of es)) none (has_all totals cs stands)), λ none. by (keyed totals) none stands.stands)
   where
-    no_items : {A : Type 0} (xs : List A) → length xs ≡ 0 → xs ≡ []
-    no_items [] e = refl
-    no_items (x ∷ xs) e = absurd (omega arith)
-
     nothing : (ds : List Contribution) → HasAll ds [] → ds ≡ []
     nothing [] all = refl
-    nothing (d ∷ ds) all = ⊎_elim (λ (h : IsIn d.slot []). absurd h) (λ (e : to_slot d.slot (d ∷ ds) ≡ []). absurd (own-some d (d ∷ ds) (inl refl) e)) (all d.slot)
+    nothing (d ∷ ds) all = ⊎_elim (λ (h : IsIn d.slots []). absurd h) (λ (e : to_target d.slots (d ∷ ds) ≡ []). absurd (own-some d (d ∷ ds) (inl refl) e)) (all d.slots)
 
-    by : (es : List (Slot × Pot)) → cs ≡ [] → ((slot : Slot) → SlotStands (lookup (slot_eq slot) es) (to_slot slot cs)) → length es ≡ 0
+    by : (es : List (List Slot × Pot)) → cs ≡ [] → ((slots : List Slot) → TargetStands (is_several slots) (lookup (slots_eq slots) es) (to_target slots cs)) → es ≡ []
     by [] none all = refl
     by (e ∷ es) none all =
-        let found : SlotStands (Some e.1) (to_slot e.0 cs) = subst (λ b. SlotStands (cond b (Some e.1) (lookup (slot_eq e.0) es)) (to_slot e.0 cs)) (slot_eq-itself e.0) (all e.0) in
-        let empty : PotStands e.1 [] = subst (λ l. PotStands e.1 (to_slot e.0 l)) none found in
+        let found : TargetStands (is_several e.0) (Some e.1) (to_target e.0 cs) = subst (λ b. TargetStands (is_several e.0) (cond b (Some e.1) (lookup (slots_eq e.0) es)) (to_target e.0 cs)) (slots_eq-itself e.0) (all e.0) in
+        let empty : PotStands (is_several e.0) e.1 [] = subst (λ (l : List Contribution). PotStands (is_several e.0) e.1 (to_target e.0 l)) none found in
         absurd empty.reduce
 
--- the pot at a place is that of its slot
-pub pot-of : (totals : Totals) (i : ℕ) (p : Slot × Pot) → i < length totals.pots.items → IsPotOf totals (get_or totals.pots.items i p).0 i
-pot-of totals i p h = (omega (arith, h, length-keys totals.pots.items), λ d. get-key totals.pots.items i d p h)
+-- the pot at a place is that of its target
+pub pot-of : (totals : Totals) (i : ℕ) (p : List Slot × Pot) → i < length (keyed totals) → IsPotOf totals (get_or (keyed totals) i p).0 i
+pot-of totals i p h = (omega (arith, h, length-keys (keyed totals)), λ d. get-key (keyed totals) i d p h)
+
+-- nothing is closed yet
+pub closed-none : (held : Held) (totals : Totals) (n : ℕ) (closed : Closed) → length (keyed totals) ≤ n → closed.writes.items ≡ [] → closed.fault ≡ None → AreLast held totals n closed
+closed-none held totals n closed past writes fault =
+    let behind : drop n (targets_of totals) ≡ [] = drop-past (targets_of totals) n (omega (arith, past, length-keys (keyed totals))) in
+    record {
+      targets = λ edge cs stands. subst (λ ts. AreClosed (store_of edge held) cs ts closed) (sym behind) (record { writes = λ slot. ap (λ ws. read (overlaid (store_of edge held) ws) slot) writes; fault = fault });
+      within = subst (All (λ (w : Write). HasSlot (shape_of held) w.slot)) (sym writes) (All-nil (λ (w : Write). HasSlot (shape_of held) w.slot));
+    }
 
 -- what is found among entries is found behind one more
-found-behind : {X : Type 0} (q : Slot) (e : Slot × X) (es : List (Slot × X)) → (x : X) × (lookup (slot_eq q) es ≡ Some x) → (x : X) × (lookup (slot_eq q) (e ∷ es) ≡ Some x)
-found-behind {X} q e es rest = by (slot_eq q e.0) refl
+found-behind : {X : Type 0} (q : List Slot) (e : List Slot × X) (es : List (List Slot × X)) → (x : X) × (lookup (slots_eq q) es ≡ Some x) → (x : X) × (lookup (slots_eq q) (e ∷ es) ≡ Some x)
+found-behind {X} q e es rest = by (slots_eq q e.0) refl
   where
-    by : (b : Bool) → slot_eq q e.0 ≡ b → (x : X) × (lookup (slot_eq q) (e ∷ es) ≡ Some x)
-    by true is = (e.1, ap (λ b. cond b (Some e.1) (lookup (slot_eq q) es)) is)
-    by false is = (rest.0, ap (λ b. cond b (Some e.1) (lookup (slot_eq q) es)) is ∙ rest.1)
+    by : (b : Bool) → slots_eq q e.0 ≡ b → (x : X) × (lookup (slots_eq q) (e ∷ es) ≡ Some x)
+    by true is = (e.1, ap (λ b. cond b (Some e.1) (lookup (slots_eq q) es)) is)
+    by false is = (rest.0, ap (λ b. cond b (Some e.1) (lookup (slots_eq q) es)) is ∙ rest.1)
 
 -- the slot of a pot has one
-pub has-pot : {X : Type 0} (es : List (Slot × X)) (i : ℕ) (p : Slot × X) → i < length es → (x : X) × (lookup (slot_eq (get_or es i p).0) es ≡ Some x)
+pub has-pot : {X : Type 0} (es : List (List Slot × X)) (i : ℕ) (p : List Slot × X) → i < length es → (x : X) × (lookup (slots_eq (get_or es i p).0) es ≡ Some x)
 has-pot [] i p h = absurd (empty (omega (arith, h)))
   where
     empty : ⊥ → ⊥
     empty e = e
-has-pot (e ∷ es) zero p h = (e.1, ap (λ b. cond b (Some e.1) (lookup (slot_eq e.0) es)) (slot_eq-itself e.0))
+has-pot (e ∷ es) zero p h = (e.1, ap (λ b. cond b (Some e.1) (lookup (slots_eq e.0) es)) (slots_eq-itself e.0))
 has-pot (e ∷ es) (suc i) p h = let less : i < length es = omega (arith, h) in found-behind (get_or es i p).0 e es (has-pot es i p less)
 
--- the next slot of totals is closed
-pub slots-next : (held : Held) (totals : Totals) (i : ℕ) (p : Slot × Pot) (old new : Closed) → i < length totals.pots.items → AreFirst held totals i old
-    → ClosesSlot held (get_or totals.pots.items i p).0 (get_or totals.pots.items i p).1 old new
-    → (WritesWithin (shape_of held) old → WritesWithin (shape_of held) new) → AreFirst held totals (i + 1) new
-slots-next held totals i p old new h are closes within =
-    let slot = (get_or totals.pots.items i p).0 in
+-- the next target of totals is closed
+pub targets-next : (held : Held) (totals : Totals) (i : ℕ) (p : List Slot × Pot) (old new : Closed) → i < length (keyed totals) → AreLast held totals (i + 1) old
+    → ClosesTarget held (get_or (keyed totals) i p).0 (get_or (keyed totals) i p).1 old new
+    → (WritesWithin (shape_of held) old → WritesWithin (shape_of held) new) → AreLast held totals i new
+targets-next held totals i p old new h are closes within =
+    let slots = (get_or (keyed totals) i p).0 in
     let at = pot-of totals i p h in
-    let longer : take (i + 1) (slots_of totals) ≡ take i (slots_of totals) ++ slot ∷ [] = take_more (slots_of totals) i slot at.0 ∙ ap (λ k. take i (slots_of totals) ++ k ∷ []) (at.1 slot) in
+    let longer : drop i (targets_of totals) ≡ slots ∷ drop (i + 1) (targets_of totals) = drop-here (targets_of totals) i slots at.0 ∙ ap (λ k. k ∷ drop (i + 1) (targets_of totals)) (at.1 slots) in
     record {
-      slots = λ edge cs stands.
-          let found : pot_at totals slot ≡ Some (get_or totals.pots.items i p).1 = lookup-first slot totals.pots.items i p (placed-first totals (λ q. (stands q).placed) slot i at) in
-          subst (λ ks. AreClosed (store_of edge held) cs ks new) (sym longer)
-          (closed-more held edge cs (take i (slots_of totals)) slot (get_or totals.pots.items i p).1 old new (are.slots edge cs stands) closes
-          (pot_stands totals cs slot (get_or totals.pots.items i p).1 found stands));
+      targets = λ edge cs stands.
+          let found : pot_at totals slots ≡ Some (get_or (keyed totals) i p).1 = lookup-first slots (keyed totals) i p (placed-first totals stands.placed slots i at) in
+          subst (λ ts. AreClosed (store_of edge held) cs ts new) (sym longer)
+          (closed-more held edge cs (drop (i + 1) (targets_of totals)) slots (get_or (keyed totals) i p).1 old new (are.targets edge cs stands) closes
+          (pot_stands totals cs slots (get_or (keyed totals) i p).1 found stands));
       within = within are.within;
     }
 
--- all slots of totals are closed
-pub all-settled : (held : Held) (totals : Totals) (i : ℕ) (closed : Closed) → length totals.pots.items ≤ i → AreFirst held totals i closed → Settles held totals closed
-all-settled held totals i closed all are =
-    let keys = slots_of totals in
-    let whole : take i keys ≡ keys = take_all i keys (omega (arith, all, length-keys totals.pots.items)) in
+-- all targets of totals are closed
+pub all-settled : (held : Held) (totals : Totals) (closed : Closed) → AreLast held totals 0 closed → Settles held totals closed
+all-settled held totals closed are =
+    let keys = targets_of totals in
     record {
-      store = λ edge cs stands. let s = store_of edge held in
-          ap (overlaid s) ((are.slots edge cs stands).writes ∙ ap (writes_of (value_after s cs)) whole) ∙ writes-settle s cs keys (has_all totals cs stands);
-      fault = λ edge cs stands. let s = store_of edge held in
-          (are.slots edge cs stands).fault ∙ ap (λ ks. least (somes (map (slot_fault s cs) ks))) whole ∙ faults-settle s cs keys (has_all totals cs stands);
+      store = λ edge cs stands.
+          let s = store_of edge held in
+          store-same (overlaid s closed.writes.items) (settled_store s cs)
+          (λ slot. (are.targets edge cs stands).writes slot ∙ from-targets s cs slot keys (stands.owners slot) ∙ sym (read-settled s cs slot))
+          (edge-overlaid s closed.writes.items);
+      fault = λ edge cs stands. let s = store_of edge held in (are.targets edge cs stands).fault ∙ faults-settle s cs keys (has_all totals cs stands);
     }
+
+-- a target is closed by what a taking of its contributions answers
+pub closes-by : (held : Held) (slots : List Slot) (pot : Pot) (old new : Closed) (answer : Result (List Value) Fault) (hs : List Value) → hs ≡ map (held_at held) slots
+    → ((cs : List Contribution) → PotStands (is_several slots) pot cs → IsTaking hs cs answer) → Sets slots (kept_values hs answer) old.writes.items new.writes.items
+    → new.fault ≡ least_with (fault_of answer) old.fault → ClosesTarget held slots pot old new
+closes-by held slots pot old new answer hs is takes sets fault edge cs stands =
+    let s = store_of edge held in
+    let same : hs ≡ reads s slots = is ∙ sym (reads-held edge held slots) in
+    let taking : IsTaking (reads s slots) (to_target slots cs) answer = subst (λ (l : List Value). IsTaking l (to_target slots cs) answer) same (takes (to_target slots cs) stands) in
+    let all : Sets slots (kept_values (reads s slots) answer) old.writes.items new.writes.items = subst (λ (l : List Value). Sets slots (kept_values l answer) old.writes.items new.writes.items) same sets in (
+      subst (λ (vs : List Value). Sets slots vs old.writes.items new.writes.items) (sym taking.values) all,
+      fault ∙ ap (λ (o : Option Fault). least_with o old.fault) (sym taking.fault),
+    )

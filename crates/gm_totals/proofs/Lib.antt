@@ -3,8 +3,10 @@ pub mod Joining
 pub mod Gaining
 pub mod Takings
 pub mod Potting
+pub mod Keys
+pub mod Owners
+pub mod Tuples
 pub mod Settling
-pub mod Slots
 pub mod Keeping
 pub mod Placing
 pub mod Giving

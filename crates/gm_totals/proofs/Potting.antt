@@ -1,16 +1,17 @@
 -- A pot with one more contribution, and what all pots stand for.
-use Rattle.std.proofs.Common.{◌≡◌, ℕ, ◌≤◌, Bool, true, false, cond, List, [], ◌∷◌, ◌++◌, refl, sym, ap, subst, ◌∙◌, arith, Option, Some}
+use Rattle.std.proofs.Common.{◌≡◌, ℕ, ◌≤◌, Bool, true, false, cond, List, [], ◌∷◌, ◌++◌, refl, sym, ap, subst, ◌∙◌, arith, Option, Some, None}
 use Rattle.std.specs.Prelude.{nat_eq, if◌then◌else◌}
 use Rattle.std.proofs.lemmas.List.Elements.{filter-append}
 use Rattle.gm_value.specs.declared.reductions.Reduce.{Reduce}
 use Rattle.gm_value.specs.Taking.{of_rank}
-use Rattle.gm_source.specs.declared.contributions.Contribution.{Contribution}
 use Rattle.gm_source.specs.declared.slots.Slot.{Slot}
-use Rattle.gm_source.specs.Stores.{slot_eq}
-use Rattle.gm_source.specs.Contributions.{statement_of, to_slot}
-use Rattle.gm_source.proofs.ContributionLaws.{slot_eq-true}
+use Rattle.gm_source.specs.Stores.{slots_eq}
+use Rattle.gm_source.specs.Contributions.{Contribution, statement_of, to_target}
 use Rattle.gm_totals.specs.declared.pots.Pot.{Pot}
-use Rattle.gm_totals.specs.Pots.{RankStands, entry_at, with_own, Gains, entries_of, BeginBy, PotStands, SlotStands, PotGains}
+use Rattle.gm_totals.specs.Pots.{RankStands, Joins, AreFrom, entry_at, with_own, Gains, entries_of, BeginBy, PotStands, TargetStands, PotGains}
+use Rattle.gm_totals.specs.Given.{is_several}
+use Rattle.gm_totals.proofs.Gaining.{gains-end}
+use Rattle.gm_totals.proofs.Keys.{slots_eq-same}
 
 -- the contributions of a statement with one more
 of_rank-more : (s : ℕ) (cs : List Contribution) (c : Contribution) → of_rank statement_of s (cs ++ c ∷ []) ≡ with_own s (of_rank statement_of s cs) c
@@ -29,37 +30,50 @@ begin-more r [] c begin = absurd begin
 begin-more r (x ∷ cs) c begin = begin
 
 -- a pot with one more
-pub pot-more : (old new : Pot) (c : Contribution) → new.reduce ≡ old.reduce → Gains old.reduce (entries_of old) (entries_of new) c → PotGains (Some old) new c
-pot-more old new c by gains cs stands =
+pub pot-more : (several : Bool) (old new : Pot) (c : Contribution) → new.reduce ≡ old.reduce → Gains several old.reduce (entries_of old) (entries_of new) c → PotGains several (Some old) new c
+pot-more several old new c by gains cs stands =
     let more = gains 0 stands.ascending in
     let low : 0 ≤ statement_of c = omega arith in
     record {
       reduce = subst (λ r. BeginBy r (cs ++ c ∷ [])) (sym by) (begin-more old.reduce cs c stands.reduce);
       ascending = more.0 low;
-      ranks = λ s. subst (λ r. RankStands r (entry_at s (entries_of new)) (of_rank statement_of s (cs ++ c ∷ []))) (sym by)
-          (subst (RankStands old.reduce (entry_at s (entries_of new))) (sym (of_rank-more s cs c)) (more.1 s (of_rank statement_of s cs) (stands.ranks s)));
+      ranks = λ s. subst (λ r. RankStands several r (entry_at s (entries_of new)) (of_rank statement_of s (cs ++ c ∷ []))) (sym by)
+          (subst (RankStands several old.reduce (entry_at s (entries_of new))) (sym (of_rank-more s cs c)) (more.1 s (of_rank statement_of s cs) (stands.ranks s)));
     }
 
--- the contributions to a slot with one more
-to_slot-more : (slot : Slot) (cs : List Contribution) (c : Contribution)
-    → to_slot slot (cs ++ c ∷ []) ≡ to_slot slot cs ++ cond (slot_eq slot c.slot) (c ∷ []) []
-to_slot-more slot cs c = filter-append (λ (x : Contribution). slot_eq slot x.slot) cs (c ∷ [])
+-- a pot of one contribution
+pub pot-first : (several : Bool) (pot : Pot) (c : Contribution) → pot.more.items ≡ [] → c.reduce ≡ pot.reduce → Joins several pot.reduce None c pot.first → PotGains several None pot c
+pot-first several pot c more by joins cs none =
+    let gains = gains-end several pot.reduce c pot.first joins 0 tt in
+    let low : 0 ≤ statement_of c = omega arith in
+    let alone : entries_of pot ≡ pot.first ∷ [] = ap (λ es. pot.first ∷ es) more in
+    subst (λ (l : List Contribution). PotStands several pot (l ++ c ∷ [])) (sym none) (record {
+      reduce = by;
+      ascending = subst (AreFrom 0) (sym alone) (gains.0 low);
+      ranks = λ s. subst (λ es. RankStands several pot.reduce (entry_at s es) (of_rank statement_of s (c ∷ []))) (sym alone) (gains.1 s [] refl);
+    })
 
 append_none : (xs : List Contribution) → xs ++ [] ≡ xs
 append_none [] = refl
 append_none (x ∷ xs) = ap (λ l. x ∷ l) (append_none xs)
 
--- what the pots of all slots stand for, with one more contribution
-pub slots-more : (old new : Slot → Option Pot) (pot : Pot) (c : Contribution) → PotGains (old c.slot) pot c
-    → ((slot : Slot) → new slot ≡ cond (slot_eq slot c.slot) (Some pot) (old slot))
-    → (cs : List Contribution) → ((slot : Slot) → SlotStands (old slot) (to_slot slot cs)) → (slot : Slot) → SlotStands (new slot) (to_slot slot (cs ++ c ∷ []))
-slots-more old new pot c gains is cs stands slot =
-    subst (λ o. SlotStands o (to_slot slot (cs ++ c ∷ []))) (sym (is slot))
-    (subst (SlotStands (cond (slot_eq slot c.slot) (Some pot) (old slot))) (sym (to_slot-more slot cs c)) (by (slot_eq slot c.slot) refl))
+-- the contributions to a target with one more
+to_target-more : (slots : List Slot) (cs : List Contribution) (c : Contribution)
+    → to_target slots (cs ++ c ∷ []) ≡ to_target slots cs ++ cond (slots_eq slots c.slots) (c ∷ []) []
+to_target-more slots cs c = filter-append (λ (x : Contribution). slots_eq slots x.slots) cs (c ∷ [])
+
+-- what the pots of all targets stand for, with one more contribution
+pub targets-more : (old new : List Slot → Option Pot) (pot : Pot) (c : Contribution) → PotGains (is_several c.slots) (old c.slots) pot c
+    → ((slots : List Slot) → new slots ≡ cond (slots_eq slots c.slots) (Some pot) (old slots))
+    → (cs : List Contribution) → ((slots : List Slot) → TargetStands (is_several slots) (old slots) (to_target slots cs)) → (slots : List Slot)
+    → TargetStands (is_several slots) (new slots) (to_target slots (cs ++ c ∷ []))
+targets-more old new pot c gains is cs stands slots =
+    subst (λ o. TargetStands (is_several slots) o (to_target slots (cs ++ c ∷ []))) (sym (is slots))
+    (subst (TargetStands (is_several slots) (cond (slots_eq slots c.slots) (Some pot) (old slots))) (sym (to_target-more slots cs c)) (by (slots_eq slots c.slots) refl))
   where
-    by : (b : Bool) → slot_eq slot c.slot ≡ b → SlotStands (cond b (Some pot) (old slot)) (to_slot slot cs ++ cond b (c ∷ []) [])
+    by : (b : Bool) → slots_eq slots c.slots ≡ b → TargetStands (is_several slots) (cond b (Some pot) (old slots)) (to_target slots cs ++ cond b (c ∷ []) [])
     by true e =
-        let same : slot ≡ c.slot = slot_eq-true slot c.slot e in
-        let here : PotStands pot (to_slot c.slot cs ++ c ∷ []) = gains (to_slot c.slot cs) (stands c.slot) in
-        subst (λ s. PotStands pot (to_slot s cs ++ c ∷ [])) (sym same) here
-    by false e = subst (SlotStands (old slot)) (sym (append_none (to_slot slot cs))) (stands slot)
+        let same : slots ≡ c.slots = slots_eq-same slots c.slots e in
+        let here : PotStands (is_several c.slots) pot (to_target c.slots cs ++ c ∷ []) = gains (to_target c.slots cs) (stands c.slots) in
+        subst (λ (s : List Slot). PotStands (is_several s) pot (to_target s cs ++ c ∷ [])) (sym same) here
+    by false e = subst (TargetStands (is_several slots) (old slots)) (sym (append_none (to_target slots cs))) (stands slots)

@@ -1,5 +1,5 @@
 -- Taking over ranks with gaps is closing the entries one after another.
-use Rattle.std.proofs.Common.{◌≡◌, ℕ, zero, suc, ◌+◌, ◌<◌, ◌≤◌, false, cond, List, [], ◌∷◌, ◌++◌, length, take, drop, get_or, map, refl, sym, ap, subst, ◌∙◌, arith, Option, Some, None, Ok, Err, ⊎_elim}
+use Rattle.std.proofs.Common.{◌≡◌, ℕ, zero, suc, ◌+◌, ◌<◌, ◌≤◌, Bool, false, cond, List, [], ◌∷◌, ◌++◌, length, take, drop, get_or, map, refl, sym, ap, subst, ◌∙◌, arith, Option, Some, None, Ok, Err, ⊎_elim}
 use Rattle.std.specs.Prelude.{nat_eq, if◌then◌else◌}
 use Rattle.std.proofs.lemmas.Bool.{cases_lt, ne_eqb, eq-eqb}
 use Rattle.std.proofs.lemmas.List.{take_more}
@@ -7,9 +7,8 @@ use Rattle.gm_value.specs.declared.values.Value.{Value}
 use Rattle.gm_value.specs.declared.reductions.Reduce.{Reduce}
 use Rattle.gm_value.specs.Taking.{of_rank, then_take, at_rank, taken_bag, taken}
 use Rattle.gm_value.proofs.TakingLaws.{then_take-ok}
-use Rattle.gm_source.specs.declared.contributions.Contribution.{Contribution}
 use Rattle.gm_source.specs.declared.faults.Fault.{Fault}
-use Rattle.gm_source.specs.Contributions.{statement_of, close_by, statement_bound, taken_onto, value_or, fault_in}
+use Rattle.gm_source.specs.Contributions.{Contribution, statement_of, close_by, statement_bound, taken_onto, values_or, fault_in}
 use Rattle.gm_source.specs.Faults.{least, total_fault}
 use Rattle.gm_totals.specs.declared.entries.Entry.{Entry}
 use Rattle.gm_totals.specs.declared.pots.Pot.{Pot}
@@ -114,67 +113,67 @@ bound-none s (c ∷ cs) h =
     let other : nat_eq (statement_of c) s ≡ false = ne_eqb (statement_of c) s (λ is. omega arith) in
     ap (λ b. cond b (c ∷ of_rank statement_of s cs) (of_rank statement_of s cs)) other ∙ bound-none s cs rest
 
-taken_onto-by : (r : Reduce) (held : Value) (cs : List Contribution) → BeginBy r cs → taken_onto held cs ≡ taken statement_of (close_by r) (statement_bound cs) held cs
+taken_onto-by : (r : Reduce) (held : List Value) (cs : List Contribution) → BeginBy r cs → taken_onto held cs ≡ taken statement_of (close_by r) (statement_bound cs) held cs
 taken_onto-by r held [] begin = absurd begin
 taken_onto-by r held (c ∷ cs) begin = ap (λ x. taken statement_of (close_by x) (statement_bound (c ∷ cs)) held (c ∷ cs)) begin
 
 -- an entry stands for some contributions
-stands-some : (r : Reduce) (e : Entry) (bag : List Contribution) → TotalStands r e bag → bag ≡ [] → ⊥
-stands-some r e bag is none = apart (sym (ap (λ b. least (map (λ (c : Contribution). total_fault c.total) b)) none) ∙ is.fault)
+stands-some : (several : Bool) (r : Reduce) (e : Entry) (bag : List Contribution) → TotalStands several r e bag → bag ≡ [] → ⊥
+stands-some several r e bag is none = apart (sym (ap (λ b. least (map (λ (c : Contribution). total_fault c.total) b)) none) ∙ is.fault)
   where
     apart : {f : Fault} → None ≡ Some f → ⊥
     apart h = cc
 
-module _ (pot : Pot) (held : Value) (cs : List Contribution) (stands : PotStands pot cs) where
+module _ (several : Bool) (pot : Pot) (held : List Value) (cs : List Contribution) (stands : PotStands several pot cs) where
   -- what is held after some entries were closed
-  abbrev pub Upto : List Entry → Value → Type 0
+  abbrev pub Upto : List Entry → List Value → Type 0
   Upto xs v = taken statement_of (close_by pot.reduce) (after 0 xs) held cs ≡ Ok v
 
   -- the next entry is closed
-  pub upto-next : (xs : List Entry) (e : Entry) (ys : List Entry) (v : Value) (o : Option Value) → entries_of pot ≡ xs ++ e ∷ ys → Upto xs v
-      → ((bag : List Contribution) → TotalStands pot.reduce e bag → o ≡ close_by pot.reduce v bag)
+  pub upto-next : (xs : List Entry) (e : Entry) (ys : List Entry) (v : List Value) (o : Option (List Value)) → entries_of pot ≡ xs ++ e ∷ ys → Upto xs v
+      → ((bag : List Contribution) → TotalStands several pot.reduce e bag → o ≡ close_by pot.reduce v bag)
       → taken statement_of (close_by pot.reduce) (suc e.statement) held cs ≡ at_rank e.statement o
   upto-next xs e ys v o split upto closes =
       let r = pot.reduce in
       let from : AreFrom 0 (xs ++ e ∷ ys) = subst (AreFrom 0) split stands.ascending in
-      let here : TotalStands r e (of_rank statement_of e.statement cs) =
-      subst (λ q. RankStands r q (of_rank statement_of e.statement cs)) (ap (entry_at e.statement) split ∙ entry_at-here 0 xs e ys from) (stands.ranks e.statement) in
+      let here : TotalStands several r e (of_rank statement_of e.statement cs) =
+      subst (λ q. RankStands several r q (of_rank statement_of e.statement cs)) (ap (entry_at e.statement) split ∙ entry_at-here 0 xs e ys from) (stands.ranks e.statement) in
       let to = gap statement_of (close_by r) held cs (after 0 xs) e.statement (after-next 0 xs e ys from)
-      (λ s above below. subst (λ q. RankStands r q (of_rank statement_of s cs)) (ap (entry_at s) split ∙ entry_at-gap s 0 xs e ys from above below) (stands.ranks s)) in
-      next statement_of (close_by r) held cs e.statement v (to ∙ upto) (stands-some r e (of_rank statement_of e.statement cs) here)
+      (λ s above below. subst (λ q. RankStands several r q (of_rank statement_of s cs)) (ap (entry_at s) split ∙ entry_at-gap s 0 xs e ys from above below) (stands.ranks s)) in
+      next statement_of (close_by r) held cs e.statement v (to ∙ upto) (stands-some several r e (of_rank statement_of e.statement cs) here)
       ∙ ap (at_rank e.statement) (sym (closes (of_rank statement_of e.statement cs) here))
 
-  pub upto-more : (xs : List Entry) (e : Entry) (ys : List Entry) (v w : Value) → entries_of pot ≡ xs ++ e ∷ ys → Upto xs v
-      → ((bag : List Contribution) → TotalStands pot.reduce e bag → Some w ≡ close_by pot.reduce v bag) → Upto (xs ++ e ∷ []) w
+  pub upto-more : (xs : List Entry) (e : Entry) (ys : List Entry) (v w : List Value) → entries_of pot ≡ xs ++ e ∷ ys → Upto xs v
+      → ((bag : List Contribution) → TotalStands several pot.reduce e bag → Some w ≡ close_by pot.reduce v bag) → Upto (xs ++ e ∷ []) w
   upto-more xs e ys v w split upto closes =
       ap (λ n. taken statement_of (close_by pot.reduce) n held cs) (after-last 0 xs e) ∙ upto-next xs e ys v (Some w) split upto closes
 
   -- all entries were closed
-  pub taking-ok : (v : Value) → Upto (entries_of pot) v → IsTaking held cs (Ok v)
+  pub taking-ok : (v : List Value) → Upto (entries_of pot) v → IsTaking held cs (Ok v)
   taking-ok v upto =
       let r = pot.reduce in
       let all : taken_onto held cs ≡ Ok v = taken_onto-by r held cs stands.reduce
       ∙ bounds statement_of (close_by r) held cs (statement_bound cs) (after 0 (entries_of pot)) (λ s above. bound-none s cs above)
-      (λ s above. subst (λ q. RankStands r q (of_rank statement_of s cs)) (entry_at-end s 0 (entries_of pot) stands.ascending above) (stands.ranks s))
+      (λ s above. subst (λ q. RankStands several r q (of_rank statement_of s cs)) (entry_at-end s 0 (entries_of pot) stands.ascending above) (stands.ranks s))
       ∙ upto in
-      record { value = ap (value_or held) all; fault = ap (fault_in cs) all }
+      record { values = ap (values_or held) all; fault = ap (fault_in cs) all }
 
   -- an entry does not fit
-  pub taking-err : (xs : List Entry) (e : Entry) (ys : List Entry) (v : Value) (f : Fault) → entries_of pot ≡ xs ++ e ∷ ys → Upto xs v
-      → ((bag : List Contribution) → TotalStands pot.reduce e bag → None ≡ close_by pot.reduce v bag) → f ≡ total_fault e.key → IsTaking held cs (Err f)
+  pub taking-err : (xs : List Entry) (e : Entry) (ys : List Entry) (v : List Value) (f : Fault) → entries_of pot ≡ xs ++ e ∷ ys → Upto xs v
+      → ((bag : List Contribution) → TotalStands several pot.reduce e bag → None ≡ close_by pot.reduce v bag) → f ≡ total_fault e.key → IsTaking held cs (Err f)
   taking-err xs e ys v f split upto closes is =
       let r = pot.reduce in
       let from : AreFrom 0 (xs ++ e ∷ ys) = subst (AreFrom 0) split stands.ascending in
-      let here : TotalStands r e (of_rank statement_of e.statement cs) =
-      subst (λ q. RankStands r q (of_rank statement_of e.statement cs)) (ap (entry_at e.statement) split ∙ entry_at-here 0 xs e ys from) (stands.ranks e.statement) in
+      let here : TotalStands several r e (of_rank statement_of e.statement cs) =
+      subst (λ q. RankStands several r q (of_rank statement_of e.statement cs)) (ap (entry_at e.statement) split ∙ entry_at-here 0 xs e ys from) (stands.ranks e.statement) in
       let within : suc e.statement ≤ statement_bound cs =
       ⊎_elim
       (λ (less : e.statement < statement_bound cs). omega arith)
-      (λ (above : statement_bound cs ≤ e.statement). absurd (stands-some r e (of_rank statement_of e.statement cs) here (bound-none e.statement cs above)))
+      (λ (above : statement_bound cs ≤ e.statement). absurd (stands-some several r e (of_rank statement_of e.statement cs) here (bound-none e.statement cs above)))
       (cases_lt e.statement (statement_bound cs)) in
       let all : taken_onto held cs ≡ Err e.statement = taken_onto-by r held cs stands.reduce
       ∙ stays statement_of (close_by r) held cs (suc e.statement) (statement_bound cs) e.statement within (upto-next xs e ys v None split upto closes) in
-      record { value = ap (value_or held) all; fault = ap (fault_in cs) all ∙ here.fault ∙ ap Some (sym is) }
+      record { values = ap (values_or held) all; fault = ap (fault_in cs) all ∙ here.fault ∙ ap Some (sym is) }
 
 -- a list parted at one of its elements
 split_at : {A : Type 0} (xs : List A) (i : ℕ) (d : A) → i < length xs → xs ≡ take i xs ++ get_or xs i d ∷ drop (suc i) xs
@@ -189,40 +188,40 @@ take_all (x ∷ xs) zero h = absurd (omega arith)
 take_all (x ∷ xs) (suc i) h = ap (λ l. x ∷ l) (take_all xs i (omega arith))
 
 -- a pot's entries closed one after another, as a loop does
-module _ (pot : Pot) (held : Value) (cs : List Contribution) (stands : PotStands pot cs) where
-  pub first-more : (o : Option Value) (w : Value) → ((bag : List Contribution) → TotalStands pot.reduce pot.first bag → o ≡ close_by pot.reduce held bag) → o ≡ Some w
-      → Upto pot held cs stands (pot.first ∷ []) w
-  first-more o w closes is = upto-more pot held cs stands [] pot.first pot.more.items held w refl refl (λ bag h. sym is ∙ closes bag h)
+module _ (several : Bool) (pot : Pot) (held : List Value) (cs : List Contribution) (stands : PotStands several pot cs) where
+  pub first-more : (o : Option (List Value)) (w : List Value) → ((bag : List Contribution) → TotalStands several pot.reduce pot.first bag → o ≡ close_by pot.reduce held bag) → o ≡ Some w
+      → Upto several pot held cs stands (pot.first ∷ []) w
+  first-more o w closes is = upto-more several pot held cs stands [] pot.first pot.more.items held w refl refl (λ bag h. sym is ∙ closes bag h)
 
-  pub first-err : (o : Option Value) (f : Fault) → ((bag : List Contribution) → TotalStands pot.reduce pot.first bag → o ≡ close_by pot.reduce held bag) → o ≡ None
+  pub first-err : (o : Option (List Value)) (f : Fault) → ((bag : List Contribution) → TotalStands several pot.reduce pot.first bag → o ≡ close_by pot.reduce held bag) → o ≡ None
       → f ≡ total_fault pot.first.key → IsTaking held cs (Err f)
-  first-err o f closes is fault = taking-err pot held cs stands [] pot.first pot.more.items held f refl refl (λ bag h. sym is ∙ closes bag h) fault
+  first-err o f closes is fault = taking-err several pot held cs stands [] pot.first pot.more.items held f refl refl (λ bag h. sym is ∙ closes bag h) fault
 
   parted : (items : List Entry) (i : ℕ) (d : Entry) → items ≡ pot.more.items → i < length items
       → entries_of pot ≡ (pot.first ∷ take i pot.more.items) ++ get_or items i d ∷ drop (suc i) pot.more.items
   parted items i d same within =
       ap (λ l. pot.first ∷ l) (subst (λ l. l ≡ take i l ++ get_or items i d ∷ drop (suc i) l) same (split_at items i d within))
 
-  pub loop-more : (items : List Entry) (i : ℕ) (d : Entry) (v w : Value) (o : Option Value) → items ≡ pot.more.items → i < length items
-      → Upto pot held cs stands (pot.first ∷ take i pot.more.items) v
-      → ((bag : List Contribution) → TotalStands pot.reduce (get_or items i d) bag → o ≡ close_by pot.reduce v bag) → o ≡ Some w
-      → Upto pot held cs stands (pot.first ∷ take (i + 1) pot.more.items) w
+  pub loop-more : (items : List Entry) (i : ℕ) (d : Entry) (v w : List Value) (o : Option (List Value)) → items ≡ pot.more.items → i < length items
+      → Upto several pot held cs stands (pot.first ∷ take i pot.more.items) v
+      → ((bag : List Contribution) → TotalStands several pot.reduce (get_or items i d) bag → o ≡ close_by pot.reduce v bag) → o ≡ Some w
+      → Upto several pot held cs stands (pot.first ∷ take (i + 1) pot.more.items) w
   loop-more items i d v w o same within upto closes is =
       let e = get_or items i d in
       let longer : take (i + 1) pot.more.items ≡ take i pot.more.items ++ e ∷ [] = subst (λ l. take (i + 1) l ≡ take i l ++ e ∷ []) same (take_more items i d within) in
       ap (λ l. taken statement_of (close_by pot.reduce) (after 0 (pot.first ∷ l)) held cs) longer
-      ∙ upto-more pot held cs stands (pot.first ∷ take i pot.more.items) e (drop (suc i) pot.more.items) v w (parted items i d same within) upto (λ bag h. sym is ∙ closes bag h)
+      ∙ upto-more several pot held cs stands (pot.first ∷ take i pot.more.items) e (drop (suc i) pot.more.items) v w (parted items i d same within) upto (λ bag h. sym is ∙ closes bag h)
 
-  pub loop-err : (items : List Entry) (i : ℕ) (d : Entry) (v : Value) (o : Option Value) (f : Fault) → items ≡ pot.more.items → i < length items
-      → Upto pot held cs stands (pot.first ∷ take i pot.more.items) v
-      → ((bag : List Contribution) → TotalStands pot.reduce (get_or items i d) bag → o ≡ close_by pot.reduce v bag) → o ≡ None
+  pub loop-err : (items : List Entry) (i : ℕ) (d : Entry) (v : List Value) (o : Option (List Value)) (f : Fault) → items ≡ pot.more.items → i < length items
+      → Upto several pot held cs stands (pot.first ∷ take i pot.more.items) v
+      → ((bag : List Contribution) → TotalStands several pot.reduce (get_or items i d) bag → o ≡ close_by pot.reduce v bag) → o ≡ None
       → f ≡ total_fault (get_or items i d).key → IsTaking held cs (Err f)
   loop-err items i d v o f same within upto closes is fault =
-      taking-err pot held cs stands (pot.first ∷ take i pot.more.items) (get_or items i d) (drop (suc i) pot.more.items) v f (parted items i d same within) upto
+      taking-err several pot held cs stands (pot.first ∷ take i pot.more.items) (get_or items i d) (drop (suc i) pot.more.items) v f (parted items i d same within) upto
       (λ bag h. sym is ∙ closes bag h) fault
 
-  pub loop-ok : (items : List Entry) (i : ℕ) (v : Value) → items ≡ pot.more.items → length items ≤ i
-      → Upto pot held cs stands (pot.first ∷ take i pot.more.items) v → IsTaking held cs (Ok v)
+  pub loop-ok : (items : List Entry) (i : ℕ) (v : List Value) → items ≡ pot.more.items → length items ≤ i
+      → Upto several pot held cs stands (pot.first ∷ take i pot.more.items) v → IsTaking held cs (Ok v)
   loop-ok items i v same past upto =
       let all : take i pot.more.items ≡ pot.more.items = take_all pot.more.items i (subst (λ l. length l ≤ i) same past) in
-      taking-ok pot held cs stands v (subst (λ l. Upto pot held cs stands (pot.first ∷ l) v) all upto)
+      taking-ok several pot held cs stands v (subst (λ l. Upto several pot held cs stands (pot.first ∷ l) v) all upto)

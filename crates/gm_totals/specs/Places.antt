@@ -1,5 +1,5 @@
 -- Where the pots of slots stand: each slot has a cell, and the cells of a row are places.
-use Rattle.std.specs.Prelude.{◌≡◌, ℕ, suc, List, [], map, if◌then◌else◌, slice_index_or}
+use Rattle.std.specs.Prelude.{◌≡◌, ℕ, suc, List, [], ◌∷◌, map, if◌then◌else◌, slice_index_or}
 use Rattle.gm_source.specs.declared.slots.Slot.{Slot}
 use Rattle.gm_source.specs.declared.slots.Slot.TheVariants.{Scalar, Node}
 use Rattle.gm_source.specs.Stores.{slot_eq}
@@ -26,3 +26,8 @@ place_at places slot = place_in (slice_index_or (map (λ row. row.items) places.
 -- one place more is kept, and the others stay
 abbrev pub HasOneMore : Places → Places → Slot → ℕ → Type 0
 HasOneMore old new slot place = (q : Slot) → place_at new q ≡ (if slot_eq q slot then place else place_at old q)
+
+-- the slot by whose place a target is found: its first one
+abbrev pub head_of : List Slot → Slot
+head_of [] = Scalar 0
+head_of (x ∷ xs) = x

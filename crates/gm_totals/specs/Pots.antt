@@ -1,42 +1,59 @@
 -- What running totals say of the contributions for which they stand.
-use Rattle.std.specs.Prelude.{◌≡◌, ◌<◌, ◌≤◌, ℕ, suc, ℤ, nat_eq, List, [], ◌∷◌, ◌++◌, map, Option, Some, None, Result, Ok, Err, if◌then◌else◌, IsTrue, length, slice_index_or}
+use Rattle.std.specs.Prelude.{◌≡◌, ◌<◌, ◌≤◌, ℕ, suc, ℤ, nat_eq, Bool, true, false, List, [], ◌∷◌, ◌++◌, map, Option, Some, None, Result, Ok, Err, if◌then◌else◌, IsTrue, length, slice_index_or}
+use Rattle.std.specs.declared.alloc.Global.{Global}
+use Rattle.std.specs.declared.vec.Vec.{Vec}
 use Rattle.gm_value.specs.declared.values.Value.{Value}
 use Rattle.gm_value.specs.declared.reductions.Reduce.{Reduce}
+use Rattle.gm_value.specs.declared.totals.Total.{Total}
 use Rattle.gm_value.specs.Numbers.{number_of, type_of, fits}
 use Rattle.gm_value.specs.Reductions.{combined, total}
 use Rattle.gm_value.specs.Taking.{of_rank}
 use Rattle.gm_value.specs.Totals.{Shows}
-use Rattle.gm_source.specs.declared.contributions.Contribution.{Contribution}
+use Rattle.gm_value.specs.Tuples.{first_or, kept, best}
 use Rattle.gm_source.specs.declared.faults.Fault.{Fault}
-use Rattle.gm_source.specs.Contributions.{statement_of, taken_onto, value_or, fault_in}
+use Rattle.gm_source.specs.Contributions.{Contribution, statement_of, taken_onto, values_or, fault_in}
 use Rattle.gm_source.specs.Faults.{least, total_fault, fault_of}
 use Rattle.gm_totals.specs.declared.entries.Entry.{Entry}
 use Rattle.gm_totals.specs.declared.pots.Pot.{Pot}
 
 -- the values of contributions
-abbrev pub values_of : List Contribution → List Value
-values_of cs = map (λ c. c.value) cs
+abbrev pub values_of : List Contribution → List (List Value)
+values_of cs = map (λ c. c.values) cs
 
--- an exact number counts as the total of a bag of values does, whatever value it is combined with
-abbrev pub CountsAs : Reduce → ℤ → List Value → Type 0
+-- an exact number counts as the total of the first values of a bag does, whatever value it is combined with
+abbrev pub CountsAs : Reduce → ℤ → List (List Value) → Type 0
 CountsAs r number bag =
-    (held : Value) → IsTrue (fits (type_of held) (number_of held)) → combined r (number_of held) (total r (type_of held) bag) ≡ combined r (number_of held) number
+    (held : Value) → IsTrue (fits (type_of held) (number_of held))
+    → combined r (number_of held) (total r (type_of held) (map (first_or held) bag)) ≡ combined r (number_of held) number
 
--- an entry stands for contributions of one statement: its total shows a number that counts as theirs, and its key is that of their least fault
-pub record TotalStands (r : Reduce) (e : Entry) (bag : List Contribution) : Type 0 where
+-- a total shows a number that counts as a bag does
+pub record CountsAlone (r : Reduce) (shown : Total) (bag : List (List Value)) : Type 0 where
   pub number : ℤ
-  pub shows : Shows r e.total number
-  pub counts : CountsAs r number (values_of bag)
+  pub shows : Shows r shown number
+  pub counts : CountsAs r number bag
+
+-- a tuple is kept as those of a bag are, whatever tuple is held
+abbrev pub KeptAs : Reduce → List ℤ → List (List ℤ) → Type 0
+KeptAs r tuple bag = (held : List ℤ) → best r held bag ≡ kept r held tuple
+
+-- what an entry of a target of one slot, or of several, counts as
+abbrev pub Counts : Bool → Reduce → Entry → List (List Value) → Type 0
+Counts false r e bag = CountsAlone r e.total bag
+Counts true r e bag = KeptAs r (map number_of e.tuple.items) (map (map number_of) bag)
+
+-- an entry stands for contributions of one statement: it counts as they do, and its key is that of their least fault
+pub record TotalStands (several : Bool) (r : Reduce) (e : Entry) (bag : List Contribution) : Type 0 where
+  pub counts : Counts several r e (values_of bag)
   pub fault : least (map (λ c. total_fault c.total) bag) ≡ Some (total_fault e.key)
 
 -- an entry stands for contributions, or there is none and no contribution
-abbrev pub RankStands : Reduce → Option Entry → List Contribution → Type 0
-RankStands r None bag = bag ≡ []
-RankStands r (Some e) bag = TotalStands r e bag
+abbrev pub RankStands : Bool → Reduce → Option Entry → List Contribution → Type 0
+RankStands several r None bag = bag ≡ []
+RankStands several r (Some e) bag = TotalStands several r e bag
 
 -- an entry is that of a contribution's statement, and stands for one more contribution than what was there
-abbrev pub Joins : Reduce → Option Entry → Contribution → Entry → Type 0
-Joins r o c e = (e.statement ≡ statement_of c) × ((bag : List Contribution) → RankStands r o bag → TotalStands r e (bag ++ c ∷ []))
+abbrev pub Joins : Bool → Reduce → Option Entry → Contribution → Entry → Type 0
+Joins several r o c e = (e.statement ≡ statement_of c) × ((bag : List Contribution) → RankStands several r o bag → TotalStands several r e (bag ++ c ∷ []))
 
 -- entries are of ascending statements, from a number on
 abbrev pub AreFrom : ℕ → List Entry → Type 0
@@ -58,10 +75,10 @@ abbrev pub with_own : ℕ → List Contribution → Contribution → List Contri
 with_own s bag c = if nat_eq (statement_of c) s then bag ++ c ∷ [] else bag
 
 -- entries stand for one more contribution than before, and are of ascending statements as before
-abbrev pub Gains : Reduce → List Entry → List Entry → Contribution → Type 0
-Gains r old new c =
+abbrev pub Gains : Bool → Reduce → List Entry → List Entry → Contribution → Type 0
+Gains several r old new c =
     (low : ℕ) → AreFrom low old
-    → (low ≤ statement_of c → AreFrom low new) × ((s : ℕ) (bag : List Contribution) → RankStands r (entry_at s old) bag → RankStands r (entry_at s new) (with_own s bag c))
+    → (low ≤ statement_of c → AreFrom low new) × ((s : ℕ) (bag : List Contribution) → RankStands several r (entry_at s old) bag → RankStands several r (entry_at s new) (with_own s bag c))
 
 -- the entries of a pot
 abbrev pub entries_of : Pot → List Entry
@@ -72,27 +89,49 @@ abbrev pub BeginBy : Reduce → List Contribution → Type 0
 BeginBy r [] = ⊥
 BeginBy r (c ∷ cs) = c.reduce ≡ r
 
--- a pot stands for the contributions to its slot: it has the first one's reduction, and for each statement the total
-pub record PotStands (pot : Pot) (cs : List Contribution) : Type 0 where
+-- a pot stands for the contributions to its target: it has the first one's reduction, and for each statement the total
+pub record PotStands (several : Bool) (pot : Pot) (cs : List Contribution) : Type 0 where
   pub reduce : BeginBy pot.reduce cs
   pub ascending : AreFrom 0 (entries_of pot)
-  pub ranks : (s : ℕ) → RankStands pot.reduce (entry_at s (entries_of pot)) (of_rank statement_of s cs)
+  pub ranks : (s : ℕ) → RankStands several pot.reduce (entry_at s (entries_of pot)) (of_rank statement_of s cs)
 
--- a pot stands for the contributions to a slot, or there is none and no contribution
-abbrev pub SlotStands : Option Pot → List Contribution → Type 0
-SlotStands None cs = cs ≡ []
-SlotStands (Some pot) cs = PotStands pot cs
+-- a pot stands for the contributions to a target, or there is none and no contribution
+abbrev pub TargetStands : Bool → Option Pot → List Contribution → Type 0
+TargetStands several None cs = cs ≡ []
+TargetStands several (Some pot) cs = PotStands several pot cs
 
 -- a pot stands for one more contribution than what was there
-abbrev pub PotGains : Option Pot → Pot → Contribution → Type 0
-PotGains o pot c = (cs : List Contribution) → SlotStands o cs → PotStands pot (cs ++ c ∷ [])
+abbrev pub PotGains : Bool → Option Pot → Pot → Contribution → Type 0
+PotGains several o pot c = (cs : List Contribution) → TargetStands several o cs → PotStands several pot (cs ++ c ∷ [])
 
--- the value of an answer, or what was held
-abbrev pub kept_value : Value → Result Value Fault → Value
-kept_value held (Ok v) = v
-kept_value held (Err f) = held
+-- a value as a list, and the values of a list
+abbrev pub listed : Value → List Value
+listed v = v ∷ []
 
--- an answer is what a taking of contributions onto a held value gives, with its fault
-pub record IsTaking (held : Value) (cs : List Contribution) (answer : Result Value Fault) : Type 0 where
-  pub value : value_or held (taken_onto held cs) ≡ kept_value held answer
+abbrev pub items_in : Vec Value Global → List Value
+items_in vs = vs.items
+
+-- one more value before others, if there are all
+abbrev pub before : Option Value → Option (List Value) → Option (List Value)
+before None rest = None
+before (Some v) None = None
+before (Some v) (Some vs) = Some (v ∷ vs)
+
+-- what closing one slot, or several, answers
+abbrev pub answer_of_one : Result Value Fault → Result (List Value) Fault
+answer_of_one (Ok v) = Ok (v ∷ [])
+answer_of_one (Err f) = Err f
+
+abbrev pub answer_of_several : Result (Vec Value Global) Fault → Result (List Value) Fault
+answer_of_several (Ok vs) = Ok vs.items
+answer_of_several (Err f) = Err f
+
+-- the values of an answer, or what was held
+abbrev pub kept_values : List Value → Result (List Value) Fault → List Value
+kept_values held (Ok vs) = vs
+kept_values held (Err f) = held
+
+-- an answer is what a taking of contributions onto held values gives, with its fault
+pub record IsTaking (held : List Value) (cs : List Contribution) (answer : Result (List Value) Fault) : Type 0 where
+  pub values : values_or held (taken_onto held cs) ≡ kept_values held answer
   pub fault : fault_in cs (taken_onto held cs) ≡ fault_of answer

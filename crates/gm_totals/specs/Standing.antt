@@ -1,60 +1,77 @@
--- The contributions for which all running totals stand, and what closing a slot's totals gives.
-use Rattle.std.specs.Prelude.{◌≡◌, ◌<◌, ℕ, List, [], ◌∷◌, ◌++◌, Option, Some, None, All, length, slice_index_or}
+-- The contributions for which all running totals stand, and what closing a target's totals gives.
+use Rattle.std.specs.Prelude.{◌≡◌, ◌<◌, ℕ, List, [], ◌∷◌, ◌++◌, map, Option, Some, None, All, if◌then◌else◌, length, slice_index_or}
 use Rattle.std.specs.Map.{lookup, keys_of}
 use Rattle.gm_value.specs.declared.values.Value.{Value}
-use Rattle.gm_source.specs.declared.contributions.Contribution.{Contribution}
 use Rattle.gm_source.specs.declared.faults.Fault.{Fault}
 use Rattle.gm_source.specs.declared.slots.Slot.{Slot}
-use Rattle.gm_source.specs.Stores.{slot_eq, overlaid}
+use Rattle.gm_source.specs.declared.slots.Write.{Write}
+use Rattle.gm_source.specs.Stores.{Store, slots_eq, has_slot, read, reads, overlaid}
 use Rattle.gm_source.specs.Faults.{lesser, least}
-use Rattle.gm_source.specs.Contributions.{to_slot, value_after, slot_fault, settled_store, total_faults}
+use Rattle.gm_source.specs.Contributions.{Contribution, to_target, target_taken, values_or, value_among, target_fault, settled_store, total_faults}
 use Rattle.gm_store.specs.Held.{Held, Shape, HasSlot, store_of}
 use Rattle.gm_totals.specs.declared.pots.Pot.{Pot}
 use Rattle.gm_totals.specs.declared.totals.Totals.{Totals}
 use Rattle.gm_totals.specs.declared.totals.Closed.{Closed}
-use Rattle.gm_totals.specs.Places.{place_at}
-use Rattle.gm_totals.specs.Pots.{SlotStands, PotStands}
+use Rattle.gm_totals.specs.Given.{slots_in, is_several}
+use Rattle.gm_totals.specs.Places.{place_at, head_of}
+use Rattle.gm_totals.specs.Pots.{TargetStands, PotStands}
 
--- the pot of a slot
-abbrev pub pot_at : Totals → Slot → Option Pot
-pot_at totals slot = lookup (slot_eq slot) totals.pots.items
+-- the pots by their targets, in the order in which the targets had their first contributions
+abbrev pub keyed : Totals → List (List Slot × Pot)
+keyed totals = map (λ e. (slots_in e.0, e.1)) totals.pots.items
 
--- the slots that have pots, in the order of the pots
-abbrev pub slots_of : Totals → List Slot
-slots_of totals = keys_of totals.pots.items
+-- the pot of a target
+abbrev pub pot_at : Totals → List Slot → Option Pot
+pot_at totals slots = lookup (slots_eq slots) (keyed totals)
 
--- the pot at a place is that of a slot
-abbrev pub IsPotOf : Totals → Slot → ℕ → Type 0
-IsPotOf totals slot place = (place < length (slots_of totals)) × ((d : Slot) → slice_index_or (slots_of totals) place d ≡ slot)
+-- the targets that have pots, in the order of the pots
+abbrev pub targets_of : Totals → List (List Slot)
+targets_of totals = keys_of (keyed totals)
 
--- a slot's pot stands for the contributions to the slot, and nowhere but where the slot's place says
-pub record IsKept (totals : Totals) (slot : Slot) (cs : List Contribution) : Type 0 where
-  pub stands : SlotStands (pot_at totals slot) (to_slot slot cs)
-  pub placed : (k : ℕ) → IsPotOf totals slot k → place_at totals.places slot ≡ k
+-- the pot at a place is that of a target
+abbrev pub IsPotOf : Totals → List Slot → ℕ → Type 0
+IsPotOf totals slots place = (place < length (targets_of totals)) × ((d : List Slot) → slice_index_or (targets_of totals) place d ≡ slots)
 
--- totals stand for contributions, in the order in which they were given: each slot's pot is kept for those to the slot
-abbrev pub StandsFor : Totals → List Contribution → Type 0
-StandsFor totals cs = (slot : Slot) → IsKept totals slot cs
+-- the pot at a slot's place is that of a target that begins with the slot
+abbrev pub IsHead : Totals → Slot → Type 0
+IsHead totals slot =
+    (place_at totals.places slot < length (targets_of totals)) × ((d : List Slot) → head_of (slice_index_or (targets_of totals) (place_at totals.places slot) d) ≡ slot)
 
--- each slot's pot is where the slot's place says
-abbrev pub ArePlaced : Totals → Type 0
-ArePlaced totals = (slot : Slot) (k : ℕ) → IsPotOf totals slot k → place_at totals.places slot ≡ k
+-- a target has one pot, and where it has one, a pot is at the place of its first slot
+pub record ArePlaced (totals : Totals) : Type 0 where
+  pub apart : (slots : List Slot) (j k : ℕ) → IsPotOf totals slots j → IsPotOf totals slots k → j ≡ k
+  pub heads : (slots : List Slot) (k : ℕ) → IsPotOf totals slots k → IsHead totals (head_of slots)
+
+-- the first of some targets that has a slot
+abbrev pub first_with : Slot → List (List Slot) → Option (List Slot)
+first_with slot [] = None
+first_with slot (t ∷ ts) = if has_slot slot t then Some t else first_with slot ts
+
+-- totals stand for contributions, in the order in which they were given: each target's pot for those to the target, and each slot belongs to the target that had it first
+pub record StandsFor (totals : Totals) (cs : List Contribution) : Type 0 where
+  pub stands : (slots : List Slot) → TargetStands (is_several slots) (pot_at totals slots) (to_target slots cs)
+  pub owners : (slot : Slot) → first_with slot (targets_of totals) ≡ first_with slot (map (λ c. c.slots) cs)
+  pub placed : ArePlaced totals
 
 -- the slots of totals are those of a store of a shape
 abbrev pub Within : Shape → Totals → Type 0
-Within shape totals = (slot : Slot) (pot : Pot) → pot_at totals slot ≡ Some pot → HasSlot shape slot
+Within shape totals = (slots : List Slot) (pot : Pot) → pot_at totals slots ≡ Some pot → All (HasSlot shape) slots
 
 -- the lesser of what may be faults
 abbrev pub least_with : Option Fault → Option Fault → Option Fault
 least_with None o = o
 least_with (Some f) o = lesser f o
 
--- a slot's totals are closed: there is one more write, and the fault counts
-abbrev pub ClosesSlot : Held → Slot → Pot → Closed → Closed → Type 0
-ClosesSlot held slot pot old new =
-    (edge : ℕ → ℕ → Value) (cs : List Contribution) → PotStands pot (to_slot slot cs)
-    → (new.writes.items ≡ old.writes.items ++ record { slot = slot; value = value_after (store_of edge held) cs slot } ∷ [])
-    × (new.fault ≡ least_with (slot_fault (store_of edge held) cs slot) old.fault)
+-- with more writes some slots hold values, of which the first for a slot counts, and the others what they held
+abbrev pub Sets : List Slot → List Value → List Write → List Write → Type 0
+Sets slots values old new = (s : Store) (slot : Slot) → read (overlaid s new) slot ≡ value_among slot slots values (read (overlaid s old) slot)
+
+-- a target's totals are closed: whatever was written before, its slots now hold what the taking leaves them, and the fault counts
+abbrev pub ClosesTarget : Held → List Slot → Pot → Closed → Closed → Type 0
+ClosesTarget held slots pot old new =
+    (edge : ℕ → ℕ → Value) (cs : List Contribution) → PotStands (is_several slots) pot (to_target slots cs)
+    → Sets slots (values_or (reads (store_of edge held) slots) (target_taken (store_of edge held) cs slots)) old.writes.items new.writes.items
+    × (new.fault ≡ least_with (target_fault (store_of edge held) cs slots) old.fault)
 
 -- the writes are to slots of a store of a shape
 abbrev pub WritesWithin : Shape → Closed → Type 0

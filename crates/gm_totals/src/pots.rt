@@ -1,24 +1,28 @@
-//! The running totals of the contributions to one slot, by statement.
+//! The running totals of the contributions to one target, by statement.
 
-ghost use Rattle.std.specs.Prelude.{◌≡◌, ◌≤◌, ℕ, List, Some, None, IfOk, OnOk, length};
-ghost use Rattle.gm_source.specs.declared.contributions.Contribution.{Contribution};
-ghost use Rattle.gm_totals.specs.Pots.{AreFrom, IsPlace, Gains, PotGains, PotStands, IsTaking};
+ghost use Rattle.std.specs.Prelude.{◌≡◌, ◌≢◌, ◌≤◌, ◌∷◌, [], false, true, ℕ, List, Some, None, IfOk, OnOk, length};
+ghost use Rattle.gm_value.specs.declared.reductions.Reduce.{Reduce as By};
+ghost use Rattle.gm_source.specs.declared.slots.Slot.{Slot};
+ghost use Rattle.gm_source.specs.Contributions.{Contribution};
+ghost use Rattle.gm_totals.specs.Given.{given};
+ghost use Rattle.gm_totals.specs.Pots.{AreFrom, IsPlace, Gains, PotGains, PotStands, IsTaking, answer_of_one, answer_of_several};
 
 use crate::entries::Entry;
 use crate::faults::total_fault;
+use gm_ast::tree::TotalKey;
 use gm_base::NoMemory;
-use gm_source::contributions::Contribution;
 use gm_source::faults::Fault;
 use gm_value::{Reduce, Value};
 use std::alloc::Global;
+use std::mem::replace;
 
-// The totals of what was given to one slot: the reduction of the first contribution, and for each statement a
-// total, in the order of the text. Most slots have one statement, which takes no memory of its own.
+// The totals of what was given to one target: the reduction of the first contribution, and for each statement a
+// total, in the order of the text. Most targets have one statement, which takes no memory of its own.
 #[derive(Debug, Drop)]
 pub struct Pot {
+    pub more: Vec<Entry>,
     pub reduce: Reduce,
     pub first: Entry,
-    pub more: Vec<Entry>,
 }
 
 // The place of a statement among totals: how many of them are of earlier statements.
@@ -30,64 +34,122 @@ fn place_of(entries: &[Entry], statement: u32) -> usize
 }
 
 // One more contribution to totals, by a reduction.
-fn add(entries: &mut Vec<Entry>, reduce: Reduce, contribution: Contribution) -> Result<(), NoMemory>
-    ensures { OnOk result (Gains reduce entries.old.items entries.new.items contribution) }
+fn add(
+    alloc: Global,
+    several: bool,
+    entries: &mut Vec<Entry>,
+    reduce: Reduce,
+    key: TotalKey,
+    values: &[Value],
+) -> Result<(), NoMemory>
+    ensures { OnOk result ((by : By) (slots : List Slot) → Gains several reduce entries.old.items entries.new.items (given key by slots values.now)) }
 {
-    let statement = contribution.total.key.statement;
+    let statement = key.key.statement;
     let place = place_of(entries, statement);
     if place < entries.len() && entries[place].statement == statement {
-        entries[place] = entries[place].with(reduce, contribution)?;
+        entries[place].give(several, reduce, key, values)?;
         return Ok(());
     }
-    entries.insert(place, Entry::new(reduce, contribution)?)?;
+    entries.insert(place, Entry::new(alloc, several, reduce, key, values)?)?;
     Ok(())
 }
 
 impl Pot {
     // The totals of one contribution.
-    pub fn new(alloc: Global, contribution: Contribution) -> Result<Pot, NoMemory>
-        ensures { IfOk result (λ pot. PotGains None pot contribution) }
+    pub fn new(
+        alloc: Global,
+        several: bool,
+        reduce: Reduce,
+        key: TotalKey,
+        values: &[Value],
+    ) -> Result<Pot, NoMemory>
+        ensures { IfOk result (λ pot. (slots : List Slot) → PotGains several None pot (given key reduce slots values.now)) }
     {
         Ok(Pot {
-            reduce: contribution.reduce,
-            first: Entry::new(contribution.reduce, contribution)?,
             more: Vec::new(alloc),
+            reduce,
+            first: Entry::new(alloc, several, reduce, key, values)?,
         })
     }
 
     // One more contribution. It is taken by the first one's reduction.
-    pub fn give(&mut self, contribution: Contribution) -> Result<(), NoMemory>
-        ensures { OnOk result (PotGains (Some self.old) self.new contribution) }
+    #[inline(always)]
+    pub fn give(
+        &mut self,
+        alloc: Global,
+        several: bool,
+        key: TotalKey,
+        values: &[Value],
+    ) -> Result<(), NoMemory>
+        ensures { OnOk result ((by : By) (slots : List Slot) → PotGains several (Some self.old) self.new (given key by slots values.now)) }
     {
-        let statement = contribution.total.key.statement;
-        if statement == self.first.statement {
-            self.first = self.first.with(self.reduce, contribution)?;
+        if key.key.statement == self.first.statement {
+            self.first.give(several, self.reduce, key, values)?;
             return Ok(());
         }
-        if self.first.statement < statement {
-            return add(&mut self.more, self.reduce, contribution);
+        self.give_apart(alloc, several, key, values)?;
+        Ok(())
+    }
+
+    // One more contribution, of another statement than the first.
+    fn give_apart(
+        &mut self,
+        alloc: Global,
+        several: bool,
+        key: TotalKey,
+        values: &[Value],
+    ) -> Result<(), NoMemory>
+        requires { key.key.statement ≢ self.old.first.statement }
+        ensures { OnOk result ((by : By) (slots : List Slot) → PotGains several (Some self.old) self.new (given key by slots values.now)) }
+    {
+        if self.first.statement < key.key.statement {
+            add(alloc, several, &mut self.more, self.reduce, key, values)?;
+            return Ok(());
         }
-        let entry = Entry::new(self.reduce, contribution)?;
-        self.more.insert(0, self.first)?;
-        self.first = entry;
+        let entry = Entry::new(alloc, several, self.reduce, key, values)?;
+        let later = replace(&mut self.first, entry);
+        self.more.insert(0, later)?;
         Ok(())
     }
 
     // What a slot that held a value holds after the totals, taken statement by statement, or the fault of the first
     // statement whose total does not fit.
-    pub fn closed(&self, held: Value) -> Result<Result<Value, Fault>, NoMemory>
-        ensures { IfOk result (λ r. (cs : List Contribution) → PotStands self.now cs → IsTaking held cs r) }
+    pub fn closed_one(&self, held: Value) -> Result<Result<Value, Fault>, NoMemory>
+        ensures { IfOk result (λ r. (cs : List Contribution) → PotStands false self.now cs → IsTaking (held ∷ []) cs (answer_of_one r)) }
     {
-        let mut value = match self.first.closed(self.reduce, held)? {
+        let mut value = match self.first.closed_one(self.reduce, held)? {
             Some(value) => value,
             None => return Ok(Err(total_fault(self.first.key))),
         };
         for entry in &self.more {
-            value = match entry.closed(self.reduce, value)? {
+            value = match entry.closed_one(self.reduce, value)? {
                 Some(value) => value,
                 None => return Ok(Err(total_fault(entry.key))),
             };
         }
         Ok(Ok(value))
+    }
+
+    // What several slots that held values hold after the totals, taken statement by statement, or the fault of the
+    // first statement of which a value does not fit.
+    pub fn closed_several(
+        &self,
+        alloc: Global,
+        held: &[Value],
+    ) -> Result<Result<Vec<Value>, Fault>, NoMemory>
+        ensures { IfOk result (λ r. (cs : List Contribution) → length held.now ≢ 1 → PotStands true self.now cs
+            → IsTaking held.now cs (answer_of_several r)) }
+    {
+        let mut values = match self.first.closed_tuple(alloc, self.reduce, held)? {
+            Some(values) => values,
+            None => return Ok(Err(total_fault(self.first.key))),
+        };
+        for entry in &self.more {
+            values = match entry.closed_tuple(alloc, self.reduce, values.as_slice())? {
+                Some(values) => values,
+                None => return Ok(Err(total_fault(entry.key))),
+            };
+        }
+        Ok(Ok(values))
     }
 }

@@ -1,12 +1,15 @@
 -- An entry of one contribution.
-use Rattle.std.proofs.Common.{subst}
-use Rattle.gm_value.specs.Reductions.{unit_of}
-use Rattle.gm_value.specs.Totals.{Shows}
-use Rattle.gm_totals.proofs.Joining.{joins-none}
+use Rattle.std.proofs.Common.{refl, sym, subst, None, Bool}
+use Rattle.gm_totals.specs.Given.{given}
+use Rattle.gm_totals.specs.Pots.{Joins}
 use Rattle.gm_totals.proofs.entries.Entry.new.Goals as goal
 
+pub returns-then-several : goal.returns-then-several
+returns-then-several c = λ by slots.
+    let k = given c.args.key by slots c.args.values.now in
+    subst (λ (several : Bool). Joins several c.args.reduce None k c.in_ok-entry.entry) (sym c.if-several.true) (c.in_ok-entry.ensures c.args.reduce k refl refl)
+
 pub returns : goal.returns
-returns c =
-    let unit = c.total_unit-unit.result in
-    joins-none c.args.reduce c.args.contribution unit c.in_ok-grown.field-0 (c.reductions_are_monoids.ensures.unit c.args.reduce) c.number-number.ensures.in_range
-    (subst (λ t. Shows c.args.reduce unit (unit_of c.args.reduce t)) c.type_of.ensures c.total_unit-unit.ensures.total.1) c.in_ok-grown.ensures
+returns c = λ by slots.
+    let k = given c.args.key by slots c.args.values.now in
+    subst (λ (several : Bool). Joins several c.args.reduce None k c.in_ok-entry-2.entry) (sym c.if-several.false) (c.in_ok-entry-2.ensures k refl c.in_ok-value.ensures)

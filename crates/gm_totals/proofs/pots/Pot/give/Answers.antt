@@ -1,17 +1,14 @@
--- A pot with a contribution of an earlier statement.
-use Rattle.std.proofs.Common.{◌<◌, ◌∷◌, refl, sym, subst, arith}
-use Rattle.gm_source.specs.Contributions.{statement_of}
+-- A pot with a contribution of its first statement.
+use Rattle.std.proofs.Common.{refl, sym}
 use Rattle.gm_totals.specs.declared.pots.Pot.{Pot}
-use Rattle.gm_totals.specs.Pots.{Gains, entries_of}
-use Rattle.gm_totals.proofs.Gaining.{gains-before}
+use Rattle.gm_totals.specs.Given.{given}
+use Rattle.gm_totals.proofs.Gaining.{gains-same}
 use Rattle.gm_totals.proofs.Potting.{pot-more}
 use Rattle.gm_totals.proofs.pots.Pot.give.Goals as goal
 
-pub returns : goal.returns
-returns c =
+pub returns-then-key-self : goal.returns-then-key-self
+returns-then-key-self c = λ by slots.
     let old = c.args.self.now in
-    let entry = c.in_ok-entry.entry in
-    let new : Pot = record { reduce = old.reduce; first = entry; more = c.insert.new.self } in
-    let earlier : statement_of c.args.contribution < old.first.statement = omega arith in
-    let gains = gains-before old.reduce c.args.contribution old.first entry old.more.items earlier c.in_ok-entry.ensures in
-    pot-more old new c.args.contribution refl (subst (λ es. Gains old.reduce (entries_of old) (entry ∷ es) c.args.contribution) (sym c.in_ok-insert.ensures.items) gains)
+    let new : Pot = record old { first = c.give.new.self } in
+    let k = given c.args.key by slots c.args.values.now in
+    pot-more c.args.several old new k refl (gains-same c.args.several old.reduce k old.first new.first old.more.items (sym c.if-key-self.true) (c.in_ok-give.ensures by slots))
