@@ -192,6 +192,17 @@ const CASES: &str = "whole||sound;\
     whole|48|put min 2 3 id|I2 48;\
     whole|48|put max 2 2 f 3|I2 48;\
     whole|48|put or 2 2 f 3|sound;\
+    whole|48|put max 2|I2 48;\
+    whole|48|put max 2 0 f 0 3 id|sound;\
+    whole|48|put min 2 1 f 4 3 id 0 f 0 2 f 3|sound;\
+    whole|48|put max 2 3 id 0 f 0|I2 48;\
+    whole|48|put min 2 2 f 3 0 f 0|I2 48;\
+    whole|48|put sum 2 0 f 0 3 id|I2 48;\
+    whole|48|put max 2 0 f 0 3 f 0|I2 48;\
+    whole|48|put max 2 0 f 0 0 f 0|I2 48;\
+    whole|48|put max 2 0 f 0 3 id 3 id|I2 48;\
+    whole|48|put max 2 0 f 0 4 id|I1 48;\
+    whole|48|put max 2 0 f 0 3 m 0|I7 48;\
     whole|54|fold min 3 2 m 1 0 m 0|I2 54;\
     whole|54|fold sum 3 0 m 0 2 m 1|I2 54;\
     whole|54|fold min 3 0 m 0 0 m 0|I2 54;\

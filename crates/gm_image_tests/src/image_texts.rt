@@ -14,7 +14,12 @@ const TOTAL: &[u8] =
 const PAIR: &[u8] =
     b"gm-image 1\nname pair\ninputs 0\noutputs 2\nnode I a 0\nnode I b 1\nresult -\nglobals 0\nfields 2\nI\nI\nregisters 0\ncolumns 0\nkinds 0\nplaces 0\nblocks 2\nblock 0\nbody 1\nset 0 c I 3\nblock 0\nbody 1\nset 1 f 0\nmaster 3\nstep 0\nstep 1\nend\n";
 
-// A text with each spelling. It is read, though it keeps none of the rules.
+// The least value of the nodes before a node with the node that it comes from, and the greatest of all nodes with its
+// node.
+const NEAREST: &[u8] =
+    b"gm-image 2\nname nearest\ninputs 1\nnode I v 2\noutputs 0\nresult N 1\nglobals 2\nI\nN\nfields 3\nI\nN\nI\nregisters 0\ncolumns 0\nkinds 1\n- I N\nplaces 1\n4 9\nblocks 1\nblock 1\non 0 1\npick min 0 2 0 m 0 1 m 1\nbody 3\npickput max 0 2 0 f 2 1 id\neach out 1\nsend 0 nb f 2 id\nmaster 3\nstep 0\nstep 0\nend\n";
+
+// A text with each spelling of version 1. It is read, though it keeps none of the rules.
 const EACH: &[u8] =
     b"gm-image 1\nname caf\xc3\xa9\tx\ninputs 3\nscalar I a 0\nnode L b 1\nedge B c 4294967295\noutputs 2\nscalar N d 0\nnode I e 2\nresult B 7\nglobals 4\nI\nL\nB\nN\nfields 1\nI\nregisters 1\nL\ncolumns 1\nB\nkinds 7\n-\n- I L B N\nsum I\nproduct L\nmin I\nmax N\nand B\nplaces 2\n0 0\n4294967295 1\nblocks 2\nblock 2\non 0 0\non 1 1\nput or 1 2 c B True\nbody 8\nset 0 + 0 c I -2147483648 - 1 f 0 * 2 r 0 / 3 m 0 % 4 w 0 neg 5 int 6 long g 0\nreg 1 long c I 2147483647\nskip 1 && == nn ne || != id out < inn nb\nskip 2 ? > g 0 g 1 <= g 2 g 3 >= g 4 not g 5\neach in 3\neach out 0\nsend 2 live 1 node c L -9223372036854775808 c L 9223372036854775807 c N NIL c B False\nsend 0 id\nblock 0\nbody 0\nmaster 7\nset 1 c I 0\nstep 0\njump 2\ntest 3 c B True\nloop 4 c B False\nback 5\nend\n";
 
@@ -63,8 +68,10 @@ fn deep(alloc: Global, nots: u32) -> Result<Vec<u8>, AllocError> {
 
 #[test]
 fn texts_of_images_are_read(rt: HostRuntime) -> Result<(), Fail> {
-    for text in [SPIN, TOTAL, PAIR, EACH] {
+    for text in [SPIN, TOTAL, PAIR, EACH, NEAREST] {
         assert_eq!(rt; fault(rt.alloc(), text), None);
+        let second = with_line(rt.alloc(), text, 1, b"gm-image 2")?;
+        assert_eq!(rt; fault(rt.alloc(), &second), None);
     }
     let image = read_image(rt.alloc(), TOTAL)?;
     assert_eq!(rt; image.name.as_slice(), b"total".as_slice());
@@ -75,15 +82,76 @@ fn texts_of_images_are_read(rt: HostRuntime) -> Result<(), Fail> {
     Ok(())
 }
 
+// What is written for the sound image that a text spells.
+fn written(alloc: Global, text: &[u8]) -> Result<Vec<u8>, Fail> {
+    let image = read_image(alloc, text)?;
+    if !is_countable(&image) {
+        return Err(Fail::from("too many lines"));
+    }
+    let sound = verify(alloc, image)?;
+    Ok(write_image(alloc, &sound)?)
+}
+
 #[test]
-fn images_are_written_as_they_were_read(rt: HostRuntime) -> Result<(), Fail> {
-    for text in [SPIN, TOTAL, PAIR] {
-        let image = read_image(rt.alloc(), text)?;
-        let is_short = is_countable(&image);
-        assert!(rt; is_short);
-        let sound = verify(rt.alloc(), image)?;
-        let again = write_image(rt.alloc(), &sound)?;
-        assert_eq!(rt; again.as_slice(), text);
+fn images_are_written_in_version_2(rt: HostRuntime) -> Result<(), Fail> {
+    for text in [SPIN, TOTAL, PAIR, NEAREST] {
+        let again = written(rt.alloc(), text)?;
+        let second = with_line(rt.alloc(), text, 1, b"gm-image 2")?;
+        assert_eq!(rt; again.as_slice(), second.as_slice());
+    }
+    Ok(())
+}
+
+#[test]
+fn version_1_has_no_reductions_of_several_slots(rt: HostRuntime) -> Result<(), Fail> {
+    let alloc = rt.alloc();
+    let first = with_line(alloc, NEAREST, 1, b"gm-image 1")?;
+    assert_eq!(rt; fault(alloc, &first), Some(ImageFault::BadText(23)));
+    let folded = with_line(alloc, &first, 23, b"fold min 0 0 m 0")?;
+    assert_eq!(rt; fault(alloc, &folded), Some(ImageFault::BadText(25)));
+    let put = with_line(alloc, &folded, 25, b"put max 0 0 f 2")?;
+    assert_eq!(rt; fault(alloc, &put), None);
+    Ok(())
+}
+
+#[test]
+fn several_slots_are_read(rt: HostRuntime) -> Result<(), Fail> {
+    let lines: [&[u8]; 4] = [
+        b"pick max 4294967295 2 0 m 0 4294967295 m 1",
+        b"pickput min 0 2 0 m 0 1 m 1",
+        b"pick min 0 3 0 m 0 1 m 1 0 + 0 m 0 c I 1",
+        b"fold sum 0 0 m 0",
+    ];
+    for line in lines {
+        let text = with_line(rt.alloc(), NEAREST, 23, line)?;
+        assert_eq!(rt; fault(rt.alloc(), &text), None);
+    }
+    Ok(())
+}
+
+#[test]
+fn several_slots_that_are_spelled_otherwise_are_bad(rt: HostRuntime) -> Result<(), Fail> {
+    let lines: [&[u8]; 16] = [
+        b"pick sum 0 2 0 m 0 1 m 1",
+        b"pick product 0 2 0 m 0 1 m 1",
+        b"pickput and 0 2 0 m 0 1 m 1",
+        b"pickput or 0 2 0 m 0 1 m 1",
+        b"pick min 0 1 0 m 0",
+        b"pickput min 0 1 0 m 0",
+        b"pick min 0 0",
+        b"pick min 0 2",
+        b"pick min 0 2 0 m 0",
+        b"pick min 0 2 0 m 0 1",
+        b"pick min 0 2 0 m 0 1 m",
+        b"pick min 0 2 0 m 0 1 m 1 2 m 0",
+        b"pick min 0 02 0 m 0 1 m 1",
+        b"pick min 0 2 0 m 0 1 m 1 ",
+        b"pick min 2 0 m 0 1 m 1",
+        b"fold min 0 0 m 0 1 m 1",
+    ];
+    for line in lines {
+        let text = with_line(rt.alloc(), NEAREST, 23, line)?;
+        assert_eq!(rt; fault(rt.alloc(), &text), Some(ImageFault::BadText(23)));
     }
     Ok(())
 }
@@ -155,10 +223,14 @@ fn lines_that_are_spelled_otherwise_are_bad(rt: HostRuntime) -> Result<(), Fail>
 
 #[test]
 fn whole_texts_are_bad_at_their_first_bad_line(rt: HostRuntime) -> Result<(), Fail> {
-    let texts: [(&[u8], u32); 14] = [
+    let texts: [(&[u8], u32); 18] = [
         (b"", 1),
         (b"\n", 1),
-        (b"gm-image 2\n", 1),
+        (b"gm-image 1\n", 2),
+        (b"gm-image 2\n", 2),
+        (b"gm-image 0\n", 1),
+        (b"gm-image 3\n", 1),
+        (b"gm-image 12\n", 1),
         (b"gm-image 1\nname \n", 2),
         (b"gm-image 1\nname a b\n", 2),
         (b"gm-image 1\nname a\noutputs 0\n", 3),
