@@ -1,0 +1,6 @@
+pub mod Totals
+pub mod Folds
+pub mod Cells
+pub mod Rows
+pub mod Batches
+pub mod Held
