@@ -6,11 +6,10 @@ use Rattle.gm_value.specs.declared.values.Value.TheVariants.{At}
 use Rattle.gm_value.specs.Operations.{is_true}
 use Rattle.gm_ast.specs.declared.tree.Key.{Key}
 use Rattle.gm_ast.specs.Program as P
-use Rattle.gm_source.specs.declared.contributions.Contribution.{Contribution}
 use Rattle.gm_source.specs.declared.faults.Fault.{Fault}
 use Rattle.gm_source.specs.declared.slots.Slot.TheVariants.{Scalar}
 use Rattle.gm_source.specs.declared.slots.Write.{Write}
-use Rattle.gm_source.specs.Contributions.{settled_store, total_faults}
+use Rattle.gm_source.specs.Contributions.{Contribution, settled_store, total_faults}
 use Rattle.gm_source.specs.Expressions.{View, Answer, value}
 use Rattle.gm_source.specs.Faults.{least}
 use Rattle.gm_source.specs.Iterations.{Iteration, Mode, Outermost, AtEdge, as_it_is, begun, edge_of, failed, inner_done, one_way, turn_at, view_in, with_ok, wrote}
@@ -32,6 +31,7 @@ use Rattle.gm_loops.specs.Turns.{seen, Begins, Closes, DoesTurns, Follows, Overl
 use Rattle.gm_loops.proofs.Effects.{fits-same, view-same}
 use Rattle.gm_loops.proofs.Parting.{least-append, sooner_none}
 use Rattle.gm_loops.proofs.Turning.{begun-stands}
+use Rattle.gm_loops.proofs.Keeping.{settled-nothing}
 
 -- the code of an iteration before its first fault
 abbrev pub unfaulted : Going → Going
@@ -124,7 +124,7 @@ closes-nothing f old found none = record {
   stands = λ b it inner same has_inner has_outermost has_deferred.
       let empty : inner ≡ [] = none inner has_inner in
       record {
-        store = same ∙ ap (λ (cs : List Contribution). settled_store it.store cs) (sym empty);
+        store = same ∙ sym (settled-nothing it.store) ∙ ap (λ (cs : List Contribution). settled_store it.store cs) (sym empty);
         inner = subst (λ (cs : List Contribution). StandsFor old.inner cs) empty has_inner;
         outermost = has_outermost;
         deferred = has_deferred;

@@ -1,8 +1,9 @@
 -- What the effects of statements do to a loop's iterations.
-use Rattle.std.proofs.Common.{zero, suc, nat_eq, Bor, Bool, false, Ok, Err, if◌then◌else◌, ◌≤◌, arith, rules, true, ◌≡◌, ◌∙◌, ℕ, List, [], ◌∷◌, ◌++◌, Some, refl, ap, sym, subst}
+use Rattle.std.proofs.Common.{zero, suc, nat_eq, Bor, Bool, false, Ok, Err, if◌then◌else◌, ◌≤◌, arith, rules, true, ◌≡◌, ◌∙◌, ℕ, List, [], ◌∷◌, ◌++◌, Some, Result, ◌<◌, refl, ap, sym, subst}
 use Rattle.std.specs.Prelude.{All, option_map}
 use Rattle.std.proofs.lemmas.List.{append-nil, append_assoc}
-use Rattle.gm_source.specs.declared.contributions.Contribution.{Contribution}
+use Rattle.std.proofs.lemmas.List.Elements.{All-nil, All-push}
+use Rattle.gm_source.specs.Contributions.{Contribution}
 use Rattle.gm_source.specs.declared.faults.Fault.{Fault}
 use Rattle.gm_source.specs.declared.slots.Write.{Write}
 use Rattle.gm_source.specs.Stores.{Store, write}
@@ -16,7 +17,7 @@ use Rattle.gm_ast.specs.declared.tree.Target.{Target}
 use Rattle.gm_ast.specs.declared.tree.Target.TheVariants as T
 use Rattle.gm_source.specs.Faults.{then_with}
 use Rattle.gm_source.specs.Expressions.{View, Answer}
-use Rattle.gm_source.specs.Iterations.{Loop, WithInner, WithOutermost, scalar_ends, own_ends, ends_of, with_ok, edge_of, view_in, Iteration, Mode, Outermost, AtEdge, failed, wrote, gave_inner, gave_outermost}
+use Rattle.gm_source.specs.Iterations.{Ends, AtOnce, later, alone, wrote_all, Loop, WithInner, WithOutermost, scalar_ends, own_ends, ends_of, with_ok, edge_of, view_in, Iteration, Mode, Outermost, AtEdge, failed, wrote, gave_inner, gave_outermost}
 use Rattle.gm_store.specs.Held.{Held, Shape, HasSlot, Reversible, shape_of, store_of}
 use Rattle.gm_store.specs.Laws.{IsLogged}
 use Rattle.gm_totals.specs.declared.totals.Totals.{Totals}
@@ -69,9 +70,9 @@ does-write f m old new w logged back = record {
   };
 }
 
-pub does-give_inner : (f : Setting) (edge : ℕ) (old : Going) (new : Totals) (c : Contribution) → HasSlot (shape_of old.store) c.slot
+pub does-give_inner : (f : Setting) (edge : ℕ) (old : Going) (new : Totals) (c : Contribution) → All (HasSlot (shape_of old.store)) c.slots
     → ((cs : List Contribution) → StandsFor old.inner cs → StandsFor new (cs ++ c ∷ []))
-    → ((shape : Shape) → HasSlot shape c.slot → Within shape old.inner → Within shape new)
+    → ((shape : Shape) → All (HasSlot shape) c.slots → Within shape old.inner → Within shape new)
     → Does f (AtEdge edge) old (record old { inner = new }) (λ it. gave_inner it c)
 does-give_inner f edge old new c slot stands within = record {
   ready = λ r. record { fits = r.fits; inner = within (shape_of old.store) slot r.inner; outermost = r.outermost; deferred = r.deferred };
@@ -85,9 +86,9 @@ does-give_inner f edge old new c slot stands within = record {
   };
 }
 
-pub does-give_outermost : (f : Setting) (m : Mode) (old : Going) (new : Totals) (c : Contribution) → HasSlot (shape_of old.store) c.slot
+pub does-give_outermost : (f : Setting) (m : Mode) (old : Going) (new : Totals) (c : Contribution) → All (HasSlot (shape_of old.store)) c.slots
     → ((cs : List Contribution) → StandsFor old.outermost cs → StandsFor new (cs ++ c ∷ []))
-    → ((shape : Shape) → HasSlot shape c.slot → Within shape old.outermost → Within shape new)
+    → ((shape : Shape) → All (HasSlot shape) c.slots → Within shape old.outermost → Within shape new)
     → Does f m old (record old { outermost = new }) (λ it. gave_outermost it c)
 does-give_outermost f m old new c slot stands within = record {
   ready = λ r. record { fits = r.fits; inner = r.inner; outermost = within (shape_of old.store) slot r.outermost; deferred = r.deferred };
@@ -100,6 +101,24 @@ does-give_outermost f m old new c slot stands within = record {
     fault = h.fault;
   };
 }
+
+-- a target of one slot has its slot
+pub known-one : (shape : Shape) (slot : Slot) → HasSlot shape slot → All (HasSlot shape) (slot ∷ [])
+known-one shape slot has = All-push (HasSlot shape) [] slot (All-nil (HasSlot shape)) has
+
+pub one-known : (shape : Shape) (slot : Slot) → All (HasSlot shape) (slot ∷ []) → HasSlot shape slot
+one-known shape slot all = let first : 0 < 1 = omega arith in all 0 slot first
+
+-- one target ends as it does alone
+pub ends-alone : (e : Ends) → later e AtOnce ≡ e
+ends-alone AtOnce = refl
+ends-alone WithInner = refl
+ends-alone WithOutermost = refl
+
+-- one slot is written as it is alone
+pub wrote-alone : (it : Iteration) (a : Result (Slot × Value) Fault) → with_ok it (alone a) (wrote_all it) ≡ with_ok it a (wrote it)
+wrote-alone it (Ok p) = refl
+wrote-alone it (Err f) = refl
 
 -- outside reductions the store is as it is
 pub inside-none : (s : Store) → inside no_scope s ≡ s

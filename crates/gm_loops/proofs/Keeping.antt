@@ -11,7 +11,8 @@ use Rattle.gm_source.specs.declared.slots.Slot.TheVariants.{Scalar, Node}
 use Rattle.gm_source.specs.declared.slots.Write.{Write}
 use Rattle.gm_source.specs.Iterations.{Iteration}
 use Rattle.gm_source.specs.Loops.{left_at, own_left}
-use Rattle.gm_source.specs.Stores.{Store, write, overlaid}
+use Rattle.gm_source.specs.Contributions.{settled_store}
+use Rattle.gm_source.specs.Stores.{Store, slot_eq, write, overlaid}
 use Rattle.gm_store.specs.Held.{Held, held_at, shape_of, store_of, undone}
 use Rattle.gm_loops.specs.Own.{is_at, kept, Sets}
 use Rattle.gm_loops.specs.Turns.{KeepsOwn}
@@ -219,3 +220,13 @@ all-push P [] x h p zero d lt = p
 all-push P [] x h p (suc k) d lt = absurd (omega arith)
 all-push P (y ∷ ys) x h p zero d lt = h zero d (omega arith)
 all-push P (y ∷ ys) x h p (suc k) d lt = all-push P ys x (λ j e l. h (suc j) e (omega arith)) p k d (omega arith)
+
+-- without contributions slots hold what they held
+same-either : (b : Bool) (v : Value) → (if b then v else v) ≡ v
+same-either true v = refl
+same-either false v = refl
+
+pub settled-nothing : (s : Store) → settled_store s [] ≡ s
+settled-nothing s =
+    same-store (settled_store s []) s (fun_ext (λ x. same-either (slot_eq (Scalar x) (Scalar x)) (s.scalar x)))
+    (fun_ext (λ p. fun_ext (λ n. same-either (slot_eq (Node p n) (Node p n)) (s.node p n)))) refl

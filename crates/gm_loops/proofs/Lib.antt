@@ -13,3 +13,4 @@ pub mod Looping
 pub mod Everywhere
 pub mod Deeds
 pub mod Taking
+pub mod Together

@@ -1,10 +1,9 @@
 -- Outermost loops: their nodes, their iterations and their end.
 use Rattle.std.proofs.Common.{◌≡◌, ◌∙◌, ◌<◌, ◌+◌, ℕ, zero, suc, List, [], ◌++◌, length, map, get_or, Option, Some, None, Ok, refl, ap, sym, subst, arith}
 use Rattle.std.specs.Prelude.{All}
-use Rattle.gm_source.specs.declared.contributions.Contribution.{Contribution}
 use Rattle.gm_source.specs.declared.faults.Fault.{Fault}
 use Rattle.gm_source.specs.declared.slots.Write.{Write}
-use Rattle.gm_source.specs.Contributions.{settled_store, total_faults}
+use Rattle.gm_source.specs.Contributions.{Contribution, settled_store, total_faults}
 use Rattle.gm_source.specs.Faults.{least, unless_fault}
 use Rattle.gm_source.specs.Iterations.{Iteration, Outermost}
 use Rattle.gm_source.specs.Levels.{numbers_from}

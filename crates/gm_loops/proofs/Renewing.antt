@@ -9,11 +9,10 @@ use Rattle.gm_graph.specs.Graphs.{node_count}
 use Rattle.gm_ast.specs.declared.tree.Key.{Key}
 use Rattle.gm_ast.specs.declared.tree.Target.TheVariants as T
 use Rattle.gm_ast.specs.Program.{Expr, Stmt}
-use Rattle.gm_source.specs.declared.contributions.Contribution.{Contribution}
 use Rattle.gm_source.specs.declared.faults.Fault.{Fault}
 use Rattle.gm_source.specs.declared.slots.Slot.TheVariants.{Scalar, Node}
 use Rattle.gm_source.specs.declared.slots.Write.{Write}
-use Rattle.gm_source.specs.Contributions.{settled_store, total_faults}
+use Rattle.gm_source.specs.Contributions.{Contribution, settled_store, total_faults}
 use Rattle.gm_source.specs.Faults.{joined, least, somes, then_with, unless_fault}
 use Rattle.gm_source.specs.Expressions.{Evaluated, View, settled}
 use Rattle.gm_source.specs.Iterations.{Iteration, Loop, Outermost, as_it_is, assigned, begun, does, one_way, view_in, with_ok, wrote}
@@ -31,7 +30,7 @@ use Rattle.gm_loops.specs.LoopEnds.{AtRest}
 use Rattle.gm_loops.specs.Renewals.{Renews}
 use Rattle.gm_loops.proofs.Deeds.{turn-filtered}
 use Rattle.gm_loops.proofs.Everywhere.{node-here}
-use Rattle.gm_loops.proofs.Keeping.{same-store}
+use Rattle.gm_loops.proofs.Keeping.{same-store, settled-nothing}
 use Rattle.gm_loops.proofs.Turning.{ready-same}
 
 -- an iteration writes its own node's value, and does nothing else
@@ -88,6 +87,7 @@ own-alone : (s own : Store) (ks : List ℕ) (its : List Iteration) → own_left 
 own-alone s own ks its left contributions deferred faults =
     ap (λ (o : Store). unless_fault (least (somes (map (λ (it : Iteration). it.fault) its) ++ total_faults o (joined (map (λ (it : Iteration). it.with_outermost) its)))) (Ok (overlaid (settled_store o (joined (map (λ (it : Iteration). it.with_outermost) its))) (joined (map (λ (it : Iteration). it.deferred) its))))) left
     ∙ ap (λ (cs : List Contribution). unless_fault (least (somes (map (λ (it : Iteration). it.fault) its) ++ total_faults own cs)) (Ok (overlaid (settled_store own cs) (joined (map (λ (it : Iteration). it.deferred) its))))) contributions
+    ∙ ap (λ (o : Store). unless_fault (least (somes (map (λ (it : Iteration). it.fault) its) ++ [])) (Ok (overlaid o (joined (map (λ (it : Iteration). it.deferred) its))))) (settled-nothing own)
     ∙ ap (λ (fs : List Fault). unless_fault (least (fs ++ [])) (Ok (overlaid own (joined (map (λ (it : Iteration). it.deferred) its))))) faults
     ∙ ap (λ (ws : List Write). let r : Result Store Fault = Ok (overlaid own ws) in r) deferred
 

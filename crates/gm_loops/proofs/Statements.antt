@@ -22,6 +22,7 @@ use Rattle.gm_source.specs.Iterations.{Iteration, Loop, Mode, does, edge_of, fai
 use Rattle.gm_store.specs.Held.{Held, store_of}
 use Rattle.gm_loops.specs.declared.around.Around.{Around}
 use Rattle.gm_loops.specs.Around.{loop_of}
+use Rattle.gm_loops.specs.Targets.{AreSeveral}
 use Rattle.gm_loops.specs.Bounds.{bound_of, target_bound, targets_bound}
 use Rattle.gm_loops.specs.Scopes.{no_scope}
 use Rattle.gm_loops.specs.Sights.{edges_in, view_of}
@@ -78,14 +79,13 @@ only-one [] d e = absurd (omega arith)
 only-one (x ∷ []) d e = refl
 only-one (x ∷ y ∷ xs) d e = absurd (omega arith)
 
--- a reduction assignment without one target and one value does nothing
-pub combine-other : (key : Key) (total : TotalKey) (r : Reduce) (ts : List Target) (es : List P.Expr) (m : Mode) (loop : Loop) (it : Iteration)
-    → ((length ts ≡ 1) → (length es ≡ 1) → ⊥) → it ≡ does (P.Combine key total r ts es) m loop it
-combine-other key total r [] es m loop it none = refl
-combine-other key total r (t ∷ []) [] m loop it none = refl
-combine-other key total r (t ∷ []) (e ∷ []) m loop it none = absurd (none refl refl)
-combine-other key total r (t ∷ []) (e ∷ d ∷ es) m loop it none = refl
-combine-other key total r (t ∷ u ∷ ts) es m loop it none = refl
+-- a reduction assignment without one target and one value is of several
+pub several-unless : {E : Type 0} (ts : List Target) (es : List E) → ((length ts ≡ 1) → (length es ≡ 1) → ⊥) → AreSeveral ts es
+several-unless [] es none = tt
+several-unless (t ∷ []) [] none = tt
+several-unless (t ∷ []) (e ∷ []) none = none refl refl
+several-unless (t ∷ []) (e ∷ d ∷ es) none = tt
+several-unless (t ∷ u ∷ ts) es none = tt
 
 pub one-target-bound : (ts : List Target) (d : Target) → length ts ≡ 1 → target_bound (get_or ts 0 d) ≤ targets_bound ts
 one-target-bound [] d e = absurd (omega arith)

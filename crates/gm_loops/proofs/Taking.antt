@@ -2,7 +2,7 @@
 use Rattle.std.proofs.Common.{◌≡◌, ◌∙◌, List, [], ◌∷◌, ◌++◌, Option, None, ap, subst, sym, refl}
 use Rattle.std.proofs.lemmas.List.{append-nil}
 use Rattle.std.specs.Prelude.{All}
-use Rattle.gm_source.specs.declared.contributions.Contribution.{Contribution}
+use Rattle.gm_source.specs.Contributions.{Contribution}
 use Rattle.gm_source.specs.declared.faults.Fault.{Fault}
 use Rattle.gm_source.specs.declared.slots.Write.{Write}
 use Rattle.gm_source.specs.Faults.{least, somes}
@@ -10,6 +10,8 @@ use Rattle.gm_source.specs.Iterations.{Iteration, Mode, Outermost, AtEdge, begun
 use Rattle.gm_source.specs.Stores.{Store}
 use Rattle.gm_store.specs.Held.{Held, HasSlot, shape_of, store_of}
 use Rattle.gm_totals.specs.declared.totals.Totals.{Totals}
+use Rattle.gm_totals.specs.declared.contributions.Contribution.{Contribution as Gift}
+use Rattle.gm_totals.specs.Given.{single}
 use Rattle.gm_totals.specs.Standing.{StandsFor, Within}
 use Rattle.gm_loops.specs.declared.goings.Going.{Going}
 use Rattle.gm_loops.specs.declared.sights.Setting.{Setting}
@@ -28,13 +30,13 @@ pub record LeavesOnly (cs : List Contribution) (it : Iteration) : Type 0 where
   pub fault : it.fault ≡ None
 
 -- a deed that is no contribution leaves nothing that waits
-pub leaves-none : (deed : Deed) → ((c : Contribution) → deed ≡ Gives c → ⊥) → (s : Store) → LeavesOnly [] (after_deed deed (begun s))
+pub leaves-none : (deed : Deed) → ((c : Gift) → deed ≡ Gives c → ⊥) → (s : Store) → LeavesOnly [] (after_deed deed (begun s))
 leaves-none Nothing other s = record { inner = refl; outermost = refl; deferred = refl; fault = refl }
 leaves-none (Writes w) other s = record { inner = refl; outermost = refl; deferred = refl; fault = refl }
 leaves-none (Gives c) other s = absurd (other c refl)
 
 -- a contribution is all that its iteration leaves
-pub leaves-one : (c : Contribution) (s : Store) → LeavesOnly (c ∷ []) (after_deed (Gives c) (begun s))
+pub leaves-one : (c : Gift) (s : Store) → LeavesOnly (single c ∷ []) (after_deed (Gives c) (begun s))
 leaves-one c s = record { inner = refl; outermost = refl; deferred = refl; fault = refl }
 
 deferred-none : (m : Mode) (ds : List Write) → deferred_after m ds [] ≡ ds

@@ -3,7 +3,7 @@ use Rattle.std.proofs.Common.{◌≡◌, ◌∙◌, ◌<◌, ◌+◌, ℕ, get_o
 use Rattle.std.proofs.lemmas.List.{append-nil, take_more}
 use Rattle.std.specs.Prelude.{All}
 use Rattle.std.specs.Option.{is_some}
-use Rattle.gm_source.specs.declared.contributions.Contribution.{Contribution}
+use Rattle.gm_source.specs.Contributions.{Contribution}
 use Rattle.gm_source.specs.declared.faults.Fault.{Fault}
 use Rattle.gm_source.specs.declared.slots.Write.{Write}
 use Rattle.gm_source.specs.Faults.{least, joined}

@@ -3,8 +3,7 @@ use Rattle.std.specs.Prelude.{◌≡◌, ℕ, List, [], Option, Some, None, Resu
 use Rattle.gm_source.specs.declared.faults.Fault.{Fault}
 use Rattle.gm_value.specs.declared.values.Value.{Value}
 use Rattle.gm_source.specs.Levels.{numbers_from}
-use Rattle.gm_source.specs.declared.contributions.Contribution.{Contribution}
-use Rattle.gm_source.specs.Contributions.{settled_store, total_faults}
+use Rattle.gm_source.specs.Contributions.{Contribution, settled_store, total_faults}
 use Rattle.gm_source.specs.Faults.{least}
 use Rattle.gm_source.specs.Stores.{Store, overlaid}
 use Rattle.gm_store.specs.Held.{Shape, shape_of, store_of}

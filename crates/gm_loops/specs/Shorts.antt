@@ -3,6 +3,7 @@ use Rattle.std.specs.Prelude.{◌≡◌, ⊤, ℕ, true, List, [], ◌∷◌}
 use Rattle.gm_source.specs.declared.slots.Write.{Write}
 use Rattle.gm_source.specs.Iterations.{Iteration, gave_outermost, wrote}
 use Rattle.gm_store.specs.Held.{Shape, HasSlot}
+use Rattle.gm_totals.specs.Given.{single}
 use Rattle.gm_loops.specs.declared.shorts.Deed.{Deed}
 use Rattle.gm_loops.specs.declared.shorts.Deed.TheVariants.{Nothing, Writes, Gives}
 use Rattle.gm_loops.specs.Own.{is_at}
@@ -11,7 +12,7 @@ use Rattle.gm_loops.specs.Own.{is_at}
 abbrev pub after_deed : Deed → Iteration → Iteration
 after_deed Nothing it = it
 after_deed (Writes w) it = wrote it (w.slot, w.value)
-after_deed (Gives c) it = gave_outermost it c
+after_deed (Gives c) it = gave_outermost it (single c)
 
 -- the deed is to a slot that there is
 abbrev pub IsWithin : Shape → Deed → Type 0

@@ -4,7 +4,7 @@ ghost use Rattle.std.specs.Prelude.{◌≡◌, true, map};
 ghost use Rattle.std.specs.List.{list_any};
 ghost use Rattle.gm_ast.specs.Program.{sequence};
 ghost use Rattle.gm_ast.specs.Tree.{stmt_of};
-ghost use Rattle.gm_source.specs.Iterations.{ends_of, edge_of, own_ends, scalar_ends};
+ghost use Rattle.gm_source.specs.Iterations.{ends_of, ends_of_all, later, edge_of, own_ends, scalar_ends};
 ghost use Rattle.gm_source.specs.Loops.{is_elsewhere, pushes};
 ghost use Rattle.gm_source.specs.Statements.{variable_at};
 ghost use Rattle.gm_loops.specs.Around.{body_of, ends_as, loop_of, mode_of};
@@ -213,5 +213,29 @@ impl<'a> Around<'a> {
                 }
             }
         }
+    }
+
+    // When a reduction to targets ends: as late as the latest of them would.
+    pub(crate) fn ends_of_all(&self, mode: Mode, targets: &[Target]) -> Ends
+        ensures { ends_as result ≡ ends_of_all (mode_of mode) (loop_of self.now) targets.now }
+    {
+        let mut ends = Ends::AtOnce;
+        let mut k = targets.len();
+        while k > 0 {
+            k -= 1;
+            ends = later(self.ends_of(mode, &targets[k]), ends);
+        }
+        ends
+    }
+}
+
+// The later of two ends.
+fn later(a: Ends, b: Ends) -> Ends
+    ensures { ends_as result ≡ later (ends_as a) (ends_as b) }
+{
+    match (a, b) {
+        (Ends::AtOnce, _) => b,
+        (Ends::WithOutermost, _) | (_, Ends::WithOutermost) => Ends::WithOutermost,
+        (Ends::WithInner, _) => a,
     }
 }

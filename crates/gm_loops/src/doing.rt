@@ -11,7 +11,7 @@ ghost use Rattle.gm_source.specs.Iterations.{does};
 ghost use Rattle.gm_loops.specs.Around.{loop_of, mode_of};
 ghost use Rattle.gm_loops.specs.Bounds.{target_bound, targets_bound};
 ghost use Rattle.gm_loops.specs.Goings.{Does, IsReady};
-ghost use Rattle.gm_loops.specs.Targets.{pair_of};
+ghost use Rattle.gm_loops.specs.Targets.{pair_of, AreSeveral};
 
 use crate::around::{Around, Ends, Mode};
 use crate::goings::Going;
@@ -112,7 +112,7 @@ impl Going {
         Ok(())
     }
 
-    // A reduction assignment: a write at once, or a contribution.
+    // A reduction assignment to one target: a write at once, or a contribution.
     pub(crate) fn reduce(
         &mut self,
         key: Key,
@@ -146,8 +146,50 @@ impl Going {
         Ok(())
     }
 
-    // A reduction assignment to a list of targets: with one target and one value, as checked programs have it, it is
-    // done.
+    // An argument reduction, whose targets count as one: writes at once, or a contribution.
+    fn reduce_tuple(
+        &mut self,
+        key: Key,
+        total: TotalKey,
+        reduce: Reduce,
+        targets: &[Target],
+        values: &[Expr],
+        mode: Mode,
+        around: &Around,
+    ) -> Result<(), NoMemory>
+        requires ready { IsReady around.now.setting.now self.old }
+        requires bound { targets_bound targets.now ≤ around.now.setting.now.variables }
+        requires several { AreSeveral targets.now values.now }
+        ensures { OnOk result (Does around.now.setting.now (mode_of mode) self.old self.new (does (program.Combine key total reduce targets.now (map expr_of values.now)) (mode_of mode) (loop_of around.now))) }
+    {
+        let sight = around.sight(mode, key);
+        match (around.ends_of_all(mode, targets), mode) {
+            (Ends::AtOnce, _) => {
+                let place = total.place;
+                let answer = sight.together(
+                    self.alloc,
+                    &self.store,
+                    place,
+                    reduce,
+                    targets,
+                    values,
+                )?;
+                self.put_all(answer)?;
+            }
+            (Ends::WithInner, Mode::AtEdge(_)) => {
+                let answer = sight.assigned_all(self.alloc, &self.store, targets, values)?;
+                self.add_inner_all(total, reduce, answer)?;
+            }
+            (Ends::WithInner, Mode::Outermost) => unreachable!(),
+            (Ends::WithOutermost, _) => {
+                let answer = sight.assigned_all(self.alloc, &self.store, targets, values)?;
+                self.add_outermost_all(total, reduce, answer)?;
+            }
+        }
+        Ok(())
+    }
+
+    // A reduction assignment to a list of targets. One with one target and one value goes a fast way.
     pub(crate) fn reduce_all(
         &mut self,
         key: Key,
@@ -164,6 +206,8 @@ impl Going {
     {
         if targets.len() == 1 && values.len() == 1 {
             self.reduce(key, total, reduce, &targets[0], &values[0], mode, around)?;
+        } else {
+            self.reduce_tuple(key, total, reduce, targets, values, mode, around)?;
         }
         Ok(())
     }

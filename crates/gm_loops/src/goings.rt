@@ -1,22 +1,23 @@
 //! A loop's iterations so far, and the effects of statements on them.
 
-ghost use Rattle.std.specs.Prelude.{◌≡◌, IfOk, OnOk, ℕ};
+ghost use Rattle.std.specs.Prelude.{◌≡◌, ◌∷◌, [], All, IfOk, OnOk, ℕ};
 ghost use Rattle.gm_source.specs.Iterations as iterations;
-ghost use Rattle.gm_source.specs.Iterations.{failed, wrote, with_ok, gave_inner, gave_outermost, deferred_to, contribution};
+ghost use Rattle.gm_source.specs.Iterations.{alone, failed, wrote, wrote_all, with_ok, gave_inner, gave_outermost, deferred_to, contribution};
+ghost use Rattle.gm_totals.specs.Given.{single};
 ghost use Rattle.gm_store.specs.Held.{HasSlot, shape_of};
 ghost use Rattle.gm_loops.specs.declared.sights.Setting.{Setting};
-ghost use Rattle.gm_loops.specs.Targets.{pair_of};
+ghost use Rattle.gm_loops.specs.Targets.{pair_of, tuple_of};
 ghost use Rattle.gm_loops.specs.Goings.{Does};
 
 use crate::ranges::Hop;
+use crate::tuples::Tuple;
 use gm_ast::tree::TotalKey;
 use gm_base::NoMemory;
-use gm_source::contributions::Contribution;
 use gm_source::faults::Fault;
-use gm_source::slots::Write;
+use gm_source::slots::{Slot, Write};
 use gm_store::{Store, logged_writes_are_reversible};
-use gm_totals::Totals;
-use gm_value::Reduce;
+use gm_totals::{Contribution, Totals};
+use gm_value::{Reduce, Value};
 use std::alloc::Global;
 
 /// The iterations of a loop so far: the store that the present one sees, the totals that end with the inner and with
@@ -35,7 +36,7 @@ pub struct Going {
 // What a reduction assignment gives.
 #[inline(always)]
 pub(crate) fn contribution(total: TotalKey, reduce: Reduce, write: Write) -> Contribution
-    ensures { result ≡ contribution total reduce (write.slot, write.value) }
+    ensures { result ≡ record { total = total; reduce = reduce; slot = write.slot; value = write.value } }
 {
     Contribution {
         total,
@@ -78,7 +79,7 @@ impl Going {
     // A contribution that ends with the inner loop.
     fn give_inner(&mut self, total: TotalKey, reduce: Reduce, write: Write) -> Result<(), NoMemory>
         requires { HasSlot (shape_of self.old.store) write.slot }
-        ensures { OnOk result ((f : Setting) (edge : ℕ) → Does f (iterations.AtEdge edge) self.old self.new (λ it. gave_inner it (contribution total reduce (write.slot, write.value)))) }
+        ensures { OnOk result ((f : Setting) (edge : ℕ) → Does f (iterations.AtEdge edge) self.old self.new (λ it. gave_inner it (contribution total reduce (write.slot ∷ [], write.value ∷ [])))) }
     {
         self.inner.give(contribution(total, reduce, write))?;
         Ok(())
@@ -92,7 +93,7 @@ impl Going {
         answer: Result<Write, Fault>,
     ) -> Result<(), NoMemory>
         requires { IfOk answer (λ w. HasSlot (shape_of self.old.store) w.slot) }
-        ensures { OnOk result ((f : Setting) (edge : ℕ) → Does f (iterations.AtEdge edge) self.old self.new (λ it. with_ok it (pair_of answer) (λ p. gave_inner it (contribution total reduce p)))) }
+        ensures { OnOk result ((f : Setting) (edge : ℕ) → Does f (iterations.AtEdge edge) self.old self.new (λ it. with_ok it (alone (pair_of answer)) (λ p. gave_inner it (contribution total reduce p)))) }
     {
         match answer {
             Ok(write) => self.give_inner(total, reduce, write)?,
@@ -109,7 +110,7 @@ impl Going {
         write: Write,
     ) -> Result<(), NoMemory>
         requires { HasSlot (shape_of self.old.store) write.slot }
-        ensures { OnOk result ((f : Setting) (m : iterations.Mode) → Does f m self.old self.new (λ it. gave_outermost it (contribution total reduce (write.slot, write.value)))) }
+        ensures { OnOk result ((f : Setting) (m : iterations.Mode) → Does f m self.old self.new (λ it. gave_outermost it (contribution total reduce (write.slot ∷ [], write.value ∷ [])))) }
     {
         self.outermost.give(contribution(total, reduce, write))?;
         Ok(())
@@ -123,10 +124,75 @@ impl Going {
         answer: Result<Write, Fault>,
     ) -> Result<(), NoMemory>
         requires { IfOk answer (λ w. HasSlot (shape_of self.old.store) w.slot) }
-        ensures { OnOk result ((f : Setting) (m : iterations.Mode) → Does f m self.old self.new (λ it. with_ok it (pair_of answer) (λ p. gave_outermost it (contribution total reduce p)))) }
+        ensures { OnOk result ((f : Setting) (m : iterations.Mode) → Does f m self.old self.new (λ it. with_ok it (alone (pair_of answer)) (λ p. gave_outermost it (contribution total reduce p)))) }
     {
         match answer {
             Ok(write) => self.give_outermost(total, reduce, write)?,
+            Err(fault) => self.fail(fault),
+        }
+        Ok(())
+    }
+
+    // Writes to several slots that the iteration sees from then on, or a fault.
+    pub fn put_all(&mut self, answer: Result<Tuple, Fault>) -> Result<(), NoMemory>
+        requires { IfOk answer (λ t. All (HasSlot (shape_of self.old.store)) t.slots.items) }
+        ensures { OnOk result ((f : Setting) (m : iterations.Mode) → Does f m self.old self.new (λ it. with_ok it (tuple_of answer) (wrote_all it))) }
+    {
+        match answer {
+            Ok(tuple) => self.write_tuple(tuple.slots.as_slice(), tuple.values.as_slice())?,
+            Err(fault) => self.fail(fault),
+        }
+        Ok(())
+    }
+
+    // Values for slots, one after another.
+    fn write_tuple(&mut self, slots: &[Slot], values: &[Value]) -> Result<(), NoMemory>
+        requires { All (HasSlot (shape_of self.old.store)) slots.now }
+        ensures { OnOk result ((f : Setting) (m : iterations.Mode) → Does f m self.old self.new (λ it. wrote_all it (slots.now, values.now))) }
+    {
+        logged_writes_are_reversible();
+        let count = slots.len().min(values.len());
+        for k in 0..count {
+            self.store.write(slots[k], values[k])?;
+        }
+        Ok(())
+    }
+
+    // A contribution to several slots that ends with the inner loop, or a fault.
+    pub fn add_inner_all(
+        &mut self,
+        total: TotalKey,
+        reduce: Reduce,
+        answer: Result<Tuple, Fault>,
+    ) -> Result<(), NoMemory>
+        requires { IfOk answer (λ t. All (HasSlot (shape_of self.old.store)) t.slots.items) }
+        ensures { OnOk result ((f : Setting) (edge : ℕ) → Does f (iterations.AtEdge edge) self.old self.new (λ it. with_ok it (tuple_of answer) (λ p. gave_inner it (contribution total reduce p)))) }
+    {
+        match answer {
+            Ok(tuple) => {
+                self.inner
+                    .give_tuple(total, reduce, tuple.slots, tuple.values.as_slice())?;
+            }
+            Err(fault) => self.fail(fault),
+        }
+        Ok(())
+    }
+
+    // A contribution to several slots that ends with the outermost loop, or a fault.
+    pub fn add_outermost_all(
+        &mut self,
+        total: TotalKey,
+        reduce: Reduce,
+        answer: Result<Tuple, Fault>,
+    ) -> Result<(), NoMemory>
+        requires { IfOk answer (λ t. All (HasSlot (shape_of self.old.store)) t.slots.items) }
+        ensures { OnOk result ((f : Setting) (m : iterations.Mode) → Does f m self.old self.new (λ it. with_ok it (tuple_of answer) (λ p. gave_outermost it (contribution total reduce p)))) }
+    {
+        match answer {
+            Ok(tuple) => {
+                self.outermost
+                    .give_tuple(total, reduce, tuple.slots, tuple.values.as_slice())?;
+            }
             Err(fault) => self.fail(fault),
         }
         Ok(())

@@ -41,6 +41,7 @@ mod scopes;
 mod shorts;
 mod sights;
 mod targets;
+mod tuples;
 mod turns;
 
 pub use around::{Around, Body};
@@ -50,3 +51,4 @@ pub use loops::LoopNodes;
 pub use parts::{Answer, is_true};
 pub use scopes::Scope;
 pub use sights::{EdgeColumn, Setting, Sight};
+pub use tuples::Tuple;

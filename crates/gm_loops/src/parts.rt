@@ -52,7 +52,7 @@ pub(crate) fn located(key: Key, place: Place, result_here: Result<Value, FaultKi
 }
 
 // The first fault of two parts in order.
-fn first(a: Option<Fault>, b: Option<Fault>) -> Option<Fault>
+pub(crate) fn first(a: Option<Fault>, b: Option<Fault>) -> Option<Fault>
     ensures { result ≡ first a b }
 {
     match a {

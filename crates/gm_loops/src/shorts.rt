@@ -25,8 +25,8 @@ use crate::parts::is_true;
 use crate::scopes::Scope;
 use gm_ast::tree::{Expr, Key, Stmt, Target, TotalKey};
 use gm_base::NoMemory;
-use gm_source::contributions::Contribution;
 use gm_source::slots::Write;
+use gm_totals::Contribution;
 use gm_value::Reduce;
 
 // What an iteration does: nothing, a write at its own node, or a contribution that ends with the outermost loop.

@@ -5,7 +5,7 @@ ghost use Rattle.gm_value.specs.Reductions.{close};
 ghost use Rattle.gm_graph.specs.Graphs.{node_count};
 ghost use Rattle.gm_ast.specs.Tree.{expr_of};
 ghost use Rattle.gm_source.specs.Expressions.{evaluated, value};
-ghost use Rattle.gm_source.specs.Iterations.{assigned, at_once, slot_of, target_value};
+ghost use Rattle.gm_source.specs.Iterations.{alone, assigned, at_once, slot_of, target_value};
 ghost use Rattle.gm_source.specs.Loops.{is_elsewhere};
 ghost use Rattle.gm_store.specs.Held.{HasSlot};
 ghost use Rattle.gm_loops.specs.Bounds.{target_bound};
@@ -57,7 +57,7 @@ fn put_together(
 
 impl Sight<'_> {
     // The value of an expression in two parts. Most expressions fault nowhere: the parts are asked for where one may.
-    fn parts_of(&self, e: &Expr, store: &Store) -> Evaluated
+    pub(crate) fn parts_of(&self, e: &Expr, store: &Store) -> Evaluated
         requires { Fits self.now.setting.now store.now }
         ensures { parts result ≡ evaluated (expr_of e.now) (view_of self.now no_scope store.now) }
     {
@@ -76,7 +76,7 @@ impl Sight<'_> {
     }
 
     // The slot of a target, or NilNode at its node variable.
-    fn slot_of(&self, store: &Store, target: &Target) -> Result<Slot, Fault>
+    pub(crate) fn slot_of(&self, store: &Store, target: &Target) -> Result<Slot, Fault>
         requires { Fits self.now.setting.now store.now }
         ensures slot { result ≡ slot_of (view_of self.now no_scope store.now) target.now }
         ensures known { IfOk result (HasSlot (room (node_count self.now.setting.now.graph.now) (target_bound target.now))) }
@@ -143,7 +143,7 @@ impl Sight<'_> {
     }
 
     // What a target holds, as a value that is read.
-    fn target_value(&self, store: &Store, target: &Target) -> Evaluated
+    pub(crate) fn target_value(&self, store: &Store, target: &Target) -> Evaluated
         requires { Fits self.now.setting.now store.now }
         ensures { parts result ≡ evaluated (target_value target.now) (view_of self.now no_scope store.now) }
     {
@@ -172,7 +172,7 @@ impl Sight<'_> {
         e: &Expr,
     ) -> Result<Write, Fault>
         requires { Fits self.now.setting.now store.now }
-        ensures pair { pair_of result ≡ at_once (view_of self.now no_scope store.now) place reduce target.now (expr_of e.now) }
+        ensures pair { alone (pair_of result) ≡ at_once (view_of self.now no_scope store.now) place reduce (target.now ∷ []) (expr_of e.now ∷ []) }
         ensures known { IfOk result (λ w. HasSlot (room (node_count self.now.setting.now.graph.now) (target_bound target.now)) w.slot) }
     {
         let held = self.target_value(store, target);

@@ -2,6 +2,8 @@
 #![tactic(auto)]
 
 #[cfg(test)]
+mod argument_totals;
+#[cfg(test)]
 mod running_totals;
 #[cfg(test)]
 mod search_levels;

@@ -6,10 +6,9 @@ ghost use Rattle.gm_totals.specs.Standing.{Within};
 
 use gm_ast::tree::{Key, Stage, TotalKey};
 use gm_base::{NoMemory, Place};
-use gm_source::contributions::Contribution;
 use gm_source::slots::{Slot, Write};
 use gm_store::Store;
-use gm_totals::{Closed, Totals};
+use gm_totals::{Closed, Contribution, Totals};
 use gm_value::{FaultKind, Reduce, Value};
 use std::alloc::Global;
 use std::test::Fail;
@@ -252,16 +251,16 @@ fn slots_settle_apart(rt: HostRuntime) -> Result<(), Fail> {
     let closed = settled(rt.alloc(), &[], &given)?;
     let want = [
         Write {
-            slot: parent(2),
-            value: last,
+            slot: parent(0),
+            value: Value::At(None),
         },
         Write {
             slot: Slot::Scalar(0),
             value: TEN,
         },
         Write {
-            slot: parent(0),
-            value: Value::At(None),
+            slot: parent(2),
+            value: last,
         },
     ];
     assert!(rt; closed.writes.as_slice() == want.as_slice());
@@ -286,12 +285,12 @@ fn totals_are_emptied(rt: HostRuntime) -> Result<(), Fail> {
     ];
     let want = [
         Write {
-            slot: parent(1),
-            value: one,
-        },
-        Write {
             slot: parent(2),
             value: Value::At(None),
+        },
+        Write {
+            slot: parent(1),
+            value: one,
         },
     ];
     let closed = settled(rt.alloc(), &emptied, &given)?;

@@ -1,5 +1,4 @@
 use Rattle.std.proofs.Common.{◌∙◌, ◌∷◌, [], List, get_or, map, arith, ap, sym, subst}
-use Rattle.std.proofs.lemmas.List.{length-map}
 use Rattle.gm_ast.specs.declared.tree.Expr as E
 use Rattle.gm_ast.specs.declared.tree.Target.{Target}
 use Rattle.gm_ast.specs.declared.tree.Target.TheVariants as T
@@ -9,9 +8,7 @@ use Rattle.gm_source.specs.Iterations as I
 use Rattle.gm_source.specs.Iterations.{does}
 use Rattle.gm_loops.specs.Around.{loop_of, mode_of}
 use Rattle.gm_loops.specs.Goings.{Does}
-use Rattle.gm_loops.proofs.Effects.{does-as}
-use Rattle.gm_loops.proofs.Statements.{combine-other, one-target-bound, only-one}
-use Rattle.gm_loops.proofs.Turning.{does-none}
+use Rattle.gm_loops.proofs.Statements.{one-target-bound, only-one, several-unless}
 use Rattle.gm_loops.proofs.goings.Going.reduce_all.Goals as goal
 use Rattle.gm_loops.proofs.goings.Going.reduce_all.Goals.{else-targets-eq1-via-then-targets-eq1+else-values-eq1, else-targets-eq1-via-else-targets-eq1}
 
@@ -33,15 +30,10 @@ returns-in_ok-reduce c =
     (sym (ap (map expr_of) (only-one c.args.values.now c.index-values-0.result c.if-values-eq1.true) ∙ ap (λ (e : E.Expr). expr_of e ∷ []) (sym c.index-values-0.is)))
     c.in_ok-reduce.ensures)
 
-pub returns-else-targets-eq1 : goal.returns-else-targets-eq1
-returns-else-targets-eq1 c =
-    let a = c.args.around.now in
-    let m : I.Mode = mode_of c.args.mode in
-    does-as a.setting.now m c.args.self.now c.args.self.now (λ it. it)
-    (λ it. does (P.Combine c.args.key c.args.total c.args.reduce c.args.targets.now (map expr_of c.args.values.now)) m (loop_of a) it)
-    (does-none a.setting.now m c.args.self.now)
-    (λ it h. combine-other c.args.key c.args.total c.args.reduce c.args.targets.now (map expr_of c.args.values.now) m (loop_of a) it
+pub reduce_tuple-requires-clause-several : goal.reduce_tuple-requires-clause-several
+reduce_tuple-requires-clause-several c =
+    several-unless c.args.targets.now c.args.values.now
     (elim c.else-targets-eq1.branch [
-      | else-targets-eq1-via-then-targets-eq1+else-values-eq1 w ↦ (λ p q. omega (arith, w.if-values-eq1.false, length-map c.args.values.now expr_of))
+      | else-targets-eq1-via-then-targets-eq1+else-values-eq1 w ↦ (λ p q. omega (arith, w.if-values-eq1.false))
       | else-targets-eq1-via-else-targets-eq1 w ↦ (λ p q. omega (arith, w.if-targets-eq1.false))
-    ]))
+    ])

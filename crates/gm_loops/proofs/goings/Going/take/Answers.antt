@@ -3,6 +3,7 @@ use Rattle.std.proofs.Common.{◌∙◌, [], ◌∷◌, None, ap, refl, subst, s
 use Rattle.std.proofs.lemmas.List.{append-nil}
 use Rattle.gm_source.specs.Iterations.{begun}
 use Rattle.gm_store.specs.Held.{shape_of}
+use Rattle.gm_totals.specs.Given.{single}
 use Rattle.gm_totals.specs.Standing.{StandsFor}
 use Rattle.gm_loops.specs.declared.goings.Going.{Going}
 use Rattle.gm_loops.specs.declared.shorts.Deed.TheVariants.{Gives}
@@ -16,7 +17,7 @@ returns-in_ok-give c =
     let given = c.in-Gives.contribution in
     let new : Going = record old { outermost = c.give.new.self; fault = None } in
     λ f m turn s is.
-    takes-one f m old new turn (after_deed (Gives given) (begun s)) (given ∷ []) (is ∙ ap (λ d. after_deed d (begun s)) c.in-Gives.is) (leaves-one given s) refl refl refl
+    takes-one f m old new turn (after_deed (Gives given) (begun s)) (single given ∷ []) (is ∙ ap (λ d. after_deed d (begun s)) c.in-Gives.is) (leaves-one given s) refl refl refl
     c.in_ok-give.ensures.stands
     (λ ready. c.in_ok-give.ensures.within (shape_of old.store) (subst (IsWithin (shape_of old.store)) c.in-Gives.is c.requires) ready.outermost)
 

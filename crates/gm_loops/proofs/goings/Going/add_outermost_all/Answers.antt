@@ -1,0 +1,25 @@
+use Rattle.std.proofs.Common.{◌≡◌, List, Ok, Result, sym, subst}
+use Rattle.std.specs.Prelude.{All, IfOk}
+use Rattle.gm_value.specs.declared.values.Value.{Value}
+use Rattle.gm_source.specs.declared.faults.Fault.{Fault}
+use Rattle.gm_source.specs.Iterations.{with_ok, gave_outermost, contribution}
+use Rattle.gm_store.specs.Held.{HasSlot, shape_of}
+use Rattle.gm_totals.specs.Given.{given}
+use Rattle.gm_loops.specs.declared.tuples.Tuple.{Tuple}
+use Rattle.gm_loops.specs.Goings.{Does}
+use Rattle.gm_loops.specs.Targets.{tuple_of}
+use Rattle.gm_loops.proofs.Effects.{does-give_outermost}
+use Rattle.gm_loops.proofs.goings.Going.add_outermost_all.Goals as goal
+
+pub returns-in_ok-give_tuple-in-Ok : goal.returns-in_ok-give_tuple-in-Ok
+returns-in_ok-give_tuple-in-Ok c = λ f m.
+    let old = c.args.self.now in
+    let t = c.in-Ok.tuple in
+    let slots : All (HasSlot (shape_of old.store)) t.slots.items = subst (λ (a : Result Tuple Fault). IfOk a (λ u. All (HasSlot (shape_of old.store)) u.slots.items)) c.in-Ok.is c.requires in
+    subst (λ (a : Result Tuple Fault). Does f m old (record old { outermost = c.give_tuple.new.self }) (λ it. with_ok it (tuple_of a) (λ p. gave_outermost it (contribution c.args.total c.args.reduce p)))) (sym c.in-Ok.is)
+    (subst (λ (vs : List Value). Does f m old (record old { outermost = c.give_tuple.new.self }) (λ it. gave_outermost it (given c.args.total c.args.reduce t.slots.items vs))) c.as_slice.ensures.value
+    (does-give_outermost f m old c.give_tuple.new.self (given c.args.total c.args.reduce t.slots.items c.as_slice.result.now) slots c.in_ok-give_tuple-in-Ok.ensures.stands c.in_ok-give_tuple-in-Ok.ensures.within))
+
+pub returns-in-Err : goal.returns-in-Err
+returns-in-Err c = λ f m.
+    subst (λ (a : Result Tuple Fault). Does f m c.args.self.now c.fail.new.self (λ it. with_ok it (tuple_of a) (λ p. gave_outermost it (contribution c.args.total c.args.reduce p)))) (sym c.in-Err.is) (c.fail.ensures f m)
