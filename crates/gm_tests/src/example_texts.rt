@@ -10,7 +10,7 @@ pub struct Example {
     pub written: &'static str,
 }
 
-pub const EXAMPLES: [Example; 12] = [
+pub const EXAMPLES: [Example; 13] = [
     Example {
         name: "bipartite",
         words: "root=0",
@@ -66,6 +66,13 @@ pub const EXAMPLES: [Example; 12] = [
         text: "// A ranking in whole points. Each node begins with 1,000,000. In each round it gives all its points away in equal\n// shares along its edges, and then has 150,000 and 85 hundredths of what it was given. Shares and hundredths are cut to\n// whole points. total is the sum of all points.\n//\n//     gm run examples/ranking.gm examples/ranking.graph rounds=5\nProcedure ranking(G: Graph, rounds: Int; points: N_P<Long>, total: Long) {\n  N_P<Long> share;\n  Int round = 0;\n  G.points = 1000000;\n  While (round < rounds) {\n    Foreach (n: G.Nodes) {\n      n.share = n.Degree() == 0 ? 0 : n.points / n.Degree();\n    }\n    Foreach (n: G.Nodes) {\n      n.points = 150000 + 85 * Sum(t: n.InNbrs) {t.share} / 100;\n    }\n    round++;\n  }\n  total = Sum(n: G.Nodes) {n.points};\n}\n",
         graph: "# An edge a line.\n0 1\n0 2\n1 2\n1 3\n2 3\n3 0\n3 4\n4 5\n5 6\n6 4\n7 8\n8 7\n9 9\n",
         written: "total = 9999989\nnode points\n0 529597\n1 369186\n2 555554\n3 879305\n4 1751525\n5 1532723\n6 1382099\n7 1000000\n8 1000000\n9 1000000\nturns 5\n",
+    },
+    Example {
+        name: "routes",
+        words: "root=0",
+        text: "// A shortest path from the root to each node: its length, INF (2147483647) where none leads, and the node before on it,\n// NIL at the root and where none leads. Of several shortest paths it is the one whose node before has the least number.\n// Each edge has a length above 0.\n//\n// The path stands in `via` from its end: with the graph beside this file 7 is reached from 4, 4 from 1 and 1 from the\n// root, so the path to 7 is 0, 1, 4, 7, of length 21. (The way 0, 2, 5, 4 to 4 is as long as 0, 1, 4.)\n//\n//     gm run examples/routes.gm examples/routes.graph root=0\nProcedure routes(G: Graph, root: Node, length: E_P<Int>; distance: N_P<Int>, via: N_P<Node>) {\n  N_P<Bool> reached;\n  N_P<Int> offer;\n  N_P<Node> source;\n  Bool more = True;\n  G.distance = G == root ? 0 : INF;\n  G.offer = G.distance;\n  G.reached = G == root;\n  While (more) {\n    Foreach (n: G.Nodes) (n.reached) {\n      Foreach (t: n.Nbrs) {\n        Edge e = t.ToEdge();\n        <t.offer; t.source> min= <n.distance + e.length; n>;\n      }\n    }\n    more = False;\n    Foreach (n: G.Nodes) {\n      n.reached = n.offer < n.distance;\n      <n.distance; n.via> min= <n.offer; n.source>;\n      more ||= n.reached;\n    }\n  }\n}\n",
+        graph: "# From, to, length.\n0 1 7\n0 2 9\n0 5 14\n1 2 10\n1 3 15\n1 4 13\n2 3 11\n2 5 2\n3 4 6\n5 4 9\n6 0 3\n4 7 1\n7 4 1\n",
+        written: "node distance via\n0 0 NIL\n1 7 0\n2 9 0\n3 20 2\n4 20 1\n5 11 2\n6 2147483647 NIL\n7 21 4\nturns 4\n",
     },
     Example {
         name: "shortest_paths",
