@@ -1,15 +1,11 @@
 -- Steps of a run: what stays at rest, and how courses follow one another.
-use Rattle.std.proofs.Common.{◌≡◌, ◌∙◌, ℕ, false, List, [], ◌∷◌, length, Some, None, Result, Ok, Err, refl, ap, sym, subst}
+use Rattle.std.proofs.Common.{◌≡◌, ◌∙◌, ℕ, false, Some, None, Result, Ok, Err, refl, ap, sym, subst}
 use Rattle.std.specs.Prelude.{All, IfOk}
 use Rattle.gm_value.specs.declared.values.VType.{VType}
-use Rattle.gm_value.specs.declared.reductions.Reduce.{Reduce}
 use Rattle.gm_value.specs.declared.values.Value.{Value}
 use Rattle.gm_ast.specs.declared.tree.Key.{Key}
 use Rattle.gm_ast.specs.declared.tree.Sort.{Sort}
 use Rattle.gm_ast.specs.declared.tree.Sort.TheVariants as Sorts
-use Rattle.gm_ast.specs.declared.tree.Target.{Target}
-use Rattle.gm_ast.specs.declared.tree.TotalKey.{TotalKey}
-use Rattle.gm_ast.specs.Program as P
 use Rattle.gm_source.specs.declared.faults.Fault.{Fault}
 use Rattle.gm_source.specs.declared.slots.Write.{Write}
 use Rattle.gm_source.specs.Stores.{Store}
@@ -111,12 +107,3 @@ declared-other Sorts.Scalar t x s a b = absurd (a refl)
 declared-other Sorts.Edge t x s a b = refl
 declared-other Sorts.NodeProperty t x s a b = absurd (b refl)
 declared-other Sorts.EdgeProperty t x s a b = refl
-
--- a reduction assignment of several targets is nothing
-pub combine-other : (k : Key) (total : TotalKey) (r : Reduce) (ts : List Target) (es : List P.Expr) (run : Run) (s : State) → (length ts ≡ 1 → length es ≡ 1 → ⊥)
-    → S.sequential (P.Combine k total r ts es) run s ≡ S.Goes s
-combine-other k total r [] es run s h = refl
-combine-other k total r (t ∷ []) [] run s h = refl
-combine-other k total r (t ∷ []) (e ∷ []) run s h = absurd (h refl refl)
-combine-other k total r (t ∷ []) (e ∷ d ∷ es) run s h = refl
-combine-other k total r (t ∷ u ∷ ts) es run s h = refl

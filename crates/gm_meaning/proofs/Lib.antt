@@ -2,6 +2,7 @@ pub mod Numbers
 pub mod Rows
 pub mod Going
 pub mod Turns
+pub mod Tuples
 pub mod Trees
 pub mod Levels
 pub mod Blocks

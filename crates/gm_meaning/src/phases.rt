@@ -1,25 +1,26 @@
 //! A run of a procedure's body so far, and the statements that hold no other.
 
-ghost use Rattle.std.specs.Prelude.{◌≡◌, ◌<◌, ◌≤◌, ℕ, suc, ◌∷◌, [], nat_lt, IsTrue, IfOk, All, length, map, option_map};
+ghost use Rattle.std.specs.Prelude.{◌≡◌, ◌<◌, ◌≤◌, ℕ, suc, ◌∷◌, [], nat_lt, IsTrue, IfOk, OnOk, All, length, map, option_map};
 ghost use Rattle.gm_graph.specs.Graphs.{node_count};
 ghost use Rattle.gm_ast.specs.Program as program;
 ghost use Rattle.gm_ast.specs.Tree.{expr_of, stmt_of};
 ghost use Rattle.gm_source.specs.Expressions.{value};
-ghost use Rattle.gm_source.specs.Statements.{sequential, declared, loops, writes};
+ghost use Rattle.gm_source.specs.Statements.{sequential, declared, loops, writes, writes_all};
+ghost use Rattle.gm_source.specs.Stores.{write_all};
 ghost use Rattle.gm_store.specs.Held.{Held, HasSlot, shape_of, store_of};
 ghost use Rattle.gm_loops.specs.Around.{body_of};
 ghost use Rattle.gm_loops.specs.Bounds.{bound_of, target_bound, targets_bound};
 ghost use Rattle.gm_loops.specs.LoopEnds.{nodes_in, AtRest};
 ghost use Rattle.gm_loops.specs.Scopes.{no_scope};
 ghost use Rattle.gm_loops.specs.Sights.{level_in, view_of, Fits};
-ghost use Rattle.gm_loops.specs.Targets.{pair_of};
+ghost use Rattle.gm_loops.specs.Targets.{pair_of, tuple_of, AreSeveral};
 ghost use Rattle.gm_meaning.specs.Phases.{run_of, state_in, state_of, seen_by, Runs};
 
 use gm_ast::tree::{Expr, Head, Key, Sort, Stmt, Target, TotalKey, Variable};
 use gm_base::{NoMemory, Place};
-use gm_loops::{Answer, Around, Body, Going, LoopNodes, Setting, Sight};
+use gm_loops::{Answer, Around, Body, Going, LoopNodes, Setting, Sight, Tuple};
 use gm_source::faults::Fault;
-use gm_source::slots::Write;
+use gm_source::slots::{Slot, Write};
 use gm_store::Store;
 use gm_value::{Reduce, Value};
 
@@ -66,6 +67,20 @@ fn set_first(store: &mut Store, variable: Variable, x: u32)
         Sort::NodeProperty => store.fill(x, variable.vtype.zero()),
         _ => {}
     }
+}
+
+// Sets slots to values, one after another.
+fn set_each(store: &mut Store, slots: &[Slot], values: &[Value]) -> Result<(), NoMemory>
+    requires { All (HasSlot (shape_of store.old)) slots.now }
+    ensures store { OnOk result ((edge : ℕ → ℕ → Value) → store_of edge store.new ≡ write_all (store_of edge store.old) slots.now values.now) }
+    ensures undo { OnOk result (store.new.undo ≡ store.old.undo) }
+    ensures shape { OnOk result (shape_of store.new ≡ shape_of store.old) }
+{
+    let count = slots.len().min(values.len());
+    for k in 0..count {
+        store.set(slots[k], values[k])?;
+    }
+    Ok(())
 }
 
 impl Phase {
@@ -151,7 +166,7 @@ impl Phase {
         self.writes(setting, answer)
     }
 
-    // A reduction assignment, which is done at once.
+    // A reduction assignment to one target, which is done at once.
     pub fn reduce(
         &mut self,
         setting: &Setting,
@@ -169,7 +184,58 @@ impl Phase {
         self.writes(setting, answer)
     }
 
-    // A reduction assignment of one target is done at once, and one of several is nothing.
+    // Writes to several slots, or a fault.
+    fn writes_all(
+        &mut self,
+        setting: &Setting,
+        answer: Result<Tuple, Fault>,
+    ) -> Result<Course, NoMemory>
+        requires rest { AtRest setting.now self.old.going }
+        requires known { IfOk answer (λ t. All (HasSlot (shape_of self.old.going.store)) t.slots.items) }
+        ensures { IfOk result (λ c. Runs setting.now self.old self.new c (λ s. writes_all s (tuple_of answer))) }
+    {
+        match answer {
+            Ok(tuple) => {
+                set_each(
+                    &mut self.going.store,
+                    tuple.slots.as_slice(),
+                    tuple.values.as_slice(),
+                )?;
+                Ok(Course::Goes)
+            }
+            Err(fault) => Ok(Course::Faults(fault)),
+        }
+    }
+
+    // An argument reduction, which is done at once.
+    fn reduce_tuple(
+        &mut self,
+        setting: &Setting,
+        key: Key,
+        total: TotalKey,
+        reduce: Reduce,
+        targets: &[Target],
+        values: &[Expr],
+    ) -> Result<Course, NoMemory>
+        requires rest { AtRest setting.now self.old.going }
+        requires bound { targets_bound targets.now ≤ setting.now.variables }
+        requires several { AreSeveral targets.now values.now }
+        ensures { IfOk result (λ c. Runs setting.now self.old self.new c (sequential (program.Combine key total reduce targets.now (map expr_of values.now)) (run_of setting.now))) }
+    {
+        let place = total.place;
+        let answer = sight(setting, key).together(
+            self.going.alloc,
+            &self.going.store,
+            place,
+            reduce,
+            targets,
+            values,
+        )?;
+        self.writes_all(setting, answer)
+    }
+
+    // A reduction assignment to a list of targets, which is done at once. One with one target and one value goes a fast
+    // way.
     pub fn reduces(
         &mut self,
         setting: &Setting,
@@ -186,7 +252,7 @@ impl Phase {
         if targets.len() == 1 && values.len() == 1 {
             self.reduce(setting, key, total, reduce, &targets[0], &values[0])
         } else {
-            Ok(Course::Goes)
+            self.reduce_tuple(setting, key, total, reduce, targets, values)
         }
     }
 
