@@ -3,10 +3,10 @@
 ghost use Rattle.std.specs.Prelude.{◌≡◌, [], IfOk};
 ghost use Rattle.gm_value.specs.Numbers.{type_of};
 
+use gm_base::{Items, NoMemory};
 use gm_combine::{KindBatch, Rows, combinable};
 use gm_image::{Image, Kind, MasterLine, Sound};
 use gm_value::{Reduce, Total, VType, Value};
-use gm_base::{Items, NoMemory};
 use gm_verify::{is_countable, verify};
 use std::alloc::Global;
 use std::test::Fail;
@@ -77,7 +77,13 @@ fn sums(rt: HostRuntime) -> Result<(), Fail> {
     far.add(1, Value::I64(i64::MIN))?;
     far.add(1, Value::I64(-1))?;
     rows.fold(&far);
-    assert_eq!(rt; rows.total(0, 6), Some(Total::Sum(2 * i128::from(i64::MAX))));
-    assert_eq!(rt; rows.total(1, 6), Some(Total::Sum(2 * i128::from(i64::MIN) - 1)));
+    assert_eq!(rt;
+        rows.total(0, 6),
+        Some(Total::Sum(2 * i128::from(i64::MAX)))
+    );
+    assert_eq!(rt;
+        rows.total(1, 6),
+        Some(Total::Sum(2 * i128::from(i64::MIN) - 1))
+    );
     Ok(())
 }

@@ -116,9 +116,7 @@ fn two(
     first: Expr,
     second: Expr,
 ) -> Result<Items<(u32, Expr)>, NoMemory> {
-    Ok(Items::new(
-        vec![in alloc; (slots.0, first), (slots.1, second)]?,
-    ))
+    Ok(Items::new(vec![in alloc; (slots.0, first), (slots.1, second)]?))
 }
 
 // A pick of two fields, and a pickput of two globals.
@@ -172,7 +170,13 @@ fn picking(alloc: Global) -> Result<Block, NoMemory> {
     let zero = Expr::Const(Value::I32(0));
     let yes = Expr::Const(Value::Flag(true));
     let mut lines = Vec::new(alloc);
-    lines.push(pick(alloc, Reduce::Min, (0, 1), Expr::Message(0), Expr::Message(1))?)?;
+    lines.push(pick(
+        alloc,
+        Reduce::Min,
+        (0, 1),
+        Expr::Message(0),
+        Expr::Message(1),
+    )?)?;
     let mut body = Vec::new(alloc);
     body.push(pick(alloc, Reduce::Max, (2, 3), Expr::InDegree, yes)?)?;
     body.push(VertexLine::EachOut(1))?;
@@ -192,7 +196,10 @@ fn picking(alloc: Global) -> Result<Block, NoMemory> {
 // The globals and the fields as outputs, with a letter as the name of each.
 fn outputs(alloc: Global) -> Result<Vec<OutputItem>, NoMemory> {
     let mut outputs = Vec::new(alloc);
-    for (slot, vtype) in [VType::I32, VType::Node, VType::I32, VType::Node].iter().enumerate() {
+    for (slot, vtype) in [VType::I32, VType::Node, VType::I32, VType::Node]
+        .iter()
+        .enumerate()
+    {
         outputs.push(OutputItem::Scalar {
             vtype: *vtype,
             name: Items::new(vec![in alloc; b'a' + slot as u8]?),
@@ -229,7 +236,11 @@ fn picks(alloc: Global) -> Result<Image, NoMemory>
         vec![in alloc; int, node, int, node]?,
         vec![in alloc; int, node, int, flag, int, node]?,
         vec![in alloc; sending(alloc)?, picking(alloc)?]?,
-        vec![in alloc; MasterLine::Step(0), MasterLine::Step(1), MasterLine::Finish]?,
+        vec![in alloc;
+            MasterLine::Step(0),
+            MasterLine::Step(1),
+            MasterLine::Finish,
+        ]?,
     )?;
     image.outputs = Items::new(outputs(alloc)?);
     let kind = Kind {
@@ -294,16 +305,37 @@ fn picks_take_whole_tuples(rt: HostRuntime) -> Result<(), Fail> {
     let (nil, no, yes) = (Value::At(None), Value::Flag(false), Value::Flag(true));
     let want = [
         // The greatest out-degree is 2, of the third node. 0 with NIL is less than 0 with a node.
-        int(2), third, int(0), nil,
+        int(2),
+        third,
+        int(0),
+        nil,
         // Who points at a node: the least out-degree of these, and the lesser one of those that have it.
-        int(2), int(9), int(9), int(1),
-        third, nil, nil, first,
+        int(2),
+        int(9),
+        int(9),
+        int(1),
+        third,
+        nil,
+        nil,
+        first,
         // The in-degree with True, but 0 with False is kept.
-        int(1), int(0), int(0), int(3),
-        yes, no, no, yes,
+        int(1),
+        int(0),
+        int(0),
+        int(3),
+        yes,
+        no,
+        no,
+        yes,
         // Of two neighbours with 7 the lesser one.
-        int(7), int(7), int(7), int(0),
-        last, last, first, nil,
+        int(7),
+        int(7),
+        int(7),
+        int(0),
+        last,
+        last,
+        first,
+        nil,
     ];
     assert_eq!(rt; all.as_slice(), want.as_slice());
     Ok(())
