@@ -2,8 +2,6 @@
 #![tactic(auto)]
 
 #[cfg(test)]
-mod argument_totals;
-#[cfg(test)]
 mod running_totals;
 #[cfg(test)]
 mod search_levels;
