@@ -2,8 +2,6 @@
 #![tactic(auto)]
 
 #[cfg(test)]
-mod combining;
-#[cfg(test)]
 mod image_rules;
 #[cfg(test)]
 mod image_texts;
