@@ -1,5 +1,5 @@
 -- Totals with one more contribution.
-use Rattle.std.proofs.Common.{◌≡◌, ℕ, zero, suc, ◌<◌, Bool, true, false, cond, List, [], ◌∷◌, ◌++◌, length, get_or, set, map, refl, sym, ap, subst, ◌∙◌, Some, None, ⊎_elim, inl, inr}
+use Rattle.std.proofs.Common.{◌≡◌, ℕ, zero, suc, ◌<◌, Bool, true, false, cond, List, [], ◌∷◌, ◌++◌, length, get_or, set, refl, sym, ap, subst, ◌∙◌, Some, None, ⊎_elim, inl, inr}
 use Rattle.std.specs.Prelude.{◌⊎◌, All}
 use Rattle.std.specs.Map.{lookup, keys_of}
 use Rattle.gm_value.specs.Bag.{IsIn}
@@ -12,7 +12,7 @@ use Rattle.gm_totals.specs.declared.totals.Totals.{Totals}
 use Rattle.gm_totals.specs.Given.{is_several}
 use Rattle.gm_totals.specs.Places.{place_at, head_of, HasOneMore}
 use Rattle.gm_totals.specs.Pots.{PotGains}
-use Rattle.gm_totals.specs.Standing.{keyed, pot_at, targets_of, ArePlaced, IsPotOf, IsHead, first_with, StandsFor, Within}
+use Rattle.gm_totals.specs.Standing.{keyed, pot_at, targets_of, ArePlaced, IsPotOf, first_with, StandsFor, Within}
 use Rattle.gm_totals.proofs.Owners.{owners-kept, owners-added, get-in}
 use Rattle.gm_totals.proofs.Potting.{targets-more}
 use Rattle.gm_totals.proofs.Keys.{slots_eq-same, lookup-added, lookup-changed, lookup-first}

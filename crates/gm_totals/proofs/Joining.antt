@@ -1,8 +1,9 @@
 -- An entry with one more contribution.
 use Rattle.std.proofs.Common.{◌≡◌, ◌≢◌, ℕ, suc, ◌<◌, arith, ℤ, Bool, true, false, cond, List, [], ◌∷◌, ◌++◌, length, get_or, map, refl, sym, ap, subst, ◌∙◌, Option, Some, None, Result, Ok, Err}
-use Rattle.std.specs.Prelude.{IsTrue, option_map}
+use Rattle.std.specs.Prelude.{IsTrue}
 use Rattle.std.specs.declared.alloc.Global.{Global}
 use Rattle.std.specs.declared.vec.Vec.{Vec}
+use Rattle.std.proofs.lemmas.List.{map-append}
 use Rattle.gm_value.specs.declared.values.Value.{Value}
 use Rattle.gm_value.specs.declared.faults.FaultKind.{FaultKind}
 use Rattle.gm_value.specs.declared.reductions.Reduce.{Reduce}
@@ -10,7 +11,7 @@ use Rattle.gm_value.specs.declared.totals.Total.{Total}
 use Rattle.gm_value.specs.Numbers.{number_of, type_of, fits, checked}
 use Rattle.gm_value.specs.Reductions.{combined, total, close, unit_of}
 use Rattle.gm_value.specs.Totals.{Shows, ShowsMore}
-use Rattle.gm_value.specs.Tuples.{replaces, kept, best, with_value, values_at, first_or, close_slots}
+use Rattle.gm_value.specs.Tuples.{replaces, kept, with_value, values_at, first_or, close_slots}
 use Rattle.gm_value.specs.Laws.{HasUnit}
 use Rattle.gm_value.proofs.BagLaws.{SameBag-map, SameBag-last}
 use Rattle.gm_value.proofs.MonoidLaws.{combined_comm, combined_exchange, total-permuted}
@@ -19,8 +20,9 @@ use Rattle.gm_ast.specs.declared.tree.TotalKey.{TotalKey}
 use Rattle.gm_source.specs.Contributions.{Contribution, statement_of, close_by}
 use Rattle.gm_source.specs.Faults.{least, lower, lesser, total_fault}
 use Rattle.gm_source.proofs.LeastLaws.{least-same, lower_comm}
+use Rattle.gm_totals.specs.declared.entries.Accumulator.TheVariants.{One, Several}
 use Rattle.gm_totals.specs.declared.entries.Entry.{Entry}
-use Rattle.gm_totals.specs.Pots.{values_of, CountsAs, KeptAs, Counts, TotalStands, RankStands, Joins, listed, items_in}
+use Rattle.gm_totals.specs.Pots.{values_of, CountsAs, CountsAlone, KeptAs, Counts, CountsMore, TotalStands, Joins}
 
 -- the least fault with one more contribution of a statement
 fault-more : (c : Contribution) (key new : TotalKey) (bag : List Contribution) → total_fault new ≡ lower (total_fault key) (total_fault c.total)
@@ -30,21 +32,26 @@ fault-more c key new bag low is =
     ∙ ap (lesser (total_fault c.total)) is ∙ ap Some (lower_comm (total_fault c.total) (total_fault key) ∙ sym low)
 
 -- an entry of one contribution
-joins-first : (several : Bool) (r : Reduce) (c : Contribution) (e : Entry) → e.statement ≡ statement_of c → e.key ≡ c.total → Counts several r e (c.values ∷ []) → Joins several r None c e
+pub joins-first : (several : Bool) (r : Reduce) (c : Contribution) (e : Entry) → e.statement ≡ statement_of c → e.key ≡ c.total → Counts several r e.accumulator (c.values ∷ []) → Joins several r None c e
 joins-first several r c e same key counts = (same, λ bag none. subst (λ (b : List Contribution). TotalStands several r e (b ++ c ∷ [])) (sym none) one)
   where
     one : TotalStands several r e (c ∷ [])
     one = record { counts = counts; fault = ap (λ (k : TotalKey). Some (total_fault k)) (sym key) }
 
 -- an entry with one more contribution of its statement
-joins-next : (several : Bool) (r : Reduce) (c : Contribution) (old new : Entry) → new.statement ≡ statement_of c → total_fault new.key ≡ lower (total_fault old.key) (total_fault c.total)
-    → ((bag : List Contribution) → Counts several r old (values_of bag) → Counts several r new (values_of (bag ++ c ∷ []))) → Joins several r (Some old) c new
-joins-next several r c old new same low counts =
-    (same, λ bag is. record { counts = counts bag is.counts; fault = fault-more c old.key new.key bag low is.fault })
+pub joins-next : (several : Bool) (r : Reduce) (c : Contribution) (old new : Entry) → new.statement ≡ statement_of c → total_fault new.key ≡ lower (total_fault old.key) (total_fault c.total)
+    → CountsMore r old.accumulator c.values new.accumulator → Joins several r (Some old) c new
+joins-next several r c old new same low counts = (
+  same,
+  λ bag is. record {
+    counts = subst (Counts several r new.accumulator) (sym (map-append (λ (x : Contribution). x.values) bag (c ∷ []))) (counts several (values_of bag) is.counts);
+    fault = fault-more c old.key new.key bag low is.fault;
+  },
+)
 
-module _ (r : Reduce) (c : Contribution) (v : Value) (first : (other : Value) → first_or other c.values ≡ v) where
+module _ (r : Reduce) (values : List Value) (v : Value) (first : (other : Value) → first_or other values ≡ v) where
   -- one value's number counts as the total of that value
-  counts-one : HasUnit r → CountsAs r (number_of v) (c.values ∷ [])
+  counts-one : HasUnit r → CountsAs r (number_of v) (values ∷ [])
   counts-one unit held inside =
       let h = number_of held in
       let n = number_of v in
@@ -53,64 +60,57 @@ module _ (r : Reduce) (c : Contribution) (v : Value) (first : (other : Value) �
       ∙ combined_exchange r h n u ∙ ap (combined r n) (combined_comm r h u ∙ (unit (type_of held)).1 h inside) ∙ combined_comm r n h
 
   -- a number with one more counts as the bag with one more
-  counts-more : (number : ℤ) (bag : List Contribution) → CountsAs r number (values_of bag) → CountsAs r (combined r (number_of v) number) (values_of (bag ++ c ∷ []))
+  counts-more : (number : ℤ) (bag : List (List Value)) → CountsAs r number bag → CountsAs r (combined r (number_of v) number) (bag ++ values ∷ [])
   counts-more number bag counts held inside =
       let h = number_of held in
       let n = number_of v in
-      let rest = total r (type_of held) (map (first_or held) (values_of bag)) in
-      ap (combined r h) (total-permuted r (type_of held) (SameBag-map (first_or held) (SameBag-map (λ (x : Contribution). x.values) (SameBag-last bag c))))
+      let rest = total r (type_of held) (map (first_or held) bag) in
+      ap (combined r h) (total-permuted r (type_of held) (SameBag-map (first_or held) (SameBag-last bag values)))
       ∙ ap (λ (x : Value). combined r h (combined r (number_of x) rest)) (first held)
       ∙ combined_exchange r h n rest ∙ ap (combined r n) (counts held inside) ∙ combined_exchange r n h number
 
-  pub joins-value : (e : Entry) (unit : Total) → e.statement ≡ statement_of c → e.key ≡ c.total → HasUnit r → IsTrue (fits (type_of v) (number_of v))
-      → Shows r unit (unit_of r (type_of v)) → ShowsMore r unit (number_of v) e.total → Joins false r None c e
-  joins-value e unit same key units inside shows more =
-      joins-first false r c e same key (record {
-        number = number_of v;
-        shows = subst (Shows r e.total) (combined_comm r (number_of v) (unit_of r (type_of v)) ∙ (units (type_of v)).1 (number_of v) inside) (more (unit_of r (type_of v)) shows);
-        counts = counts-one units;
-      })
+  -- the total of one value
+  pub one-first : (shown unit : Total) → HasUnit r → IsTrue (fits (type_of v) (number_of v)) → Shows r unit (unit_of r (type_of v)) → ShowsMore r unit (number_of v) shown → CountsAlone r shown (values ∷ [])
+  one-first shown unit units inside shows more = record {
+    number = number_of v;
+    shows = subst (Shows r shown) (combined_comm r (number_of v) (unit_of r (type_of v)) ∙ (units (type_of v)).1 (number_of v) inside) (more (unit_of r (type_of v)) shows);
+    counts = counts-one units;
+  }
 
-  pub joins-value-more : (old new : Entry) → new.statement ≡ statement_of c → total_fault new.key ≡ lower (total_fault old.key) (total_fault c.total)
-      → ShowsMore r old.total (number_of v) new.total → Joins false r (Some old) c new
-  joins-value-more old new same low more =
-      joins-next false r c old new same low (λ bag is. record {
-        number = combined r (number_of v) is.number;
-        shows = more is.number is.shows;
-        counts = counts-more is.number bag is.counts;
-      })
+  -- a total with one more value
+  pub one-more : (old new : Total) → ShowsMore r old (number_of v) new → CountsMore r (One old) values (One new)
+  one-more old new more true bag is = is
+  one-more old new more false bag is = record { number = combined r (number_of v) is.number; shows = more is.number is.shows; counts = counts-more is.number bag is.counts }
 
--- the entry of one tuple
-pub joins-tuple : (r : Reduce) (c : Contribution) (e : Entry) → e.statement ≡ statement_of c → e.key ≡ c.total → e.tuple.items ≡ c.values → Joins true r None c e
-joins-tuple r c e same key tuple =
-    joins-first true r c e same key (subst (λ (vs : List Value). KeptAs r (map number_of vs) (map number_of c.values ∷ [])) (sym tuple) (λ held. refl))
+-- the tuple of one contribution
+pub several-first : (r : Reduce) (values tuple : List Value) → tuple ≡ values → KeptAs r (map number_of tuple) (map number_of values ∷ [])
+several-first r values tuple is = subst (λ (vs : List Value). KeptAs r (map number_of vs) (map number_of values ∷ [])) (sym is) (λ held. refl)
 
 -- the tuple that is kept with one more
-kept-more : (r : Reduce) (c : Contribution) (tuple : List ℤ) (bag : List Contribution) → KeptAs r tuple (map (map number_of) (values_of bag))
-    → KeptAs r (kept r tuple (map number_of c.values)) (map (map number_of) (values_of (bag ++ c ∷ [])))
-kept-more r c tuple bag is held =
-    best-permuted r held (SameBag-map (map number_of) (SameBag-map (λ (x : Contribution). x.values) (SameBag-last bag c)))
-    ∙ ap (λ (b : List ℤ). kept r b (map number_of c.values)) (is held) ∙ kept-parts r held tuple (map number_of c.values)
+kept-more : (r : Reduce) (values : List Value) (tuple : List ℤ) (bag : List (List Value)) → KeptAs r tuple (map (map number_of) bag)
+    → KeptAs r (kept r tuple (map number_of values)) (map (map number_of) (bag ++ values ∷ []))
+kept-more r values tuple bag is held =
+    best-permuted r held (SameBag-map (map number_of) (SameBag-last bag values))
+    ∙ ap (λ (b : List ℤ). kept r b (map number_of values)) (is held) ∙ kept-parts r held tuple (map number_of values)
 
-pub joins-tuple-more : (r : Reduce) (c : Contribution) (old new : Entry) → new.statement ≡ statement_of c → total_fault new.key ≡ lower (total_fault old.key) (total_fault c.total)
-    → map number_of new.tuple.items ≡ kept r (map number_of old.tuple.items) (map number_of c.values) → Joins true r (Some old) c new
-joins-tuple-more r c old new same low tuple =
-    joins-next true r c old new same low (λ bag is. subst (λ (t : List ℤ). KeptAs r t (map (map number_of) (values_of (bag ++ c ∷ [])))) (sym tuple) (kept-more r c (map number_of old.tuple.items) bag is))
+pub several-more : (r : Reduce) (values : List Value) (old new : Vec Value Global) → map number_of new.items ≡ kept r (map number_of old.items) (map number_of values)
+    → CountsMore r (Several old) values (Several new)
+several-more r values old new tuple true bag is = subst (λ (t : List ℤ). KeptAs r t (map (map number_of) (bag ++ values ∷ []))) (sym tuple) (kept-more r values (map number_of old.items) bag is)
+several-more r values old new tuple false bag is = is
 
--- what an entry's total closes to is what its contributions close to
-pub closes-one : (r : Reduce) (e : Entry) (held : Value) (answer : Result Value FaultKind) → IsTrue (fits (type_of held) (number_of held))
-    → ((exact : ℤ) → Shows r e.total exact → answer ≡ checked (type_of held) (combined r (number_of held) exact))
-    → (bag : List Contribution) → TotalStands false r e bag → with_value answer (Some []) ≡ close_by r (held ∷ []) bag
-closes-one r e held answer inside exact bag is =
-    let counts = is.counts in
-    ap (λ (a : Result Value FaultKind). with_value a (Some [])) (exact counts.number counts.shows ∙ ap (checked (type_of held)) (sym (counts.counts held inside)))
+-- what a total closes to is what its contributions close to
+pub closes-one : (r : Reduce) (shown : Total) (held : Value) (answer : Result Value FaultKind) → IsTrue (fits (type_of held) (number_of held))
+    → ((exact : ℤ) → Shows r shown exact → answer ≡ checked (type_of held) (combined r (number_of held) exact))
+    → (bag : List Contribution) → CountsAlone r shown (values_of bag) → with_value answer (Some []) ≡ close_by r (held ∷ []) bag
+closes-one r shown held answer inside exact bag is =
+    ap (λ (a : Result Value FaultKind). with_value a (Some [])) (exact is.number is.shows ∙ ap (checked (type_of held)) (sym (is.counts held inside)))
 
--- what an entry's tuple closes to
-pub closes-several : (r : Reduce) (e : Entry) (held : List Value) → length held ≢ 1 → (bag : List Contribution) → TotalStands true r e bag
-    → values_at held (kept r (map number_of held) (map number_of e.tuple.items)) ≡ close_by r held bag
-closes-several r e [] many bag is = refl
-closes-several r e (h ∷ []) many bag is = absurd (many refl)
-closes-several r e (h ∷ (n ∷ rest)) many bag is = ap (values_at (h ∷ (n ∷ rest))) (sym (is.counts (map number_of (h ∷ (n ∷ rest)))))
+-- what a tuple closes to
+pub closes-several : (r : Reduce) (tuple held : List Value) → length held ≢ 1 → (bag : List Contribution) → KeptAs r (map number_of tuple) (map (map number_of) (values_of bag))
+    → values_at held (kept r (map number_of held) (map number_of tuple)) ≡ close_by r held bag
+closes-several r tuple [] many bag is = refl
+closes-several r tuple (h ∷ []) many bag is = absurd (many refl)
+closes-several r tuple (h ∷ (n ∷ rest)) many bag is = ap (values_at (h ∷ (n ∷ rest))) (sym (is (map number_of (h ∷ (n ∷ rest)))))
 
 -- the first of some values
 pub first_of : (other : Value) (vs : List Value) (d : Value) → 0 < length vs → first_or other vs ≡ get_or vs 0 d

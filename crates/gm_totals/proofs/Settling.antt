@@ -6,7 +6,6 @@ use Rattle.std.proofs.lemmas.List.Elements.{All-push}
 use Rattle.std.specs.Prelude.{◌⊎◌, ◌||◌, All}
 use Rattle.std.proofs.lemmas.Bool.{cases_Bool, cases_lt}
 use Rattle.gm_value.specs.declared.values.Value.{Value}
-use Rattle.gm_value.specs.declared.values.VType.{VType}
 use Rattle.gm_value.specs.declared.reductions.Reduce.{Reduce}
 use Rattle.gm_value.specs.Bag.{IsIn}
 use Rattle.gm_value.specs.Numbers.{type_of}

@@ -20,7 +20,7 @@ single c = given c.total c.reduce (c.slot ∷ []) (c.value ∷ [])
 -- the slots of a target
 abbrev pub slots_in : Slots → List Slot
 slots_in (One slot) = slot ∷ []
-slots_in (Several slots) = slots.items
+slots_in (Several slots) = slots.value.items
 
 -- whether a target is anything but one slot
 abbrev pub is_several : List Slot → Bool

@@ -13,6 +13,8 @@ use Rattle.gm_value.specs.Tuples.{first_or, kept, best}
 use Rattle.gm_source.specs.declared.faults.Fault.{Fault}
 use Rattle.gm_source.specs.Contributions.{Contribution, statement_of, taken_onto, values_or, fault_in}
 use Rattle.gm_source.specs.Faults.{least, total_fault, fault_of}
+use Rattle.gm_totals.specs.declared.entries.Accumulator.{Accumulator}
+use Rattle.gm_totals.specs.declared.entries.Accumulator.TheVariants.{One, Several}
 use Rattle.gm_totals.specs.declared.entries.Entry.{Entry}
 use Rattle.gm_totals.specs.declared.pots.Pot.{Pot}
 
@@ -36,14 +38,20 @@ pub record CountsAlone (r : Reduce) (shown : Total) (bag : List (List Value)) : 
 abbrev pub KeptAs : Reduce → List ℤ → List (List ℤ) → Type 0
 KeptAs r tuple bag = (held : List ℤ) → best r held bag ≡ kept r held tuple
 
--- what an entry of a target of one slot, or of several, counts as
-abbrev pub Counts : Bool → Reduce → Entry → List (List Value) → Type 0
-Counts false r e bag = CountsAlone r e.total bag
-Counts true r e bag = KeptAs r (map number_of e.tuple.items) (map (map number_of) bag)
+-- what contributions to a target of one slot, or of several, come to: a total, or a tuple
+abbrev pub Counts : Bool → Reduce → Accumulator → List (List Value) → Type 0
+Counts false r (One shown) bag = CountsAlone r shown bag
+Counts false r (Several tuple) bag = ⊥
+Counts true r (One shown) bag = ⊥
+Counts true r (Several tuple) bag = KeptAs r (map number_of tuple.items) (map (map number_of) bag)
+
+-- one more contribution counts, whatever bag counted before
+abbrev pub CountsMore : Reduce → Accumulator → List Value → Accumulator → Type 0
+CountsMore r old values new = (several : Bool) (bag : List (List Value)) → Counts several r old bag → Counts several r new (bag ++ values ∷ [])
 
 -- an entry stands for contributions of one statement: it counts as they do, and its key is that of their least fault
 pub record TotalStands (several : Bool) (r : Reduce) (e : Entry) (bag : List Contribution) : Type 0 where
-  pub counts : Counts several r e (values_of bag)
+  pub counts : Counts several r e.accumulator (values_of bag)
   pub fault : least (map (λ c. total_fault c.total) bag) ≡ Some (total_fault e.key)
 
 -- an entry stands for contributions, or there is none and no contribution

@@ -1,5 +1,5 @@
 -- The contributions for which all running totals stand, and what closing a target's totals gives.
-use Rattle.std.specs.Prelude.{◌≡◌, ◌<◌, ℕ, List, [], ◌∷◌, ◌++◌, map, Option, Some, None, All, if◌then◌else◌, length, slice_index_or}
+use Rattle.std.specs.Prelude.{◌≡◌, ◌<◌, ℕ, List, [], ◌∷◌, map, Option, Some, None, All, if◌then◌else◌, length, slice_index_or}
 use Rattle.std.specs.Map.{lookup, keys_of}
 use Rattle.gm_value.specs.declared.values.Value.{Value}
 use Rattle.gm_source.specs.declared.faults.Fault.{Fault}

@@ -1,6 +1,6 @@
 //! The running total of one statement's contributions to one target.
 
-ghost use Rattle.std.specs.Prelude.{◌≡◌, ◌≢◌, ◌∷◌, [], false, true, List, Some, None, IfOk, IfSome, OnOk, option_map, map, length, drop, slice_index_or, ◌+◌};
+ghost use Rattle.std.specs.Prelude.{◌≡◌, ◌≢◌, ◌∷◌, [], false, true, List, Bool, Some, None, IfOk, IfSome, OnOk, option_map, map, length, drop, slice_index_or, ◌+◌};
 ghost use Rattle.gm_value.specs.declared.values.Value.{Value as Given};
 ghost use Rattle.gm_value.specs.declared.reductions.Reduce.{Reduce as By};
 ghost use Rattle.gm_value.specs.Numbers.{number_of};
@@ -10,7 +10,7 @@ ghost use Rattle.gm_value.specs.Reductions.{close};
 ghost use Rattle.gm_source.specs.declared.slots.Slot.{Slot};
 ghost use Rattle.gm_source.specs.Contributions.{Contribution, close_by};
 ghost use Rattle.gm_totals.specs.Given.{given};
-ghost use Rattle.gm_totals.specs.Pots.{TotalStands, Joins, before, listed, items_in};
+ghost use Rattle.gm_totals.specs.Pots.{CountsAlone, Counts, CountsMore, TotalStands, Joins, values_of, before, listed, items_in};
 
 use crate::faults::lower_key;
 use gm_ast::tree::TotalKey;
@@ -21,15 +21,21 @@ use gm_value::{
 };
 use std::alloc::Global;
 
-// The total of what one statement gave to one target: where the target has one slot the exact total of the values, and
-// else the tuple that is kept of the contributed ones.
+// What contributions to a target come to: of one slot the exact total of the values, of several the tuple that is kept
+// of the contributed ones.
+#[derive(Debug, Drop)]
+pub enum Accumulator {
+    One(Total),
+    Several(Vec<Value>),
+}
+
+// The total of what one statement gave to one target.
 #[derive(Debug, Drop)]
 pub struct Entry {
     pub statement: u32,
     // Of the keys of the contributions the one of the least fault.
     pub key: TotalKey,
-    pub total: Total,
-    pub tuple: Vec<Value>,
+    pub accumulator: Accumulator,
 }
 
 // A total with one more member, where it has room for one.
@@ -189,43 +195,75 @@ fn keep_tuple(tuple: &mut Vec<Value>, reduce: Reduce, new: &[Value]) -> Result<(
     Ok(())
 }
 
-impl Entry {
-    // The total of one contribution of a value.
+// A held value closed with a total, if the exact result fits its type.
+fn closed_total(reduce: Reduce, held: Value, total: Total) -> Result<Option<Value>, NoMemory>
+    ensures { IfOk result (λ v. (bag : List Contribution) → CountsAlone reduce total (values_of bag)
+        → option_map listed v ≡ close_by reduce (held ∷ []) bag) }
+{
+    if !total.has_room() {
+        return Err(NoMemory);
+    }
+    let _number = held.number();
+    match total_close(reduce, held, total) {
+        Ok(value) => Ok(Some(value)),
+        Err(_) => Ok(None),
+    }
+}
+
+impl Accumulator {
+    // The total of one value.
     #[inline(always)]
-    fn of_value(
-        alloc: Global,
-        reduce: Reduce,
-        key: TotalKey,
-        value: Value,
-    ) -> Result<Entry, NoMemory>
-        ensures { IfOk result (λ entry. (c : Contribution) → c.total ≡ key → ((other : Given) → first_or other c.values ≡ value)
-            → Joins false reduce None c entry) }
+    fn of_value(reduce: Reduce, value: Value) -> Result<Accumulator, NoMemory>
+        ensures { IfOk result (λ a. (values : List Given) → ((other : Given) → first_or other values ≡ value) → Counts false reduce a (values ∷ [])) }
     {
         reductions_are_monoids();
         let _number = value.number();
         let unit = total_unit(reduce, value.type_of());
-        Ok(Entry {
-            statement: key.key.statement,
-            key,
-            total: grown(reduce, unit, value)?,
-            tuple: Vec::new(alloc),
-        })
+        let total = grown(reduce, unit, value)?;
+        Ok(Accumulator::One(total))
     }
 
-    // The tuple of one contribution.
-    fn of_tuple(alloc: Global, key: TotalKey, values: &[Value]) -> Result<Entry, NoMemory>
-        ensures { IfOk result (λ entry. (reduce : By) (c : Contribution) → c.total ≡ key → c.values ≡ values.now
-            → Joins true reduce None c entry) }
+    // What one contribution to one slot, or to several, comes to. One slot has a value.
+    #[inline(always)]
+    fn new(
+        alloc: Global,
+        several: bool,
+        reduce: Reduce,
+        values: &[Value],
+    ) -> Result<Accumulator, NoMemory>
+        ensures { IfOk result (λ a. Counts several reduce a (values.now ∷ [])) }
     {
-        Ok(Entry {
-            statement: key.key.statement,
-            key,
-            total: Total::Sum(0),
-            tuple: copied(alloc, values)?,
-        })
+        if several {
+            let tuple = copied(alloc, values)?;
+            return Ok(Accumulator::Several(tuple));
+        }
+        let value = first_of(values)?;
+        let total = Accumulator::of_value(reduce, value)?;
+        Ok(total)
     }
 
-    // The total of one contribution to a target of one slot, or of several. One slot has a value.
+    // One more contribution.
+    #[inline(always)]
+    fn give(&mut self, reduce: Reduce, values: &[Value]) -> Result<(), NoMemory>
+        ensures { OnOk result (CountsMore reduce self.old values.now self.new) }
+    {
+        match self {
+            Accumulator::One(total) => {
+                let value = first_of(values)?;
+                let more = grown(reduce, *total, value)?;
+                *total = more;
+                Ok(())
+            }
+            Accumulator::Several(tuple) => {
+                keep_tuple(tuple, reduce, values)?;
+                Ok(())
+            }
+        }
+    }
+}
+
+impl Entry {
+    // The total of one contribution to a target of one slot, or of several.
     #[inline(always)]
     pub fn new(
         alloc: Global,
@@ -236,61 +274,22 @@ impl Entry {
     ) -> Result<Entry, NoMemory>
         ensures { IfOk result (λ entry. (by : By) (slots : List Slot) → Joins several reduce None (given key by slots values.now) entry) }
     {
-        if several {
-            let entry = Entry::of_tuple(alloc, key, values)?;
-            return Ok(entry);
-        }
-        let value = first_of(values)?;
-        let entry = Entry::of_value(alloc, reduce, key, value)?;
-        Ok(entry)
-    }
-
-    // One more contribution of the statement to a target of one slot.
-    #[inline(always)]
-    fn give_value(&mut self, reduce: Reduce, key: TotalKey, value: Value) -> Result<(), NoMemory>
-        requires { self.old.statement ≡ key.key.statement }
-        ensures { OnOk result ((c : Contribution) → c.total ≡ key → ((other : Given) → first_or other c.values ≡ value)
-            → Joins false reduce (Some self.old) c self.new) }
-    {
-        let total = grown(reduce, self.total, value)?;
-        self.total = total;
-        self.key = lower_key(self.key, key);
-        Ok(())
-    }
-
-    // One more contribution of the statement to a target of several slots.
-    fn give_tuple(
-        &mut self,
-        reduce: Reduce,
-        key: TotalKey,
-        values: &[Value],
-    ) -> Result<(), NoMemory>
-        requires { self.old.statement ≡ key.key.statement }
-        ensures { OnOk result ((c : Contribution) → c.total ≡ key → c.values ≡ values.now → Joins true reduce (Some self.old) c self.new) }
-    {
-        keep_tuple(&mut self.tuple, reduce, values)?;
-        self.key = lower_key(self.key, key);
-        Ok(())
+        let accumulator = Accumulator::new(alloc, several, reduce, values)?;
+        Ok(Entry {
+            statement: key.key.statement,
+            key,
+            accumulator,
+        })
     }
 
     // One more contribution of the statement.
     #[inline(always)]
-    pub fn give(
-        &mut self,
-        several: bool,
-        reduce: Reduce,
-        key: TotalKey,
-        values: &[Value],
-    ) -> Result<(), NoMemory>
+    pub fn give(&mut self, reduce: Reduce, key: TotalKey, values: &[Value]) -> Result<(), NoMemory>
         requires { self.old.statement ≡ key.key.statement }
-        ensures { OnOk result ((by : By) (slots : List Slot) → Joins several reduce (Some self.old) (given key by slots values.now) self.new) }
+        ensures { OnOk result ((several : Bool) (by : By) (slots : List Slot) → Joins several reduce (Some self.old) (given key by slots values.now) self.new) }
     {
-        if several {
-            self.give_tuple(reduce, key, values)?;
-            return Ok(());
-        }
-        let value = first_of(values)?;
-        self.give_value(reduce, key, value)?;
+        self.accumulator.give(reduce, values)?;
+        self.key = lower_key(self.key, key);
         Ok(())
     }
 
@@ -299,13 +298,12 @@ impl Entry {
         ensures { IfOk result (λ v. (bag : List Contribution) → TotalStands false reduce self.now bag
             → option_map listed v ≡ close_by reduce (held ∷ []) bag) }
     {
-        if !self.total.has_room() {
-            return Err(NoMemory);
-        }
-        let _number = held.number();
-        match total_close(reduce, held, self.total) {
-            Ok(value) => Ok(Some(value)),
-            Err(_) => Ok(None),
+        match self.accumulator {
+            Accumulator::One(total) => {
+                let value = closed_total(reduce, held, total)?;
+                Ok(value)
+            }
+            Accumulator::Several(_) => Err(NoMemory),
         }
     }
 
@@ -320,7 +318,12 @@ impl Entry {
             → option_map items_in values ≡ close_by reduce held.now bag) }
         ensures length { IfOk result (λ values. IfSome values (λ after. length after.items ≡ length held.now)) }
     {
-        let values = kept_at(alloc, reduce, held, self.tuple.as_slice())?;
-        Ok(values)
+        match &self.accumulator {
+            Accumulator::Several(tuple) => {
+                let values = kept_at(alloc, reduce, held, tuple.as_slice())?;
+                Ok(values)
+            }
+            Accumulator::One(_) => Err(NoMemory),
+        }
     }
 }

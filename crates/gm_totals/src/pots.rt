@@ -47,7 +47,7 @@ fn add(
     let statement = key.key.statement;
     let place = place_of(entries, statement);
     if place < entries.len() && entries[place].statement == statement {
-        entries[place].give(several, reduce, key, values)?;
+        entries[place].give(reduce, key, values)?;
         return Ok(());
     }
     entries.insert(place, Entry::new(alloc, several, reduce, key, values)?)?;
@@ -84,7 +84,7 @@ impl Pot {
         ensures { OnOk result ((by : By) (slots : List Slot) → PotGains several (Some self.old) self.new (given key by slots values.now)) }
     {
         if key.key.statement == self.first.statement {
-            self.first.give(several, self.reduce, key, values)?;
+            self.first.give(self.reduce, key, values)?;
             return Ok(());
         }
         self.give_apart(alloc, several, key, values)?;

@@ -1,21 +1,43 @@
 //! The slots of one target.
 
-ghost use Rattle.std.specs.Prelude.{◌≡◌, length};
+ghost use Rattle.std.specs.Prelude.{◌≡◌, IfOk, length};
 ghost use Rattle.gm_source.specs.Stores.{slot_eq, slots_eq};
 ghost use Rattle.gm_totals.specs.Places.{head_of};
 ghost use Rattle.gm_totals.specs.Given.{is_several, slots_in};
 
+use gm_base::NoMemory;
 use gm_source::slots::Slot;
+use std::alloc::Global;
 use std::slice::from_ref;
 
-// The slots of a target: one, which takes no memory, or a list.
+// The slots of a target: one, or a list in a box. One slot takes no memory beside it, and no room for a list.
 #[derive(Debug, Drop)]
 pub enum Slots {
     One(Slot),
-    Several(Vec<Slot>),
+    Several(Box<Vec<Slot>>),
+}
+
+// Slots in a list of their own.
+fn copied(alloc: Global, slots: &[Slot]) -> Result<Vec<Slot>, NoMemory>
+    ensures { IfOk result (λ copies. copies.items ≡ slots.now) }
+{
+    let mut copies = Vec::new(alloc);
+    copies.extend_from_slice(slots)?;
+    Ok(copies)
 }
 
 impl Slots {
+    // Some slots.
+    pub fn new(alloc: Global, slots: &[Slot]) -> Result<Slots, NoMemory>
+        ensures { IfOk result (λ target. slots_in target ≡ slots.now) }
+    {
+        if are_several(slots) {
+            let copies = copied(alloc, slots)?;
+            return Ok(Slots::Several(Box::new(alloc, copies)?));
+        }
+        Ok(Slots::One(head_of(slots)))
+    }
+
     // The slots in order.
     #[inline(always)]
     pub fn as_slice(&self) -> &[Slot]
@@ -26,20 +48,10 @@ impl Slots {
             Slots::Several(slots) => slots.as_slice(),
         }
     }
-
-    // Whether they are anything but one slot.
-    #[inline(always)]
-    pub fn are_several(&self) -> bool
-        ensures { result ≡ is_several (slots_in self.now) }
-    {
-        match self {
-            Slots::One(_) => false,
-            Slots::Several(slots) => are_several(slots.as_slice()),
-        }
-    }
 }
 
 // Whether slots are anything but one.
+#[inline(always)]
 pub fn are_several(slots: &[Slot]) -> bool
     ensures { result ≡ is_several slots.now }
 {

@@ -156,13 +156,9 @@ impl Totals {
         ensures within { OnOk result ((shape : Shape) → HasSlot shape contribution.slot
             → Within shape self.old → Within shape self.new) }
     {
+        let slots = [contribution.slot];
         let values = [contribution.value];
-        self.put(
-            contribution.total,
-            contribution.reduce,
-            Slots::One(contribution.slot),
-            &values,
-        )?;
+        self.put(contribution.total, contribution.reduce, &slots, &values)?;
         Ok(())
     }
 
@@ -180,7 +176,7 @@ impl Totals {
         ensures within { OnOk result ((shape : Shape) → All (HasSlot shape) slots.items
             → Within shape self.old → Within shape self.new) }
     {
-        self.put(total, reduce, Slots::Several(slots), values)?;
+        self.put(total, reduce, slots.as_slice(), values)?;
         Ok(())
     }
 
@@ -190,17 +186,17 @@ impl Totals {
         &mut self,
         total: TotalKey,
         reduce: Reduce,
-        slots: Slots,
+        slots: &[Slot],
         values: &[Value],
     ) -> Result<(), NoMemory>
         ensures stands { OnOk result ((cs : List Given) → StandsFor self.old cs
-            → StandsFor self.new (cs ++ given total reduce (slots_in slots) values.now ∷ [])) }
-        ensures within { OnOk result ((shape : Shape) → All (HasSlot shape) (slots_in slots)
+            → StandsFor self.new (cs ++ given total reduce slots.now values.now ∷ [])) }
+        ensures within { OnOk result ((shape : Shape) → All (HasSlot shape) slots.now
             → Within shape self.old → Within shape self.new) }
     {
-        match self.find(slots.as_slice()) {
+        match self.find(slots) {
             Some(place) => {
-                let several = slots.are_several();
+                let several = are_several(slots);
                 self.pots[place].1.give(self.alloc, several, total, values)?;
             }
             None => self.add(total, reduce, slots, values)?,
@@ -256,22 +252,22 @@ impl Totals {
         &mut self,
         total: TotalKey,
         reduce: Reduce,
-        slots: Slots,
+        slots: &[Slot],
         values: &[Value],
     ) -> Result<(), NoMemory>
-        ensures stands { OnOk result ((cs : List Given) → StandsFor self.old cs → pot_at self.old (slots_in slots) ≡ None
-            → StandsFor self.new (cs ++ given total reduce (slots_in slots) values.now ∷ [])) }
-        ensures within { OnOk result ((shape : Shape) → All (HasSlot shape) (slots_in slots)
+        ensures stands { OnOk result ((cs : List Given) → StandsFor self.old cs → pot_at self.old slots.now ≡ None
+            → StandsFor self.new (cs ++ given total reduce slots.now values.now ∷ [])) }
+        ensures within { OnOk result ((shape : Shape) → All (HasSlot shape) slots.now
             → Within shape self.old → Within shape self.new) }
     {
         let place = self.pots.len();
         if place >= u32::MAX as usize {
             return Err(NoMemory);
         }
-        let several = slots.are_several();
-        let pot = Pot::new(self.alloc, several, reduce, total, values)?;
-        self.places.keep(head_of(slots.as_slice()), place as u32)?;
-        self.pots.push((slots, pot))?;
+        let pot = Pot::new(self.alloc, are_several(slots), reduce, total, values)?;
+        let target = Slots::new(self.alloc, slots)?;
+        self.places.keep(head_of(slots), place as u32)?;
+        self.pots.push((target, pot))?;
         Ok(())
     }
 

@@ -1,5 +1,5 @@
 -- The first of some values.
-use Rattle.std.proofs.Common.{◌≡◌, ◌<◌, length, arith}
+use Rattle.std.proofs.Common.{◌<◌, length, arith}
 use Rattle.gm_totals.proofs.Joining.{first_of}
 use Rattle.gm_totals.proofs.entries.first_of.Goals as goal
 

@@ -1,7 +1,7 @@
 -- The values of the tuple that is kept.
-use Rattle.std.proofs.Common.{◌≡◌, ◌∙◌, ap, sym, List, map, ℤ}
+use Rattle.std.proofs.Common.{◌∙◌, ap, sym, map}
 use Rattle.gm_value.specs.Numbers.{number_of}
-use Rattle.gm_value.specs.Tuples.{values_at, replaces}
+use Rattle.gm_value.specs.Tuples.{values_at}
 use Rattle.gm_totals.proofs.Joining.{kept-new, kept-held}
 use Rattle.gm_totals.proofs.entries.kept_at.Goals as goal
 

@@ -1,5 +1,5 @@
 -- The values of a tuple, one after another.
-use Rattle.std.proofs.Common.{◌≡◌, ◌<◌, ◌+◌, ◌++◌, ◌∷◌, [], List, length, map, sym, ap, subst, ◌∙◌, arith, refl}
+use Rattle.std.proofs.Common.{◌+◌, List, map, sym, subst, refl}
 use Rattle.gm_value.specs.declared.values.Value.{Value}
 use Rattle.gm_value.specs.Numbers.{number_of}
 use Rattle.gm_totals.proofs.Tuples.{AreSoFar, far-none, far-more, far-out, far-all}

@@ -22,7 +22,7 @@ returns-then-index-statement c = λ by slots low from.
     let one : x ≡ y = c.index_mut.ensures.value ∙ get_or_default es i x y within ∙ sym c.index.ensures in
     let own : x.statement ≡ s = ap (λ (z : Entry). z.statement) one ∙ c.if-index-statement.true in
     gains-set c.args.several c.args.reduce (given c.args.key by slots c.args.values.now) es i x e within (λ k h. place.0 k e h) (c.index_mut.ensures.value ∙ get_or_default es i x e within) own
-    (c.in_ok-give.ensures by slots) low from
+    (c.in_ok-give.ensures c.args.several by slots) low from
 
 pub returns : goal.returns
 returns c = λ by slots low from.

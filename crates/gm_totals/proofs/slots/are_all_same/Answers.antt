@@ -1,5 +1,5 @@
 -- Slots are compared one after another.
-use Rattle.std.proofs.Common.{◌≡◌, ◌<◌, ◌≤◌, length, arith, sym, ap, subst, ◌∙◌, refl}
+use Rattle.std.proofs.Common.{◌<◌, ◌≤◌, length, arith, sym, ◌∙◌}
 use Rattle.gm_totals.proofs.Keys.{eq-step, eq-out, eq-end}
 use Rattle.gm_totals.proofs.slots.are_all_same.Goals as goal
 

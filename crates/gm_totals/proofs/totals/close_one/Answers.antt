@@ -1,5 +1,5 @@
 -- A target of one slot is closed.
-use Rattle.std.proofs.Common.{◌∙◌, [], ◌∷◌, List, Ok, Err, Result, ap, refl, sym, subst}
+use Rattle.std.proofs.Common.{[], ◌∷◌, List, Ok, Err, Result, ap, refl, sym, subst}
 use Rattle.gm_value.specs.declared.values.Value.{Value}
 use Rattle.gm_source.specs.declared.faults.Fault.{Fault}
 use Rattle.gm_source.specs.declared.slots.Write.{Write}

@@ -1,11 +1,10 @@
 -- A target of several slots is closed.
-use Rattle.std.proofs.Common.{◌≡◌, ◌≢◌, ◌∙◌, List, Ok, Err, Result, length, true, ap, refl, sym, subst}
+use Rattle.std.proofs.Common.{◌≡◌, ◌≢◌, ◌∙◌, List, Ok, Err, Result, length, ap, refl, sym, subst}
 use Rattle.std.specs.declared.alloc.Global.{Global}
 use Rattle.std.specs.declared.vec.Vec.{Vec}
 use Rattle.std.proofs.lemmas.List.{length-map}
 use Rattle.gm_value.specs.declared.values.Value.{Value}
 use Rattle.gm_source.specs.declared.faults.Fault.{Fault}
-use Rattle.gm_source.specs.declared.slots.Write.{Write}
 use Rattle.gm_store.specs.Held.{held_at, shape_of}
 use Rattle.gm_totals.specs.declared.totals.Closed.{Closed}
 use Rattle.gm_totals.specs.Pots.{IsTaking, PotStands, answer_of_several}

@@ -1,7 +1,3 @@
-use Rattle.std.proofs.Common.{drop}
-use Rattle.std.specs.Prelude.{All}
-use Rattle.gm_store.specs.Held.{Shape, HasSlot}
-use Rattle.gm_totals.specs.Standing.{Sets}
 use Rattle.gm_totals.proofs.Settling.{Written}
 use Rattle.gm_totals.proofs.totals.write_each.Given as goal
 

@@ -1,15 +1,11 @@
 -- An entry of one contribution.
-use Rattle.std.proofs.Common.{refl, sym, subst, None, Bool}
+use Rattle.std.proofs.Common.{refl}
+use Rattle.gm_totals.specs.declared.entries.Entry.{Entry}
 use Rattle.gm_totals.specs.Given.{given}
-use Rattle.gm_totals.specs.Pots.{Joins}
+use Rattle.gm_totals.proofs.Joining.{joins-first}
 use Rattle.gm_totals.proofs.entries.Entry.new.Goals as goal
-
-pub returns-then-several : goal.returns-then-several
-returns-then-several c = λ by slots.
-    let k = given c.args.key by slots c.args.values.now in
-    subst (λ (several : Bool). Joins several c.args.reduce None k c.in_ok-entry.entry) (sym c.if-several.true) (c.in_ok-entry.ensures c.args.reduce k refl refl)
 
 pub returns : goal.returns
 returns c = λ by slots.
-    let k = given c.args.key by slots c.args.values.now in
-    subst (λ (several : Bool). Joins several c.args.reduce None k c.in_ok-entry-2.entry) (sym c.if-several.false) (c.in_ok-entry-2.ensures k refl c.in_ok-value.ensures)
+    let e : Entry = record { statement = c.args.key.key.statement; key = c.args.key; accumulator = c.in_ok-accumulator.accumulator } in
+    joins-first c.args.several c.args.reduce (given c.args.key by slots c.args.values.now) e refl refl c.in_ok-accumulator.ensures

@@ -1,4 +1,4 @@
-use Rattle.std.proofs.Common.{◌≡◌, ◌≢◌, List, ◌∷◌, take, length, true}
+use Rattle.std.proofs.Common.{◌≢◌, List, ◌∷◌, take, length, true}
 use Rattle.gm_source.specs.Contributions.{Contribution}
 use Rattle.gm_totals.specs.Pots.{PotStands}
 use Rattle.gm_totals.proofs.Takings.{Upto}

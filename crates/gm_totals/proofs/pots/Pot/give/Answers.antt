@@ -11,4 +11,4 @@ returns-then-key-self c = λ by slots.
     let old = c.args.self.now in
     let new : Pot = record old { first = c.give.new.self } in
     let k = given c.args.key by slots c.args.values.now in
-    pot-more c.args.several old new k refl (gains-same c.args.several old.reduce k old.first new.first old.more.items (sym c.if-key-self.true) (c.in_ok-give.ensures by slots))
+    pot-more c.args.several old new k refl (gains-same c.args.several old.reduce k old.first new.first old.more.items (sym c.if-key-self.true) (c.in_ok-give.ensures c.args.several by slots))

@@ -5,8 +5,6 @@ use Rattle.std.proofs.lemmas.List.{get_or-map, length-map}
 use Rattle.gm_source.specs.declared.slots.Slot.{Slot}
 use Rattle.gm_store.specs.Held.{HasSlot, shape_of}
 use Rattle.gm_totals.specs.declared.pots.Pot.{Pot}
-use Rattle.gm_totals.specs.declared.slots.Slots.{Slots}
-use Rattle.gm_totals.specs.Given.{slots_in}
 use Rattle.gm_totals.specs.Standing.{keyed, ClosesTarget}
 use Rattle.gm_totals.proofs.Closing.{AreLast, has-pot, targets-next, closed-none, all-settled}
 use Rattle.gm_totals.proofs.Placing.{key_of}

@@ -1,5 +1,5 @@
 -- The place of a target's pot.
-use Rattle.std.proofs.Common.{◌≡◌, ◌∙◌, ◌<◌, ◌≤◌, length, sym, ap, arith}
+use Rattle.std.proofs.Common.{◌∙◌, ◌<◌, ◌≤◌, length, sym, ap, arith}
 use Rattle.gm_source.specs.declared.slots.Slot.{Slot}
 use Rattle.gm_source.specs.Stores.{slot_eq}
 use Rattle.gm_totals.proofs.Placing.{unplaced-none, past-head, other-head, found-here}

@@ -1,5 +1,5 @@
 -- Totals with one more contribution.
-use Rattle.std.proofs.Common.{◌≡◌, ◌∙◌, ◌<◌, List, None, Some, get_or, length, sym, ap, subst, refl, arith}
+use Rattle.std.proofs.Common.{◌≡◌, ◌∙◌, ◌<◌, List, Some, get_or, length, sym, ap, subst, refl, arith}
 use Rattle.std.specs.Prelude.{All}
 use Rattle.std.proofs.lemmas.List.{get_or-map, length-map, map-set}
 use Rattle.gm_source.specs.declared.slots.Slot.{Slot}
@@ -9,9 +9,9 @@ use Rattle.gm_totals.specs.declared.slots.Slots.{Slots}
 use Rattle.gm_totals.specs.declared.totals.Totals.{Totals}
 use Rattle.gm_totals.specs.Given.{given, slots_in, is_several}
 use Rattle.gm_totals.specs.Pots.{PotGains}
-use Rattle.gm_totals.specs.Standing.{keyed, pot_at, targets_of, IsPotOf}
+use Rattle.gm_totals.specs.Standing.{keyed, IsPotOf}
 use Rattle.gm_totals.proofs.Giving.{within-changed, stands-changed}
-use Rattle.gm_totals.proofs.Placing.{key_of, get-key, length-keys, target-here}
+use Rattle.gm_totals.proofs.Placing.{key_of, length-keys, target-here}
 use Rattle.gm_totals.proofs.totals.Totals.put.Goals as goal
 
 pub returns-in_ok-give-in-Some-clause-stands : goal.returns-in_ok-give-in-Some-clause-stands
@@ -19,10 +19,10 @@ returns-in_ok-give-in-Some-clause-stands c =
     let old = c.args.self.now in
     let place = c.in-Some.place in
     let pair = c.index_mut.result.now in
-    let slots = slots_in c.args.slots in
+    let slots = c.args.slots.now in
     let k = given c.args.total c.args.reduce slots c.args.values.now in
     let changed : Slots × Pot = (pair.0, c.give.new.self) in
-    let at : IsPotOf old slots place = subst (λ s. IsPotOf old s place) c.as_slice.ensures c.in-Some.ensures.found in
+    let at : IsPotOf old slots place = c.in-Some.ensures.found in
     let within : place < length old.pots.items = omega (arith, at.0, length-keys (keyed old), length-map old.pots.items key_of) in
     let key : slots_in pair.0 ≡ slots = target-here old place pair slots within c.index_mut.ensures.value ∙ at.1 slots in
     let new : Totals = record old { pots = Rattle.std.specs.Vec.with_item old.pots place changed } in
@@ -36,9 +36,9 @@ returns-in_ok-give-in-Some-clause-within c =
     let old = c.args.self.now in
     let place = c.in-Some.place in
     let pair = c.index_mut.result.now in
-    let slots = slots_in c.args.slots in
+    let slots = c.args.slots.now in
     let changed : Slots × Pot = (pair.0, c.give.new.self) in
-    let at : IsPotOf old slots place = subst (λ s. IsPotOf old s place) c.as_slice.ensures c.in-Some.ensures.found in
+    let at : IsPotOf old slots place = c.in-Some.ensures.found in
     let within : place < length old.pots.items = omega (arith, at.0, length-keys (keyed old), length-map old.pots.items key_of) in
     let key : slots_in pair.0 ≡ slots = target-here old place pair slots within c.index_mut.ensures.value ∙ at.1 slots in
     let new : Totals = record old { pots = Rattle.std.specs.Vec.with_item old.pots place changed } in
@@ -46,4 +46,4 @@ returns-in_ok-give-in-Some-clause-within c =
 
 pub returns-in_ok-add-in-None-clause-stands : goal.returns-in_ok-add-in-None-clause-stands
 returns-in_ok-add-in-None-clause-stands c = λ cs stands.
-    c.in_ok-add-in-None.ensures.stands cs stands (subst (λ s. pot_at c.args.self.now s ≡ None) c.as_slice.ensures (c.in-None.ensures.none refl stands.placed))
+    c.in_ok-add-in-None.ensures.stands cs stands (c.in-None.ensures.none refl stands.placed)

@@ -1,5 +1,5 @@
 -- A target is asked for among all.
-use Rattle.std.proofs.Common.{◌≡◌, ◌∙◌, ◌<◌, ◌≤◌, length, sym, ap, arith}
+use Rattle.std.proofs.Common.{◌∙◌, ◌<◌, ◌≤◌, length, sym, arith}
 use Rattle.gm_totals.proofs.Placing.{found-here, none-here, none-more}
 use Rattle.gm_totals.proofs.totals.Totals.search.Goals as goal
 

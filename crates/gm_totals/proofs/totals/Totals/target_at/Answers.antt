@@ -1,5 +1,5 @@
 -- The target of a pot.
-use Rattle.std.proofs.Common.{◌∙◌, ap}
+use Rattle.std.proofs.Common.{◌∙◌}
 use Rattle.gm_totals.proofs.Placing.{target-here}
 use Rattle.gm_totals.proofs.totals.Totals.target_at.Goals as goal
 
