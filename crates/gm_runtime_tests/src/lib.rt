@@ -1,6 +1,8 @@
-//! Tests of what the evaluator stands on: stores, running totals, levels of a search.
+//! Tests of what the evaluator stands on: stores, running totals, totals of tuples, levels of a search.
 #![tactic(auto)]
 
+#[cfg(test)]
+mod argument_totals;
 #[cfg(test)]
 mod running_totals;
 #[cfg(test)]
