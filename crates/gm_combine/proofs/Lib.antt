@@ -5,4 +5,3 @@ pub mod Multiplying
 pub mod Messages
 pub mod Folding
 pub mod Preparing
-mod Worked

@@ -4,3 +4,4 @@ pub mod Cells
 pub mod Rows
 pub mod Batches
 pub mod Held
+pub mod WorkedTotals

@@ -9,6 +9,7 @@
 
 mod batches;
 mod folds;
+mod laws;
 mod numbers;
 mod picks;
 mod products;
@@ -17,4 +18,5 @@ mod sums;
 mod typed_rows;
 
 pub use batches::KindBatch;
+pub use laws::totals_are_worked;
 pub use rows::{Rows, combinable};

@@ -3,4 +3,6 @@ pub mod NodeLists
 pub mod CoreLemmas
 pub mod RunLemmas
 pub mod SuperstepLemmas
-mod Rows
+pub mod RowReads
+pub mod LegalLemmas
+pub mod CoreChanges

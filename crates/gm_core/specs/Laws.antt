@@ -1,5 +1,5 @@
 -- The laws of the core.
-use Rattle.std.specs.Prelude.{◌≡◌, ◌<◌, ◌≤◌, ◌+◌, ℕ, suc, if◌then◌else◌, IsTrue, Option, Some, None, List, [], ◌∷◌, length, slice_index_or}
+use Rattle.std.specs.Prelude.{◌≡◌, ◌<◌, ◌≤◌, ℕ, suc, if◌then◌else◌, IsTrue, Option, Some, None, List, [], ◌∷◌, length, slice_index_or}
 use Rattle.gm_value.specs.declared.values.Value.{Value}
 use Rattle.gm_value.specs.Bag.{SameBag}
 use Rattle.gm_graph.specs.declared.outcomes.RunEnd.{RunEnd}

@@ -3,3 +3,7 @@ pub mod Cores
 pub mod Laws
 pub mod Supersteps
 pub mod Owners
+pub mod CoreViews
+pub mod CoreStates
+pub mod Runs
+pub mod WorkedEvents

@@ -30,7 +30,11 @@ pub(crate) enum Stop {
 }
 
 // The values of the scalar outputs.
-fn scalars(alloc: Global, outputs: &[OutputItem], globals: &[Value]) -> Result<Vec<Value>, NoMemory>
+pub(crate) fn scalars(
+    alloc: Global,
+    outputs: &[OutputItem],
+    globals: &[Value],
+) -> Result<Vec<Value>, NoMemory>
     ensures { IfOk result (λ values. values.items ≡ map (λ i. value_at globals.now i.slot) (scalars (map output outputs.now))) }
 {
     let mut values = Vec::new(alloc);
@@ -61,7 +65,7 @@ fn properties(
 }
 
 // The value of the result's global, where there is a result.
-fn result_of(slot: Option<(VType, u32)>, globals: &[Value]) -> Option<Value>
+pub(crate) fn result_of(slot: Option<(VType, u32)>, globals: &[Value]) -> Option<Value>
     ensures { result ≡ option_map (λ r. value_at globals.now r.1) slot }
 {
     match slot {
@@ -93,7 +97,7 @@ fn done(
 }
 
 // The place of an index.
-fn place_at(image: &Image, place: u32) -> Place
+pub(crate) fn place_at(image: &Image, place: u32) -> Place
     ensures { result ≡ place_at (program image.now) place }
 {
     let places = image.places.as_slice();

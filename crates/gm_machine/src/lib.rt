@@ -13,6 +13,7 @@ mod inboxes;
 mod laws;
 mod lines;
 mod masters;
+mod node_lists;
 mod notes;
 mod runs;
 mod settling;
@@ -22,11 +23,12 @@ mod supersteps;
 
 pub use batches::Batch;
 pub use contributions::{ContributionPart, Contributions};
-pub use faults::Fault;
+pub use faults::{Fault, lesser};
 pub use laws::{
     inboxes_have_no_order, puts_have_no_order, states_reach_the_end, totals_stand_for_messages,
 };
 pub use masters::{Master, MasterStop, master_run};
+pub use node_lists::{end_of_lists, settle_puts, start_fields};
 pub use notes::StepNote;
 pub use runs::{run_noted, run_one};
 pub use steps::{Sent, vertex_step};

@@ -56,7 +56,7 @@ fn bind(
 }
 
 // Writes the values of a node in the graph's columns into the fields of the node inputs, in order.
-fn bind_properties(
+pub(crate) fn bind_properties(
     inputs: &[InputItem],
     graph: &Graph,
     node: u32,
