@@ -11,13 +11,13 @@ use Rattle.gm_ast.specs.declared.kinds.Reducer.{Reducer}
 use Rattle.gm_ast.specs.Surface.{SurfaceName, SurfaceHead, SurfaceExpr, Member, Method, Prefixed, Infixed, Choose, Reduction}
 use Rattle.gm_ast.specs.Program.{Expr}
 use Rattle.gm_ast.specs.Judged.{Judged, judge, both_of, part_by, broken_by}
-use Rattle.gm_ast.specs.Names.{Env, used, both, iterated, keyed, counted}
+use Rattle.gm_ast.specs.Names.{Env, used, both, counted}
 use Rattle.gm_ast.specs.Kinds.{Part}
 use Rattle.gm_ast.specs.Typing.{typed, condition, start_of, prefix_part, infix_part, choice_part, member_part, method_part, query_of, ranged, reducer_at, fold_numbers, reduction_rule}
 use Rattle.gm_types.specs.declared.names.Checker.{Checker}
-use Rattle.gm_types.specs.Views.{env_of, Judges, Enters, Leaves}
-use Rattle.gm_types.proofs.Walks.{judges-both, judges-by, judges-keyed, judges-counted}
-use Rattle.gm_types.proofs.Scopes.{judges-iterated}
+use Rattle.gm_types.specs.Folding.{folded_parts}
+use Rattle.gm_types.specs.Views.{env_of, Judges}
+use Rattle.gm_types.proofs.Walks.{judges-both, judges-by, judges-counted}
 
 pub judges-Member : {old mid mid2 new : Checker} {p q : Option Binding} {r : Option Part} (x m : SurfaceName)
     → Judges old mid (used x (env_of old)) p → Judges mid mid2 (used m (env_of mid)) q
@@ -58,29 +58,22 @@ judges-Choose at c a b h k l stands noted v n =
     judges-by (choice_part at) (judges-both (condition (start_of c) (typed c)) (both (typed a) (typed b)) h (judges-both (typed a) (typed b) k l)) stands noted v n
 
 -- a reduction, whose filter and braces know its iterator
-pub judges-Reduction : {old mid begun entered asked inner left new : Checker} {o : Option Binding} {p : Option Expr} {q r : Option Part}
+pub judges-Reduction : {old mid begun left new : Checker} {o : Option Binding} {q : Option (ℕ × (Expr × Part))} {r : Option Part}
     (at : Place) (word : ReductionWord) (h : SurfaceHead) (filter body : SurfaceExpr) (close : Place) (f : Reducer) (numbers : ℕ)
     → f ≡ reducer_at (env_of old) at word close → numbers ≡ fold_numbers (env_of old)
     → Judges old mid (ranged h (env_of old)) o
     → begun ≡ record mid { number = mid.number + numbers }
-    → Enters begun entered h.iterator 1
-    → Judges (record entered { key = f.filter }) asked (condition (start_of filter) (typed filter) (env_of (record entered { key = f.filter }))) p
-    → Judges (record asked { key = f.body }) inner (typed body (env_of (record asked { key = f.body }))) q
-    → Leaves begun (record inner { key = entered.key }) left
-    → r ≡ part_by (both_of o (both_of (Some (length begun.declarations.items)) (both_of p q))) (reduction_rule f (start_of body) h)
-    → new.least ≡ least_from left.least (broken_by (both_of o (both_of (Some (length begun.declarations.items)) (both_of p q))) (reduction_rule f (start_of body) h))
+    → Judges begun left (folded_parts f h.iterator filter body (env_of begun)) q
+    → r ≡ part_by (both_of o q) (reduction_rule f (start_of body) h)
+    → new.least ≡ least_from left.least (broken_by (both_of o q) (reduction_rule f (start_of body) h))
     → new.declarations.items ≡ left.declarations.items → env_of new ≡ env_of left
     → Judges old new (typed (Reduction at word h filter body close) (env_of old)) r
-judges-Reduction {old = old} {mid = mid} {begun = begun} {entered = entered} {asked = asked} {inner = inner} {left = left} {new = new} {o = o} {p = p} {q = q} {r = r} at word h filter body close f numbers is_f is_numbers k is_begun e t b l stands noted v n =
-    let held = judges-both (keyed f.filter (condition (start_of filter) (typed filter))) (keyed f.body (typed body))
-    (judges-keyed {old = entered} f.filter (condition (start_of filter) (typed filter)) t)
-    (judges-keyed {old = record asked { key = entered.key }} f.body (typed body) b) in
-    let turned = judges-iterated h.iterator 1 (both (keyed f.filter (condition (start_of filter) (typed filter))) (keyed f.body (typed body))) e held l in
-    let counted_from = subst (λ (s : Checker). Judges s left (iterated h.iterator 1 (both (keyed f.filter (condition (start_of filter) (typed filter))) (keyed f.body (typed body))) (env_of s)) (both_of (Some (length begun.declarations.items)) (both_of p q))) is_begun turned in
-    let all = judges-both (ranged h) (counted numbers (iterated h.iterator 1 (both (keyed f.filter (condition (start_of filter) (typed filter))) (keyed f.body (typed body))))) k
-    (judges-counted {old = mid} numbers (iterated h.iterator 1 (both (keyed f.filter (condition (start_of filter) (typed filter))) (keyed f.body (typed body)))) counted_from) in
+judges-Reduction {old = old} {mid = mid} {begun = begun} {left = left} {new = new} {o = o} {q = q} {r = r} at word h filter body close f numbers is_f is_numbers k is_begun t stands noted v n =
+    let parts = folded_parts f h.iterator filter body in
+    let counted_from = subst (λ (s : Checker). Judges s left (parts (env_of s)) q) is_begun t in
+    let all = judges-both (ranged h) (counted numbers parts) k (judges-counted {old = mid} numbers parts counted_from) in
     let judged = judges-by (reduction_rule f (start_of body) h) all stands noted v n in
     subst (λ (g : Reducer). Judges old new (judge_with g (fold_numbers (env_of old))) r) is_f (subst (λ (m : ℕ). Judges old new (judge_with f m) r) is_numbers judged)
   where
     judge_with : Reducer → ℕ → Judged Part
-    judge_with g m = judge (both (ranged h) (counted m (iterated h.iterator 1 (both (keyed g.filter (condition (start_of filter) (typed filter))) (keyed g.body (typed body))))) (env_of old)) (reduction_rule g (start_of body) h)
+    judge_with g m = judge (both (ranged h) (counted m (folded_parts g h.iterator filter body)) (env_of old)) (reduction_rule g (start_of body) h)

@@ -43,12 +43,6 @@ pub judges-Do : {old mid new : Checker} {p : Option Stmt} {q : Option Expr} {t :
     → Judges old new (checked (Do at s c) (env_of old)) t
 judges-Do {old = old} at s c h k is = judges-made (λ ps. P.Do old.key at ps.0 ps.1) (judges-both (numbered (checked s)) (test c) h k) is
 
--- a loop's iterator, filter and body
-pub judges-turns : {old entered asked inner new : Checker} {p : Option Expr} {q : Option Stmt} (x : SurfaceName) (loops : ℕ) (f : SurfaceExpr) (s : SurfaceStmt)
-    → Enters old entered x loops → Judges entered asked (test f (env_of entered)) p → Judges asked inner (numbered (checked s) (env_of asked)) q → Leaves old inner new
-    → Judges old new (iterated x loops (both (test f) (numbered (checked s))) (env_of old)) (both_of (Some (length old.declarations.items)) (both_of p q))
-judges-turns x loops f s e h k l = judges-iterated x loops (both (test f) (numbered (checked s))) e (judges-both (test f) (numbered (checked s)) h k) l
-
 -- a loop over nodes or neighbours
 pub judges-Loop : {old mid new : Checker} {o : Option Binding} {q : Option (ℕ × (Expr × Stmt))} {t : Option Stmt} (at : Place) (w : LoopWord) (h : SurfaceHead) (f : SurfaceExpr) (s : SurfaceStmt)
     → Judges old mid (ranged h (env_of old)) o → Judges mid new (iterated h.iterator (loops_of w) (both (test f) (numbered (checked s))) (env_of mid)) q
@@ -70,10 +64,10 @@ judges-InBfs {old = old} at x graph root f s h k l is =
     (judges-both (graph_searched graph) (rooted root) h k) l) is
 
 -- the part of a search after InReverse
-pub judges-searched : {old mid new : Checker} {p : Option Expr} {q : Option Stmt} (f : SurfaceExpr) (s : SurfaceStmt)
-    → Judges old mid (test f (env_of old)) p → Judges mid new (numbered (checked s) (env_of mid)) q
-    → Judges old new (searched (test f) (numbered (checked s)) (env_of old)) (option_map (under_key old.key) (both_of p q))
-judges-searched {old = old} {p = p} {q = q} f s h k = judges-made (under_key old.key) (judges-both (test f) (numbered (checked s)) h k) (made (both_of p q))
+pub judges-searched : {old new : Checker} {o : Option (Expr × Stmt)} (f : SurfaceExpr) (s : SurfaceStmt)
+    → Judges old new (both (test f) (numbered (checked s)) (env_of old)) o
+    → Judges old new (searched (test f) (numbered (checked s)) (env_of old)) (option_map (under_key old.key) o)
+judges-searched {old = old} {o = o} f s h = judges-made (under_key old.key) h (made o)
   where
     made : (o : Option (Expr × Stmt)) → option_map (under_key old.key) o ≡ part_by o (λ ps. Ok (under_key old.key ps))
     made Option.None = refl
@@ -117,14 +111,13 @@ judges-absent {old = old} is = record {
 }
 
 -- the part of a search after InReverse, with its number
-pub judges-back : {old begun inner : Checker} {p : Option Expr} {q : Option Stmt} (f : SurfaceExpr) (s : SurfaceStmt) (mid : Checker)
-    → begun ≡ begun_of old → Judges begun mid (test f (env_of begun)) p → Judges mid inner (numbered (checked s) (env_of mid)) q
-    → Judges old (record inner { key = old.key }) (numbered (searched (test f) (numbered (checked s))) (env_of old)) (option_map (under_key begun.key) (both_of p q))
-judges-back {old = old} {begun = begun} {inner = inner} {p = p} {q = q} f s mid is h k =
+pub judges-back : {old begun inner : Checker} {o : Option (Expr × Stmt)} (f : SurfaceExpr) (s : SurfaceStmt)
+    → begun ≡ begun_of old → Judges begun inner (both (test f) (numbered (checked s)) (env_of begun)) o
+    → Judges old (record inner { key = old.key }) (numbered (searched (test f) (numbered (checked s))) (env_of old)) (option_map (under_key begun.key) o)
+judges-back {old = old} {begun = begun} {inner = inner} {o = o} f s is h =
     let part = searched (test f) (numbered (checked s)) in
-    let held = judges-searched f s h k in
-    let held' = subst (λ (b : Checker). Judges b inner (part (env_of b)) (option_map (under_key begun.key) (both_of p q))) is held in
-    judges-numbered {old = old} part held'
+    let held = subst (λ (b : Checker). Judges b inner (part (env_of b)) (option_map (under_key begun.key) o)) is (judges-searched f s h) in
+    judges-numbered {old = old} part held
 
 -- a search with a part after InReverse
 pub judges-InBfsBoth : {old m1 m2 new : Checker} {g r : Option Binding} {q : Option (ℕ × ((Expr × Stmt) × (Key × (Expr × Stmt))))} {t : Option Stmt}

@@ -1,4 +1,5 @@
 pub mod Parts
+pub mod Folding
 pub mod Views
 pub mod Notes
 pub mod Groups

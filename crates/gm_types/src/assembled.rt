@@ -9,7 +9,7 @@ ghost use Rattle.gm_ast.specs.Statements.{search_of, loops_of, loop_of};
 ghost use Rattle.gm_ast.specs.SurfaceTree as SurfaceTree;
 ghost use Rattle.gm_ast.specs.SurfaceTree.{name_of};
 ghost use Rattle.gm_ast.specs.Tree.{expr_of, stmt_of};
-ghost use Rattle.gm_types.specs.Boxes.{unboxed, both_unboxed};
+ghost use Rattle.gm_types.specs.Boxes.{boxed_of, half_of, back_of};
 ghost use Rattle.gm_types.specs.Shapes.{under_key};
 
 use crate::reductions::head_with;
@@ -19,46 +19,60 @@ use gm_ast::tree::{Expr, Key, Search, Stmt};
 use gm_base::Place;
 use std::alloc::{AllocError, Global};
 
-// A part of a search: its filter and its body, where they have types.
+// The filter of a loop or a search, and its body.
 #[derive(Drop)]
 pub struct Half {
-    pub filter: Option<Expr>,
-    pub body: Option<Stmt>,
+    pub filter: Expr,
+    pub body: Box<Stmt>,
 }
 
-// Two parts where both are there, the second in a box. Where one is missing, the other is dropped here.
-fn both_boxed<A: Drop, B: Drop>(
-    alloc: Global,
-    first: Option<A>,
-    second: Option<B>,
-) -> Result<Option<(A, Box<B>)>, AllocError>
-    ensures { IfOk result (λ r. option_map unboxed r ≡ both_of first second) }
+// The part of a search after InReverse, with the key of its filter.
+#[derive(Drop)]
+pub struct Back {
+    pub key: Key,
+    pub half: Half,
+}
+
+// A statement in a box, where it has a type.
+pub fn boxed(alloc: Global, stmt: Option<Stmt>) -> Result<Option<Box<Stmt>>, AllocError>
+    ensures { IfOk result (λ r. option_map boxed_of r ≡ option_map stmt_of stmt) }
 {
-    match first {
+    match stmt {
         None => Ok(None),
-        Some(first) => match second {
-            None => Ok(None),
-            Some(second) => {
-                let second = Box::new(alloc, second)?;
-                Ok(Some((first, second)))
-            }
-        },
+        Some(stmt) => {
+            let stmt = Box::new(alloc, stmt)?;
+            Ok(Some(stmt))
+        }
     }
 }
 
-// Two filters with the bodies under them where all are there, the bodies in boxes.
-fn halves_boxed<A: Drop, B: Drop>(
-    alloc: Global,
-    filter: Option<A>,
-    body: Option<B>,
-    back_filter: Option<A>,
-    back: Option<B>,
-) -> Result<Option<((A, Box<B>), (A, Box<B>))>, AllocError>
-    ensures { IfOk result (λ r. option_map both_unboxed r ≡ both_of (both_of filter body) (both_of back_filter back)) }
+// The block of no statements.
+pub fn skip(alloc: Global) -> Result<Box<Stmt>, AllocError>
+    ensures { IfOk result (λ r. boxed_of r ≡ Program.Skip) }
 {
-    let front = both_boxed(alloc, filter, body)?;
-    let back = both_boxed(alloc, back_filter, back)?;
-    Ok(front.zip(back))
+    let stmt = Stmt::Block(Vec::new(alloc));
+    let stmt = Box::new(alloc, stmt)?;
+    Ok(stmt)
+}
+
+// A filter and the body under it, if both have types.
+pub fn half_with(filter: Option<Expr>, body: Option<Box<Stmt>>) -> Option<Half>
+    ensures { option_map half_of result ≡ both_of (option_map expr_of filter) (option_map boxed_of body) }
+{
+    match filter.zip(body) {
+        None => None,
+        Some((filter, body)) => Some(Half { filter, body }),
+    }
+}
+
+// The part of a search after InReverse, if it has types.
+pub fn back_with(key: Key, half: Option<Half>) -> Option<Back>
+    ensures { option_map back_of result ≡ option_map (under_key key) (option_map half_of half) }
+{
+    match half {
+        None => None,
+        Some(half) => Some(Back { key, half }),
+    }
 }
 
 pub fn loops_of(word: LoopWord) -> u32
@@ -92,24 +106,21 @@ pub fn block_of(stmts: Option<Vec<Stmt>>) -> Option<Stmt>
 
 // The loop of a word, whose parts may have no types.
 pub fn loop_with(
-    alloc: Global,
     word: LoopWord,
     key: Key,
     place: Place,
     head: &SpelledHead,
     owner: Option<Binding>,
     iterator: u32,
-    filter: Option<Expr>,
-    body: Option<Stmt>,
-) -> Result<Option<Stmt>, AllocError>
-    ensures { IfOk result (λ r. option_map stmt_of r ≡ part_by (both_of owner (both_of (Some iterator) (both_of (option_map expr_of filter) (option_map stmt_of body)))) (λ p. Ok (loop_of word key place (head_with (SurfaceTree.head_of head.now) p.0 p.1.0) p.1.1.0 p.1.1.1))) }
+    half: Option<Half>,
+) -> Option<Stmt>
+    ensures { option_map stmt_of result ≡ part_by (both_of owner (both_of (Some iterator) (option_map half_of half))) (λ p. Ok (loop_of word key place (head_with (SurfaceTree.head_of head.now) p.0 p.1.0) p.1.1.0 p.1.1.1)) }
 {
-    let parts = both_boxed(alloc, filter, body)?;
-    match owner.zip(parts) {
-        None => Ok(None),
-        Some((owner, (filter, body))) => {
+    match owner.zip(half) {
+        None => None,
+        Some((owner, Half { filter, body })) => {
             let head = head_with(head, owner, iterator);
-            Ok(Some(match word {
+            Some(match word {
                 LoopWord::Foreach => Stmt::Foreach {
                     key,
                     place,
@@ -124,76 +135,58 @@ pub fn loop_with(
                     filter,
                     body,
                 },
-            }))
+            })
         }
     }
 }
 
 // A choice between statements, whose parts may have no types.
 pub fn if_with(
-    alloc: Global,
     key: Key,
     test: Option<Expr>,
-    yes: Option<Stmt>,
-    no: Option<Stmt>,
-) -> Result<Option<Stmt>, AllocError>
-    ensures { IfOk result (λ r. option_map stmt_of r ≡ part_by (both_of (option_map expr_of test) (both_of (option_map stmt_of yes) (option_map stmt_of no))) (λ p. Ok (Program.If key p.0 p.1.0 p.1.1))) }
+    yes: Option<Box<Stmt>>,
+    no: Option<Box<Stmt>>,
+) -> Option<Stmt>
+    ensures { option_map stmt_of result ≡ part_by (both_of (option_map expr_of test) (both_of (option_map boxed_of yes) (option_map boxed_of no))) (λ p. Ok (Program.If key p.0 p.1.0 p.1.1)) }
 {
-    match test {
-        None => Ok(None),
-        Some(test) => match yes {
-            None => Ok(None),
-            Some(yes) => match no {
-                None => Ok(None),
-                Some(no) => {
-                    let yes = Box::new(alloc, yes)?;
-                    let no = Box::new(alloc, no)?;
-                    Ok(Some(Stmt::If { key, test, yes, no }))
-                }
-            },
-        },
+    match test.zip(yes.zip(no)) {
+        None => None,
+        Some((test, (yes, no))) => Some(Stmt::If { key, test, yes, no }),
     }
 }
 
 // A loop with its condition first, whose parts may have no types.
 pub fn while_with(
-    alloc: Global,
     key: Key,
     place: Place,
     test: Option<Expr>,
-    body: Option<Stmt>,
-) -> Result<Option<Stmt>, AllocError>
-    ensures { IfOk result (λ r. option_map stmt_of r ≡ part_by (both_of (option_map expr_of test) (option_map stmt_of body)) (λ p. Ok (Program.While key place p.0 p.1))) }
+    body: Option<Box<Stmt>>,
+) -> Option<Stmt>
+    ensures { option_map stmt_of result ≡ part_by (both_of (option_map expr_of test) (option_map boxed_of body)) (λ p. Ok (Program.While key place p.0 p.1)) }
 {
-    match both_boxed(alloc, test, body)? {
-        None => Ok(None),
-        Some((test, body)) => Ok(Some(Stmt::While {
+    match test.zip(body) {
+        None => None,
+        Some((test, body)) => Some(Stmt::While {
             key,
             place,
             test,
             body,
-        })),
+        }),
     }
 }
 
 // A loop with its condition last, whose parts may have no types.
-pub fn do_with(
-    alloc: Global,
-    key: Key,
-    place: Place,
-    body: Option<Stmt>,
-    test: Option<Expr>,
-) -> Result<Option<Stmt>, AllocError>
-    ensures { IfOk result (λ r. option_map stmt_of r ≡ part_by (both_of (option_map stmt_of body) (option_map expr_of test)) (λ p. Ok (Program.Do key place p.0 p.1))) }
+pub fn do_with(key: Key, place: Place, body: Option<Box<Stmt>>, test: Option<Expr>) -> Option<Stmt>
+    ensures { option_map stmt_of result ≡ part_by (both_of (option_map boxed_of body) (option_map expr_of test)) (λ p. Ok (Program.Do key place p.0 p.1)) }
 {
-    match both_boxed(alloc, test, body)? {
-        None => Ok(None),
-        Some((test, body)) => Ok(Some(Stmt::Do {
+    match body.zip(test) {
+        None => None,
+        Some((body, test)) => Some(Stmt::Do {
             key,
             place,
             body,
             test,
-        })),
+        }),
     }
 }
 
@@ -211,81 +204,52 @@ fn search_with(root: &Name, graph: Binding, start: Binding, iterator: u32) -> Se
 
 // A search without a part after InReverse, whose parts may have no types.
 pub fn bfs_with(
-    alloc: Global,
     key: Key,
     place: Place,
     root: &Name,
     graph: Option<Binding>,
     start: Option<Binding>,
     iterator: u32,
-    filter: Option<Expr>,
-    body: Option<Stmt>,
-) -> Result<Option<Stmt>, AllocError>
-    ensures { IfOk result (λ r. option_map stmt_of r ≡ part_by (both_of (both_of graph start) (both_of (Some iterator) (both_of (option_map expr_of filter) (option_map stmt_of body)))) (λ p. Ok (Program.InBfs key place (search_of (name_of root.now) p.0 p.1.0) p.1.1.0 p.1.1.1))) }
+    half: Option<Half>,
+) -> Option<Stmt>
+    ensures { option_map stmt_of result ≡ part_by (both_of (both_of graph start) (both_of (Some iterator) (option_map half_of half))) (λ p. Ok (Program.InBfs key place (search_of (name_of root.now) p.0 p.1.0) p.1.1.0 p.1.1.1)) }
 {
-    let parts = both_boxed(alloc, filter, body)?;
-    match graph.zip(start).zip(parts) {
-        None => Ok(None),
-        Some(((graph, start), (filter, body))) => Ok(Some(Stmt::InBfs {
+    match graph.zip(start).zip(half) {
+        None => None,
+        Some(((graph, start), Half { filter, body })) => Some(Stmt::InBfs {
             key,
             place,
             search: search_with(root, graph, start, iterator),
             filter,
             body,
-        })),
-    }
-}
-
-// A search with a part after InReverse, whose filters and bodies may have no types.
-fn halves_with(
-    alloc: Global,
-    key: Key,
-    place: Place,
-    search: Search,
-    front: Half,
-    back_key: Key,
-    back: Half,
-) -> Result<Option<Stmt>, AllocError>
-    ensures { IfOk result (λ r. option_map stmt_of r ≡ option_map (λ p. Program.InBfsBoth key place search p.0.0 p.0.1 back_key p.1.0 p.1.1) (both_of (both_of (option_map expr_of front.filter) (option_map stmt_of front.body)) (both_of (option_map expr_of back.filter) (option_map stmt_of back.body)))) }
-{
-    match halves_boxed(alloc, front.filter, front.body, back.filter, back.body)? {
-        None => Ok(None),
-        Some(((filter, body), (back_filter, back))) => Ok(Some(Stmt::InBfsBoth {
-            key,
-            place,
-            search,
-            filter,
-            body,
-            back_key,
-            back_filter,
-            back,
-        })),
+        }),
     }
 }
 
 // A search with a part after InReverse, whose parts may have no types.
 pub fn bfs_both_with(
-    alloc: Global,
     key: Key,
     place: Place,
     root: &Name,
     graph: Option<Binding>,
     start: Option<Binding>,
     iterator: u32,
-    front: Half,
-    back_key: Key,
-    back: Half,
-) -> Result<Option<Stmt>, AllocError>
-    ensures { IfOk result (λ r. option_map stmt_of r ≡ part_by (both_of (both_of graph start) (both_of (Some iterator) (both_of (both_of (option_map expr_of front.filter) (option_map stmt_of front.body)) (option_map (under_key back_key) (both_of (option_map expr_of back.filter) (option_map stmt_of back.body)))))) (λ p. Ok (Program.InBfsBoth key place (search_of (name_of root.now) p.0 p.1.0) p.1.1.0.0 p.1.1.0.1 p.1.1.1.0 p.1.1.1.1.0 p.1.1.1.1.1))) }
+    front: Option<Half>,
+    back: Option<Back>,
+) -> Option<Stmt>
+    ensures { option_map stmt_of result ≡ part_by (both_of (both_of graph start) (both_of (Some iterator) (both_of (option_map half_of front) (option_map back_of back)))) (λ p. Ok (Program.InBfsBoth key place (search_of (name_of root.now) p.0 p.1.0) p.1.1.0.0 p.1.1.0.1 p.1.1.1.0 p.1.1.1.1.0 p.1.1.1.1.1)) }
 {
-    match graph {
-        None => Ok(None),
-        Some(graph) => match start {
-            None => Ok(None),
-            Some(start) => {
-                let search = search_with(root, graph, start, iterator);
-                halves_with(alloc, key, place, search, front, back_key, back)
-            }
-        },
+    match graph.zip(start).zip(front.zip(back)) {
+        None => None,
+        Some(((graph, start), (front, back))) => Some(Stmt::InBfsBoth {
+            key,
+            place,
+            search: search_with(root, graph, start, iterator),
+            filter: front.filter,
+            body: front.body,
+            back_key: back.key,
+            back_filter: back.half.filter,
+            back: back.half.body,
+        }),
     }
 }

@@ -1,12 +1,13 @@
 //! Expressions, each part judged once.
 
 ghost use Rattle.std.specs.Prelude.{◌≡◌, IfOk, IfSome, option_map};
-ghost use Rattle.gm_value.specs.declared.values.VType.TheVariants.{Flag};
-ghost use Rattle.gm_ast.specs.declared.kinds.Kind.TheVariants.{Of};
-ghost use Rattle.gm_ast.specs.Program.{always};
+ghost use Rattle.gm_ast.specs.Program as Program;
 ghost use Rattle.gm_ast.specs.Kinds as Kinds;
+ghost use Rattle.gm_ast.specs.Names.{keyed};
+ghost use Rattle.gm_ast.specs.Surface.{Named, Member, Method, Prefixed};
 ghost use Rattle.gm_ast.specs.Typing.{typed, start_of, number, ranged, reducer_at, fold_key, fold_numbers};
 ghost use Rattle.gm_ast.specs.SurfaceTree as SurfaceTree;
+ghost use Rattle.gm_ast.specs.SurfaceTree.{name_of};
 ghost use Rattle.gm_ast.specs.Tree.{expr_of};
 ghost use Rattle.gm_types.specs.Parts.{part_of};
 ghost use Rattle.gm_types.specs.Views.{env_of, Judges};
@@ -14,9 +15,9 @@ ghost use Rattle.gm_types.specs.Views.{env_of, Judges};
 use crate::leaves::{member, method, named, plain, query_of};
 use crate::names::Checker;
 use crate::parts::{Part, choice, condition, infix, prefix};
-use crate::reductions::{domain_of, range, reduction};
+use crate::reductions::{Folding, domain_of, range, reduction};
 use gm_ast::kinds::{Binding, Kind, Reducer};
-use gm_ast::surface::{ReductionWord, SpelledExpr, SpelledHead};
+use gm_ast::surface::{Name, Prefix, ReductionWord, SpelledExpr, SpelledHead};
 use gm_ast::tree::{Expr, Key, Stage};
 use gm_base::Place;
 use gm_value::{VType, Value};
@@ -68,11 +69,29 @@ fn number(alloc: Global, place: Place, value: i64) -> Result<Part, AllocError>
     })
 }
 
-// The condition that always holds, where there is none.
-fn always(alloc: Global) -> Part
-    ensures { part_of result ≡ Kinds.part_of (Of Flag) always }
+// A Bool.
+fn flag(alloc: Global, value: bool) -> Part
+    ensures { part_of result ≡ Kinds.part_of (Kind.Of VType.Flag) (Program.Const (Value.Flag value)) }
 {
-    plain(alloc, Kind::Of(VType::Flag), Expr::Const(Value::Flag(true)))
+    plain(
+        alloc,
+        Kind::Of(VType::Flag),
+        Expr::Const(Value::Flag(value)),
+    )
+}
+
+// No node.
+fn nil(alloc: Global) -> Part
+    ensures { part_of result ≡ Kinds.part_of (Kind.Of VType.Node) (Program.Const (Value.At None)) }
+{
+    plain(alloc, Kind::Of(VType::Node), Expr::Const(Value::At(None)))
+}
+
+// A number that takes its type from what stands beside it.
+fn flexible(alloc: Global, value: i64) -> Part
+    ensures { part_of result ≡ Kinds.part_of Kind.Flexible (Program.Const (Value.I64 value)) }
+{
+    plain(alloc, Kind::Flexible, Expr::Const(Value::I64(value)))
 }
 
 impl<'a> Checker<'a> {
@@ -127,19 +146,69 @@ impl<'a> Checker<'a> {
         if self.depth == 0 { 2 } else { 0 }
     }
 
-    // The type of an expression that may be absent, in which case it is the condition that always holds.
+    // A name alone.
+    fn judge_name(&mut self, alloc: Global, name: &Name) -> Option<Part>
+        ensures { Judges self.old self.new (typed (Named (name_of name.now)) (env_of self.old)) (option_map part_of result) }
+    {
+        let group = self.group;
+        let found = self.used(name);
+        named(alloc, group, name.place, found, &mut self.least)
+    }
+
+    // A property of a node or an edge.
+    fn judge_member(&mut self, alloc: Global, owner: &Name, property: &Name) -> Option<Part>
+        ensures { Judges self.old self.new (typed (Member (name_of owner.now) (name_of property.now)) (env_of self.old)) (option_map part_of result) }
+    {
+        let group = self.group;
+        let node = self.used(owner);
+        let read = self.used(property);
+        member(alloc, group, owner.place, node, read, &mut self.least)
+    }
+
+    // A call without arguments.
+    fn judge_method(&mut self, alloc: Global, owner: &Name, asked: &Name) -> Option<Part>
+        ensures { Judges self.old self.new (typed (Method (name_of owner.now) (name_of asked.now)) (env_of self.old)) (option_map part_of result) }
+    {
+        let group = self.group;
+        let found = self.used(owner);
+        let query = query_of(&asked.text);
+        method(alloc, group, owner.place, query, found, &mut self.least)
+    }
+
+    // An operator before its operand.
     #[cycle(typing)]
-    fn optional(
+    fn judge_prefix(
         &mut self,
         alloc: Global,
+        place: Place,
+        op: Prefix,
+        inner: &'a SpelledExpr,
+    ) -> Result<Option<Part>, AllocError>
+        ensures { IfOk result (λ r. Judges self.old self.new (typed (Prefixed place op (SurfaceTree.expr_of inner.now)) (env_of self.old)) (option_map part_of r)) }
+    {
+        let operand = self.typed(alloc, inner)?;
+        let part = prefix(alloc, place, op, operand, &mut self.least)?;
+        Ok(part)
+    }
+
+    // The filter or the braces of a reduction, under their key; where they are absent, they are the condition that
+    // always holds.
+    #[cycle(typing)]
+    fn judge_optional(
+        &mut self,
+        alloc: Global,
+        key: Key,
         e: &'a Option<Box<SpelledExpr>>,
     ) -> Result<Option<Part>, AllocError>
-        ensures { IfOk result (λ r. Judges self.old self.new (typed (SurfaceTree.optional_of e.now) (env_of self.old)) (option_map part_of r)) }
+        ensures { IfOk result (λ r. Judges self.old self.new (keyed key (typed (SurfaceTree.optional_of e.now)) (env_of self.old)) (option_map part_of r)) }
     {
         match e {
-            None => Ok(Some(always(alloc))),
+            None => Ok(Some(flag(alloc, true))),
             Some(e) => {
+                let around = self.key;
+                self.key = key;
                 let part = self.typed(alloc, e)?;
+                self.key = around;
                 Ok(part)
             }
         }
@@ -150,57 +219,23 @@ impl<'a> Checker<'a> {
     pub fn typed(&mut self, alloc: Global, e: &'a SpelledExpr) -> Result<Option<Part>, AllocError>
         ensures { IfOk result (λ r. Judges self.old self.new (typed (SurfaceTree.expr_of e.now) (env_of self.old)) (option_map part_of r)) }
     {
-        let group = self.group;
         match e {
             SpelledExpr::Number { place, value } => {
                 let part = number(alloc, *place, *value)?;
                 Ok(Some(part))
             }
-            SpelledExpr::Truth { value, .. } => Ok(Some(plain(
-                alloc,
-                Kind::Of(VType::Flag),
-                Expr::Const(Value::Flag(*value)),
-            ))),
-            SpelledExpr::Nil { .. } => Ok(Some(plain(
-                alloc,
-                Kind::Of(VType::Node),
-                Expr::Const(Value::At(None)),
-            ))),
-            SpelledExpr::Greatest { .. } => Ok(Some(plain(
-                alloc,
-                Kind::Flexible,
-                Expr::Const(Value::I64(i64::MAX)),
-            ))),
-            SpelledExpr::Least { .. } => Ok(Some(plain(
-                alloc,
-                Kind::Flexible,
-                Expr::Const(Value::I64(i64::MIN)),
-            ))),
-            SpelledExpr::Named(name) => {
-                let found = self.used(name);
-                Ok(named(alloc, group, name.place, found, &mut self.least))
-            }
+            SpelledExpr::Truth { value, .. } => Ok(Some(flag(alloc, *value))),
+            SpelledExpr::Nil { .. } => Ok(Some(nil(alloc))),
+            SpelledExpr::Greatest { .. } => Ok(Some(flexible(alloc, i64::MAX))),
+            SpelledExpr::Least { .. } => Ok(Some(flexible(alloc, i64::MIN))),
+            SpelledExpr::Named(name) => Ok(self.judge_name(alloc, name)),
             SpelledExpr::Member { owner, property } => {
-                let node = self.used(owner);
-                let read = self.used(property);
-                Ok(member(alloc, group, owner.place, node, read, &mut self.least))
+                Ok(self.judge_member(alloc, owner, property))
             }
-            SpelledExpr::Method {
-                owner,
-                method: asked,
-            } => {
-                let found = self.used(owner);
-                let query = query_of(&asked.text);
-                Ok(method(alloc, group, owner.place, query, found, &mut self.least))
-            }
-            SpelledExpr::Paren { inner, .. } => {
-                let part = self.typed(alloc, inner)?;
-                Ok(part)
-            }
+            SpelledExpr::Method { owner, method } => Ok(self.judge_method(alloc, owner, method)),
+            SpelledExpr::Paren { inner, .. } => self.typed(alloc, inner),
             SpelledExpr::Prefix { place, op, inner } => {
-                let part = self.typed(alloc, inner)?;
-                let part = prefix(alloc, *place, *op, part, &mut self.least)?;
-                Ok(part)
+                self.judge_prefix(alloc, *place, *op, inner)
             }
             SpelledExpr::Infix {
                 place,
@@ -219,8 +254,8 @@ impl<'a> Checker<'a> {
                 yes,
                 no,
             } => {
-                let asked = self.typed(alloc, test)?;
-                let asked = condition(start_of(test), asked, &mut self.least);
+                let tested = self.typed(alloc, test)?;
+                let asked = condition(start_of(test), tested, &mut self.least);
                 let first = self.typed(alloc, yes)?;
                 let second = self.typed(alloc, no)?;
                 let part = choice(alloc, *place, asked, first, second, &mut self.least)?;
@@ -239,29 +274,21 @@ impl<'a> Checker<'a> {
                 };
                 let numbers = self.fold_numbers();
                 let owner = self.ranged(head);
+                self.take_numbers(numbers)?;
                 let known = self.scope.names.len();
                 let depth = self.depth;
-                let around = self.key;
-                self.take_numbers(numbers)?;
                 let iterator = self.enter(alloc, &head.iterator, 1)?;
-                self.key = reducer.filter;
-                let asked = self.optional(alloc, filter)?;
-                let asked = condition(start_of_optional(filter), asked, &mut self.least);
-                self.key = reducer.body;
-                let inner = self.optional(alloc, body)?;
-                self.key = around;
+                let tested = self.judge_optional(alloc, reducer.filter, filter)?;
+                let asked = condition(start_of_optional(filter), tested, &mut self.least);
+                let inner = self.judge_optional(alloc, reducer.body, body)?;
                 self.leave(known, depth);
-                let part = reduction(
-                    alloc,
-                    reducer,
-                    start_of_optional(body),
-                    head,
-                    owner,
+                let parts = Folding {
                     iterator,
-                    asked,
-                    inner,
-                    &mut self.least,
-                )?;
+                    filter: asked,
+                    body: inner,
+                };
+                let start = start_of_optional(body);
+                let part = reduction(alloc, reducer, start, head, owner, parts, &mut self.least)?;
                 Ok(part)
             }
         }

@@ -1,11 +1,13 @@
 //! Expressions that have types, and the rules on the operations over them.
 
-ghost use Rattle.std.specs.Prelude.{◌≡◌, [], ◌++◌, map, IfOk, OnOk, option_map, IsTrue, ◌↔◌};
+ghost use Rattle.std.specs.Prelude.{◌≡◌, [], ◌++◌, map, Some, IfOk, OnOk, option_map, IsTrue, ◌↔◌, if◌then◌else◌};
 ghost use Rattle.gm_base.specs.Rules.{lesser, least_from, broken_at};
 ghost use Rattle.gm_base.specs.declared.rules.Rule.TheVariants.{T10};
 ghost use Rattle.gm_ast.specs.Judged.{ok_of, errs_of, both_of, part_by, broken_by, refused_unless, then_answer};
-ghost use Rattle.gm_ast.specs.Kinds.{is_flag, as_int, int_of, taken, settled, default_of};
-ghost use Rattle.gm_ast.specs.Typing.{cast_part, prefix_part, large_of, paired, compared_as, operation, infix_part, choice_part};
+ghost use Rattle.gm_ast.specs.Kinds as Kinds;
+ghost use Rattle.gm_ast.specs.Kinds.{is_flag, as_int, int_of, taken, joint, settled, default_of};
+ghost use Rattle.gm_ast.specs.Typing.{cast_part, prefix_part, large_of, paired, compared_as, operation, operation_by, infix_part, choice_by, choice_part};
+ghost use Rattle.gm_ast.specs.declared.surface.Infix.TheVariants.{And, Or};
 ghost use Rattle.gm_ast.specs.Tree.{expr_of};
 ghost use Rattle.gm_ast.specs.Program as Program;
 ghost use Rattle.gm_ast.specs.declared.kinds.Kind.TheVariants as Kind;
@@ -328,6 +330,65 @@ fn operation(
     Ok(None)
 }
 
+// An operation on operands that may have a kind in common.
+fn operation_by(
+    alloc: Global,
+    place: Place,
+    op: Op2,
+    a: Part,
+    b: Part,
+    least: &mut Option<Refusal>,
+) -> Result<Option<Part>, AllocError>
+    ensures part { IfOk result (λ r. option_map part_of r ≡ ok_of (operation_by place op (joint a.kind b.kind) (part_of a) (part_of b))) }
+    ensures least { OnOk result (least.new ≡ least_from least.old (errs_of (operation_by place op (joint a.kind b.kind) (part_of a) (part_of b)))) }
+{
+    match joint(a.kind, b.kind) {
+        None => {
+            note(least, Rule::T8, place);
+            Ok(None)
+        }
+        Some(kind) => operation(alloc, place, op, kind, a, b, least),
+    }
+}
+
+// Both of two conditions, or either.
+fn connected(alloc: Global, is_both: bool, a: Expr, b: Expr) -> Result<Part, AllocError>
+    ensures { IfOk result (λ r. part_of r ≡ Kinds.part_of (Kind.Of Flag) (if is_both then Program.Both (expr_of a) (expr_of b) else Program.Either (expr_of a) (expr_of b))) }
+{
+    let left = Box::new(alloc, a)?;
+    let right = Box::new(alloc, b)?;
+    let core = if is_both {
+        Expr::Both(left, right)
+    } else {
+        Expr::Either(left, right)
+    };
+    Ok(Part {
+        kind: Kind::Of(VType::Flag),
+        core,
+        large: Vec::new(alloc),
+    })
+}
+
+// `&&` or `||` between its operands.
+fn connection(
+    alloc: Global,
+    place: Place,
+    is_both: bool,
+    a: Part,
+    b: Part,
+    least: &mut Option<Refusal>,
+) -> Result<Option<Part>, AllocError>
+    ensures part { IfOk result (λ r. option_map part_of r ≡ ok_of (infix_part place (if is_both then And else Or) (part_of a, part_of b))) }
+    ensures least { OnOk result (least.new ≡ least_from least.old (errs_of (infix_part place (if is_both then And else Or) (part_of a, part_of b)))) }
+{
+    if is_flag(a.kind) && is_flag(b.kind) {
+        let part = connected(alloc, is_both, a.core, b.core)?;
+        return Ok(Some(part));
+    }
+    note(least, Rule::T8, place);
+    Ok(None)
+}
+
 // An operator between its operands.
 fn infix_of(
     alloc: Global,
@@ -341,36 +402,43 @@ fn infix_of(
     ensures least { OnOk result (least.new ≡ least_from least.old (errs_of (infix_part place op (part_of a, part_of b)))) }
 {
     match op {
-        Infix::Op(op) => {
-            if let Some(kind) = joint(a.kind, b.kind) {
-                return operation(alloc, place, op, kind, a, b, least);
-            }
-        }
-        Infix::And => {
-            if is_flag(a.kind) && is_flag(b.kind) {
-                let left = Box::new(alloc, a.core)?;
-                let right = Box::new(alloc, b.core)?;
-                return Ok(Some(Part {
-                    kind: Kind::Of(VType::Flag),
-                    core: Expr::Both(left, right),
-                    large: Vec::new(alloc),
-                }));
-            }
-        }
-        Infix::Or => {
-            if is_flag(a.kind) && is_flag(b.kind) {
-                let left = Box::new(alloc, a.core)?;
-                let right = Box::new(alloc, b.core)?;
-                return Ok(Some(Part {
-                    kind: Kind::Of(VType::Flag),
-                    core: Expr::Either(left, right),
-                    large: Vec::new(alloc),
-                }));
-            }
+        Infix::Op(op) => operation_by(alloc, place, op, a, b, least),
+        Infix::And => connection(alloc, place, true, a, b, least),
+        Infix::Or => connection(alloc, place, false, a, b, least),
+    }
+}
+
+// A choice between two expressions.
+fn choose(alloc: Global, test: Expr, yes: Expr, no: Expr) -> Result<Expr, AllocError>
+    ensures { IfOk result (λ r. expr_of r ≡ Program.Choose (expr_of test) (expr_of yes) (expr_of no)) }
+{
+    let test = Box::new(alloc, test)?;
+    let yes = Box::new(alloc, yes)?;
+    let no = Box::new(alloc, no)?;
+    Ok(Expr::Choose(test, yes, no))
+}
+
+// A choice between two parts as parts of one kind.
+fn chosen(
+    alloc: Global,
+    place: Place,
+    kind: Kind,
+    test: Expr,
+    a: Part,
+    b: Part,
+    least: &mut Option<Refusal>,
+) -> Result<Option<Part>, AllocError>
+    ensures part { IfOk result (λ r. option_map part_of r ≡ ok_of (choice_by place (Some kind) (expr_of test) (part_of a) (part_of b))) }
+    ensures least { OnOk result (least.new ≡ least_from least.old (errs_of (paired place kind (part_of a) (part_of b)))) }
+{
+    let large = large_of(alloc, kind, &a, &b)?;
+    match paired(alloc, place, kind, a, b, least)? {
+        None => Ok(None),
+        Some((yes, no)) => {
+            let core = choose(alloc, test, yes, no)?;
+            Ok(Some(Part { kind, core, large }))
         }
     }
-    note(least, Rule::T8, place);
-    Ok(None)
 }
 
 // A choice between two parts.
@@ -390,22 +458,7 @@ fn choice_of(
             note(least, Rule::T8, place);
             Ok(None)
         }
-        Some(kind) => {
-            let large = large_of(alloc, kind, &a, &b)?;
-            match paired(alloc, place, kind, a, b, least)? {
-                None => Ok(None),
-                Some((yes, no)) => {
-                    let test = Box::new(alloc, test)?;
-                    let yes = Box::new(alloc, yes)?;
-                    let no = Box::new(alloc, no)?;
-                    Ok(Some(Part {
-                        kind,
-                        core: Expr::Choose(test, yes, no),
-                        large,
-                    }))
-                }
-            }
-        }
+        Some(kind) => chosen(alloc, place, kind, test, a, b, least),
     }
 }
 

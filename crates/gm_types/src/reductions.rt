@@ -6,6 +6,7 @@ ghost use Rattle.gm_ast.specs.Judged.{ok_of, errs_of, both_of, part_by, broken_b
 ghost use Rattle.gm_ast.specs.SurfaceTree as SurfaceTree;
 ghost use Rattle.gm_ast.specs.Tree.{expr_of};
 ghost use Rattle.gm_ast.specs.Typing.{domain_of, is_nodes, range_rule, head_with, fold_of, folded, of_numbers, of_conditions, reduction_part, reduction_rule};
+ghost use Rattle.gm_types.specs.Folding.{folding_of};
 ghost use Rattle.gm_types.specs.Parts.{part_of};
 
 use crate::kinds::{is_flag, is_number_type};
@@ -213,6 +214,14 @@ fn reduction_of(
     }
 }
 
+// The iterator of a reduction, its filter and its braces, of which these may have no types.
+#[derive(Drop)]
+pub struct Folding {
+    pub iterator: u32,
+    pub filter: Option<Expr>,
+    pub body: Option<Part>,
+}
+
 // A reduction whose parts may have no types.
 pub fn reduction(
     alloc: Global,
@@ -220,18 +229,16 @@ pub fn reduction(
     start: Place,
     head: &SpelledHead,
     owner: Option<Binding>,
-    iterator: u32,
-    filter: Option<Expr>,
-    body: Option<Part>,
+    parts: Folding,
     least: &mut Option<Refusal>,
 ) -> Result<Option<Part>, AllocError>
-    ensures part { IfOk result (λ r. option_map part_of r ≡ part_by (both_of owner (both_of (Some iterator) (both_of (option_map expr_of filter) (option_map part_of body)))) (reduction_rule reducer start (SurfaceTree.head_of head.now))) }
-    ensures least { OnOk result (least.new ≡ least_from least.old (broken_by (both_of owner (both_of (Some iterator) (both_of (option_map expr_of filter) (option_map part_of body)))) (reduction_rule reducer start (SurfaceTree.head_of head.now)))) }
+    ensures part { IfOk result (λ r. option_map part_of r ≡ part_by (both_of owner (folding_of parts)) (reduction_rule reducer start (SurfaceTree.head_of head.now))) }
+    ensures least { OnOk result (least.new ≡ least_from least.old (broken_by (both_of owner (folding_of parts)) (reduction_rule reducer start (SurfaceTree.head_of head.now)))) }
 {
-    match owner.zip(filter.zip(body)) {
+    match owner.zip(parts.filter.zip(parts.body)) {
         None => Ok(None),
         Some((owner, (filter, body))) => {
-            let head = head_with(head, owner, iterator);
+            let head = head_with(head, owner, parts.iterator);
             reduction_of(alloc, reducer, start, head, filter, body, least)
         }
     }

@@ -2,22 +2,23 @@
 
 ghost use Rattle.std.specs.Prelude.{◌≡◌, ◌+◌, Some, Ok, length, take, IfOk, OnOk, map, option_map};
 ghost use Rattle.gm_ast.specs.Judged.{both_of, part_by, broken_by};
-ghost use Rattle.gm_ast.specs.Names.{operators_of, known_as, numbered};
-ghost use Rattle.gm_ast.specs.Surface.{sequence};
+ghost use Rattle.gm_ast.specs.Names.{operators_of, known_as, both, numbered};
+ghost use Rattle.gm_ast.specs.Surface.{sequence, Loop, InBfs};
 ghost use Rattle.gm_ast.specs.Program as Program;
 ghost use Rattle.gm_ast.specs.Typing.{typed};
-ghost use Rattle.gm_ast.specs.Statements.{assignment, assigned, grouped, group_target, in_group, deferred, names_graph, test, checked, rooted, graph_searched};
+ghost use Rattle.gm_ast.specs.Statements.{assignment, assigned, grouped, group_target, in_group, deferred, names_graph, test, searched, checked, rooted, graph_searched};
 ghost use Rattle.gm_ast.specs.SurfaceTree as SurfaceTree;
 ghost use Rattle.gm_ast.specs.SurfaceTree.{name_of, target_of};
 ghost use Rattle.gm_ast.specs.Tree.{expr_of, stmt_of};
+ghost use Rattle.gm_types.specs.Boxes.{boxed_of, half_of, back_of};
 ghost use Rattle.gm_types.specs.Parts.{part_of};
 ghost use Rattle.gm_types.specs.Groups.{group_of};
 ghost use Rattle.gm_types.specs.Views.{env_of, Judges, Follows};
 ghost use Rattle.gm_types.specs.Shapes.{branch_in, deferred_at, reduced_at, increment_at, return_at};
 
 use crate::assembled::{
-    Half, bfs_both_with, bfs_with, block_of, do_with, enclosed, if_with, loop_with, loops_of,
-    while_with,
+    Back, Half, back_with, bfs_both_with, bfs_with, block_of, boxed, do_with, enclosed, half_with,
+    if_with, loop_with, loops_of, skip, while_with,
 };
 use crate::assignments::{GroupGoal, assign, defer, give_back, group, group_goal, increment};
 use crate::expressions::start_of;
@@ -27,7 +28,7 @@ use crate::names::Checker;
 use crate::notes::note;
 use crate::parts::{Part, condition};
 use gm_ast::kinds::Binding;
-use gm_ast::surface::{Name, SpelledExpr, SpelledStmt, SpelledTarget};
+use gm_ast::surface::{LoopWord, Name, SpelledExpr, SpelledHead, SpelledStmt, SpelledTarget};
 use gm_ast::tree::{Expr, Key, Sort, Stage, Stmt};
 use gm_base::{Place, Rule};
 use gm_value::{Reduce, Value};
@@ -329,27 +330,115 @@ impl<'a> Checker<'a> {
         Ok(block_of(held))
     }
 
+    // A statement that is a scope of its own, in a box.
+    #[cycle(stating)]
+    fn scoped(&mut self, alloc: Global, s: &'a SpelledStmt) -> Result<Option<Box<Stmt>>, AllocError>
+        ensures { IfOk result (λ r. Judges self.old self.new (numbered (checked (SurfaceTree.stmt_of s.now)) (env_of self.old)) (option_map boxed_of r)) }
+    {
+        let around = self.begin()?;
+        let part = self.checked(alloc, s)?;
+        self.end(around);
+        let held = boxed(alloc, part)?;
+        Ok(held)
+    }
+
     // A branch, which may be absent.
     #[cycle(stating)]
     fn otherwise(
         &mut self,
         alloc: Global,
         branch: &'a Option<Box<SpelledStmt>>,
-    ) -> Result<Option<Stmt>, AllocError>
-        ensures { IfOk result (λ r. Judges self.old self.new (numbered (checked (branch_in branch.now)) (env_of self.old)) (option_map stmt_of r)) }
+    ) -> Result<Option<Box<Stmt>>, AllocError>
+        ensures { IfOk result (λ r. Judges self.old self.new (numbered (checked (branch_in branch.now)) (env_of self.old)) (option_map boxed_of r)) }
     {
         match branch {
             None => {
                 self.take_numbers(1)?;
-                Ok(Some(Stmt::Block(Vec::new(alloc))))
+                let absent = skip(alloc)?;
+                Ok(Some(absent))
             }
-            Some(branch) => {
-                let around = self.begin()?;
-                let part = self.checked(alloc, branch)?;
-                self.end(around);
-                Ok(part)
-            }
+            Some(branch) => self.scoped(alloc, branch),
         }
+    }
+
+    // A filter and the body under it.
+    #[cycle(stating)]
+    fn judge_half(
+        &mut self,
+        alloc: Global,
+        body: &'a SpelledStmt,
+        filter: &'a Option<SpelledExpr>,
+    ) -> Result<Option<Half>, AllocError>
+        ensures { IfOk result (λ r. Judges self.old self.new (both (test (SurfaceTree.test_of filter.now)) (numbered (checked (SurfaceTree.stmt_of body.now))) (env_of self.old)) (option_map half_of r)) }
+    {
+        let asked = self.filter(alloc, filter)?;
+        let inner = self.scoped(alloc, body)?;
+        Ok(half_with(asked, inner))
+    }
+
+    // The part of a search after InReverse.
+    #[cycle(stating)]
+    fn judge_back(
+        &mut self,
+        alloc: Global,
+        body: &'a SpelledStmt,
+        filter: &'a Option<SpelledExpr>,
+    ) -> Result<Option<Back>, AllocError>
+        ensures { IfOk result (λ r. Judges self.old self.new (numbered (searched (test (SurfaceTree.test_of filter.now)) (numbered (checked (SurfaceTree.stmt_of body.now)))) (env_of self.old)) (option_map back_of r)) }
+    {
+        let around = self.begin()?;
+        let key = self.key;
+        let half = self.judge_half(alloc, body, filter)?;
+        self.key = around.key;
+        Ok(back_with(key, half))
+    }
+
+    // A loop over nodes or neighbours.
+    #[cycle(stating)]
+    fn judge_loop(
+        &mut self,
+        alloc: Global,
+        place: Place,
+        word: LoopWord,
+        head: &'a SpelledHead,
+        body: &'a SpelledStmt,
+        filter: &'a Option<SpelledExpr>,
+    ) -> Result<Option<Stmt>, AllocError>
+        ensures { IfOk result (λ r. Judges self.old self.new (checked (Loop place word (SurfaceTree.head_of head.now) (SurfaceTree.test_of filter.now) (SurfaceTree.stmt_of body.now)) (env_of self.old)) (option_map stmt_of r)) }
+    {
+        let key = self.key;
+        let owner = self.ranged(head);
+        let known = self.scope.names.len();
+        let depth = self.depth;
+        let iterator = self.enter(alloc, &head.iterator, loops_of(word))?;
+        let half = self.judge_half(alloc, body, filter)?;
+        self.leave(known, depth);
+        Ok(loop_with(word, key, place, head, owner, iterator, half))
+    }
+
+    // A search without a part after InReverse.
+    #[cycle(stating)]
+    fn judge_search(
+        &mut self,
+        alloc: Global,
+        place: Place,
+        iterator: &'a Name,
+        graph: &Name,
+        root: &Name,
+        body: &'a SpelledStmt,
+        filter: &'a Option<SpelledExpr>,
+    ) -> Result<Option<Stmt>, AllocError>
+        ensures { IfOk result (λ r. Judges self.old self.new (checked (InBfs place (name_of iterator.now) (name_of graph.now) (name_of root.now) (SurfaceTree.test_of filter.now) (SurfaceTree.stmt_of body.now)) (env_of self.old)) (option_map stmt_of r)) }
+    {
+        let key = self.key;
+        let around = self.graph_searched(graph);
+        let start = self.rooted(root);
+        let known = self.scope.names.len();
+        let depth = self.depth;
+        let visited = self.enter(alloc, iterator, 1)?;
+        let half = self.judge_half(alloc, body, filter)?;
+        self.leave(known, depth);
+        Ok(bfs_with(key, place, root, around, start, visited, half))
     }
 
     // A statement among the names that are known.
@@ -359,54 +448,33 @@ impl<'a> Checker<'a> {
     {
         let key = self.key;
         match s {
-            SpelledStmt::Block(stmts) => {
-                let stmt = self.block(alloc, stmts)?;
-                Ok(stmt)
-            }
-            SpelledStmt::Declare { vtype, names } => {
-                let stmt = self.declare_plainly(alloc, vtype, names)?;
-                Ok(stmt)
-            }
+            SpelledStmt::Block(stmts) => self.block(alloc, stmts),
+            SpelledStmt::Declare { vtype, names } => self.declare_plainly(alloc, vtype, names),
             SpelledStmt::DeclareAs {
                 vtype,
                 name,
                 equals,
                 value,
-            } => {
-                let stmt = self.declare_with(alloc, vtype, name, *equals, value)?;
-                Ok(stmt)
-            }
+            } => self.declare_with(alloc, vtype, name, *equals, value),
             SpelledStmt::Assign {
                 target,
                 equals,
                 value,
-            } => {
-                let stmt = self.assignment(alloc, target, *equals, value)?;
-                Ok(stmt)
-            }
+            } => self.assignment(alloc, target, *equals, value),
             SpelledStmt::Defer {
                 target,
                 arrow,
                 value,
                 iterator,
-            } => {
-                let stmt = self.deferred_at(alloc, target, *arrow, value, iterator)?;
-                Ok(stmt)
-            }
+            } => self.deferred_at(alloc, target, *arrow, value, iterator),
             SpelledStmt::Reduce {
                 targets,
                 reduce,
                 place,
                 values,
                 iterator,
-            } => {
-                let stmt = self.reduced_at(alloc, targets, *reduce, *place, values, iterator)?;
-                Ok(stmt)
-            }
-            SpelledStmt::Increment { target, place } => {
-                let stmt = self.incremented(alloc, target, *place)?;
-                Ok(stmt)
-            }
+            } => self.reduced_at(alloc, targets, *reduce, *place, values, iterator),
+            SpelledStmt::Increment { target, place } => self.incremented(alloc, target, *place),
             SpelledStmt::Call { procedure, .. } => {
                 note(&mut self.least, Rule::T15, procedure.place);
                 Ok(None)
@@ -417,45 +485,22 @@ impl<'a> Checker<'a> {
                 head,
                 filter,
                 body,
-            } => {
-                let owner = self.ranged(head);
-                let known = self.scope.names.len();
-                let depth = self.depth;
-                let iterator = self.enter(alloc, &head.iterator, loops_of(*word))?;
-                let test = self.filter(alloc, filter)?;
-                let around = self.begin()?;
-                let inner = self.checked(alloc, body)?;
-                self.end(around);
-                self.leave(known, depth);
-                let stmt = loop_with(
-                    alloc, *word, key, *place, head, owner, iterator, test, inner,
-                )?;
-                Ok(stmt)
-            }
+            } => self.judge_loop(alloc, *place, *word, head, body, filter),
             SpelledStmt::If { test, yes, no, .. } => {
                 let asked = self.test(alloc, test)?;
-                let around = self.begin()?;
-                let first = self.checked(alloc, yes)?;
-                self.end(around);
+                let first = self.scoped(alloc, yes)?;
                 let second = self.otherwise(alloc, no)?;
-                let stmt = if_with(alloc, key, asked, first, second)?;
-                Ok(stmt)
+                Ok(if_with(key, asked, first, second))
             }
             SpelledStmt::While { place, test, body } => {
                 let asked = self.test(alloc, test)?;
-                let around = self.begin()?;
-                let inner = self.checked(alloc, body)?;
-                self.end(around);
-                let stmt = while_with(alloc, key, *place, asked, inner)?;
-                Ok(stmt)
+                let inner = self.scoped(alloc, body)?;
+                Ok(while_with(key, *place, asked, inner))
             }
             SpelledStmt::Do { place, body, test } => {
-                let around = self.begin()?;
-                let inner = self.checked(alloc, body)?;
-                self.end(around);
+                let inner = self.scoped(alloc, body)?;
                 let asked = self.test(alloc, test)?;
-                let stmt = do_with(alloc, key, *place, inner, asked)?;
-                Ok(stmt)
+                Ok(do_with(key, *place, inner, asked))
             }
             SpelledStmt::InBfs {
                 place,
@@ -464,22 +509,7 @@ impl<'a> Checker<'a> {
                 root,
                 filter,
                 body,
-            } => {
-                let searched = self.graph_searched(graph);
-                let start = self.rooted(root);
-                let known = self.scope.names.len();
-                let depth = self.depth;
-                let visited = self.enter(alloc, iterator, 1)?;
-                let test = self.filter(alloc, filter)?;
-                let around = self.begin()?;
-                let inner = self.checked(alloc, body)?;
-                self.end(around);
-                self.leave(known, depth);
-                let stmt = bfs_with(
-                    alloc, key, *place, root, searched, start, visited, test, inner,
-                )?;
-                Ok(stmt)
-            }
+            } => self.judge_search(alloc, *place, iterator, graph, root, body, filter),
             SpelledStmt::InBfsBoth {
                 place,
                 iterator,
@@ -491,47 +521,17 @@ impl<'a> Checker<'a> {
                 back,
                 ..
             } => {
-                let searched = self.graph_searched(graph);
+                let around = self.graph_searched(graph);
                 let start = self.rooted(root);
                 let known = self.scope.names.len();
                 let depth = self.depth;
                 let visited = self.enter(alloc, iterator, 1)?;
-                let test = self.filter(alloc, filter)?;
-                let around = self.begin()?;
-                let inner = self.checked(alloc, body)?;
-                self.end(around);
-                let turned = self.begin()?;
-                let back_key = self.key;
-                let back_test = self.filter(alloc, back_filter)?;
-                let around = self.begin()?;
-                let outer = self.checked(alloc, back)?;
-                self.end(around);
-                self.key = turned.key;
+                let front = self.judge_half(alloc, body, filter)?;
+                let behind = self.judge_back(alloc, back, back_filter)?;
                 self.leave(known, depth);
-                let stmt = bfs_both_with(
-                    alloc,
-                    key,
-                    *place,
-                    root,
-                    searched,
-                    start,
-                    visited,
-                    Half {
-                        filter: test,
-                        body: inner,
-                    },
-                    back_key,
-                    Half {
-                        filter: back_test,
-                        body: outer,
-                    },
-                )?;
-                Ok(stmt)
+                Ok(bfs_both_with(key, *place, root, around, start, visited, front, behind))
             }
-            SpelledStmt::Return { place, value } => {
-                let stmt = self.returned(alloc, *place, value)?;
-                Ok(stmt)
-            }
+            SpelledStmt::Return { place, value } => self.returned(alloc, *place, value),
         }
     }
 }
