@@ -5,6 +5,9 @@ use Rattle.gm_image.specs.Program.{Program}
 use Rattle.gm_image_text.specs.declared.heads.Version.{Version}
 use Rattle.gm_image_text.specs.Lines.{Line, lines_of}
 use Rattle.gm_image_text.specs.Sections.{◌>>=◌, Opening, opening_at, Middle, middle_at, Closing, closing_at, program_of, image_of, all_read, whole_at}
+use Rattle.gm_image_text.specs.declared.faults.TextStop.{TextStop}
+use Rattle.gm_image_text.specs.declared.faults.TextStop.TheVariants as of_text
+use Rattle.gm_image_text.specs.Giving.{RefusesText}
 use Rattle.gm_image_text.proofs.Cutting.{some_line}
 
 abbrev Answer : Type 0 → Type 0
@@ -43,3 +46,16 @@ surplus p (l ∷ ls) h = refl
 pub left_over : (ls l1 l2 : List Line) (rest : List ℕ) (o : Opening) (m : Middle) (k : Closing) → opening_at ls ≡ Ok (o, l1) → middle_at l1 ≡ Ok (m, l2) → closing_at o.0 l2 ≡ Ok (k, lines_of rest) → 0 < length rest → whole_at ls ≡ Err (lines_of rest)
 left_over ls l1 l2 [] o m k e f g h = absurd (omega (arith, h))
 left_over ls l1 l2 (b ∷ bs) o m k e f g h = whole_is ls l1 l2 (lines_of (b ∷ bs)) o m k e f g ∙ surplus (program_of (o, (m, k))) (lines_of (b ∷ bs)) (some_line b bs)
+
+-- one of the three parts is refused
+pub opening_refused : (ls : List Line) (stop : TextStop) → RefusesText stop (opening_at ls) → RefusesText stop (whole_at ls)
+opening_refused ls (of_text.Bad at) h = ap behind_opening h
+opening_refused ls of_text.NoMemory h = tt
+
+pub middle_refused : (ls l1 : List Line) (o : Opening) (stop : TextStop) → opening_at ls ≡ Ok (o, l1) → RefusesText stop (middle_at l1) → RefusesText stop (whole_at ls)
+middle_refused ls l1 o (of_text.Bad at) e h = ap behind_opening e ∙ ap (behind_middle o) h
+middle_refused ls l1 o of_text.NoMemory e h = tt
+
+pub closing_refused : (ls l1 l2 : List Line) (o : Opening) (m : Middle) (stop : TextStop) → opening_at ls ≡ Ok (o, l1) → middle_at l1 ≡ Ok (m, l2) → RefusesText stop (closing_at o.0 l2) → RefusesText stop (whole_at ls)
+closing_refused ls l1 l2 o m (of_text.Bad at) e f h = ap behind_opening e ∙ ap (behind_middle o) f ∙ ap (behind_closing o m) h
+closing_refused ls l1 l2 o m of_text.NoMemory e f h = tt

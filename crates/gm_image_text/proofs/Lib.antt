@@ -20,6 +20,7 @@ pub mod Filling
 pub mod Shorter
 pub mod LookUps
 pub mod Ends
+pub mod Sequences
 pub mod ShapeWords
 pub mod Writing
 pub mod Versions

@@ -79,6 +79,7 @@ term_shrinks (suc n) ws x e =
 
 -- an expression takes a word
 pub expression_shorter : (ws : List Word) (x : Term × List Word) → expression_at ws ≡ Some x → length x.1 < length ws
+unfolding expression_at
 expression_shorter ws x e = shorter 1023 ws x e where
   shorter : (n : ℕ) (ws : List Word) (x : Term × List Word) → term_at (suc n) ws ≡ Some x → length x.1 < length ws
   shorter n ws x e =

@@ -489,6 +489,7 @@ term_law (suc n) =
 
 -- an expression of a line
 pub expression_field : FieldLaw TermFits term_words expression_at
+unfolding expression_at
 expression_field =
     let it : FieldLaw (Within 1024) term_words (λ ws. term_at 1024 ws) = term_law 1024 in
     record {

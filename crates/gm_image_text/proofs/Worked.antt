@@ -10,7 +10,7 @@ use Rattle.gm_image_text.specs.declared.heads.Version.TheVariants as version
 use Rattle.gm_image_text.specs.Spelling.{text_in, image_text}
 use Rattle.gm_image_text.specs.Tables.{heads, reductions, vertex_heads}
 use Rattle.gm_image_text.specs.Lines.{words_of}
-use Rattle.gm_image_text.specs.Reading.{vertex_row}
+use Rattle.gm_image_text.specs.Reading.{vertex_row, expression_at}
 
 spin_is_spelled : image_text spin ≡ codes "gm-image 2\nname spin\ninputs 0\noutputs 0\nresult I 0\nglobals 1\nI\nfields 0\nregisters 0\ncolumns 0\nkinds 0\nplaces 1\n3 21\nblocks 0\nmaster 4\nloop 3 < g 0 c I 6\nset 0 + 0 g 0 c I 1\nback 0\nend\n"
 unfolding digits
@@ -64,7 +64,7 @@ nearest_is_spelled = refl
 
 -- a line of several slots is read in version 2, where its count is theirs and its reduction takes the least or the greatest
 pick_in_two : vertex_row version.Two (words_of (codes "pick min 0 2 0 m 0 1 m 1")) ≡ Some (Fold reduce.Min 0 least_and_node)
-unfolding vertex_heads heads reductions
+unfolding vertex_heads heads reductions expression_at
 pick_in_two = refl
 
 pick_in_one : vertex_row version.One (words_of (codes "pick min 0 2 0 m 0 1 m 1")) ≡ None
@@ -76,17 +76,17 @@ unfolding vertex_heads
 pickput_in_one = refl
 
 pick_of_a_sum : vertex_row version.Two (words_of (codes "pick sum 0 2 0 m 0 1 m 1")) ≡ None
-unfolding vertex_heads heads reductions
+unfolding vertex_heads heads reductions expression_at
 pick_of_a_sum = refl
 
 pick_of_one_slot : vertex_row version.Two (words_of (codes "pick min 0 1 0 m 0")) ≡ None
-unfolding vertex_heads heads reductions
+unfolding vertex_heads heads reductions expression_at
 pick_of_one_slot = refl
 
 pick_of_too_few : vertex_row version.Two (words_of (codes "pick min 0 3 0 m 0 1 m 1")) ≡ None
-unfolding vertex_heads heads reductions
+unfolding vertex_heads heads reductions expression_at
 pick_of_too_few = refl
 
 fold_of_two_slots : vertex_row version.Two (words_of (codes "fold min 0 0 m 0 1 m 1")) ≡ None
-unfolding vertex_heads heads reductions
+unfolding vertex_heads heads reductions expression_at
 fold_of_two_slots = refl

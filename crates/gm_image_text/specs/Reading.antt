@@ -177,7 +177,7 @@ term_at zero ws = None
 term_at (suc n) ws = word_at (row_in heads) ws >>= λ h. behind_head (λ vs. term_at n vs) h.0 h.1
 
 -- an expression of a line
-abbrev pub expression_at : Reads Term
+unfoldable pub expression_at : Reads Term
 expression_at ws = term_at 1024 ws
 
 -- things to the end of the line, at most so many

@@ -1,6 +1,6 @@
 //! Reading expressions.
 
-ghost use Rattle.std.specs.Prelude.{◌≡◌, Some, None, map};
+ghost use Rattle.std.specs.Prelude.{◌≡◌, Some, None, map, IfOk};
 ghost use Rattle.gm_image.specs.Views.{term};
 ghost use Rattle.gm_image_text.specs.Tables.{heads, types, row_in};
 ghost use Rattle.gm_image_text.specs.Numbers.{index_in};
@@ -14,7 +14,7 @@ use crate::tables::known;
 use crate::words::{Words, ended, next_word};
 use gm_image::Expr;
 use gm_value::{VType, Value};
-use std::alloc::Global;
+use std::alloc::{AllocError, Global};
 
 // The most levels of an expression.
 const MOST_LEVELS: u32 = 1024;
@@ -112,12 +112,19 @@ fn placed_one_expr(alloc: Global, op: PlacedOne, place: u32, part: Expr) -> Resu
     })
 }
 
-fn two_expr(alloc: Global, op: Two, first: Expr, second: Expr) -> Result<Expr, LineStop>
-    ensures { GivesLine (λ e. term e) result (Some (two_term_lem op (term first) (term second))) }
+// Two parts on the heap.
+fn two_boxes(alloc: Global, first: Expr, second: Expr) -> Result<(Box<Expr>, Box<Expr>), AllocError>
+    ensures { IfOk result (λ x. (x.0.value ≡ first) × (x.1.value ≡ second)) }
 {
     let a = Box::new(alloc, first)?;
     let b = Box::new(alloc, second)?;
-    Ok(match op {
+    Ok((a, b))
+}
+
+fn two_of(op: Two, a: Box<Expr>, b: Box<Expr>) -> Expr
+    ensures { term result ≡ two_term_lem op (term a.value) (term b.value) }
+{
+    match op {
         Two::Eq => Expr::Eq(a, b),
         Two::Ne => Expr::Ne(a, b),
         Two::Lt => Expr::Lt(a, b),
@@ -126,7 +133,26 @@ fn two_expr(alloc: Global, op: Two, first: Expr, second: Expr) -> Result<Expr, L
         Two::Ge => Expr::Ge(a, b),
         Two::And => Expr::And(a, b),
         Two::Or => Expr::Or(a, b),
-    })
+    }
+}
+
+fn two_expr(alloc: Global, op: Two, first: Expr, second: Expr) -> Result<Expr, LineStop>
+    ensures { GivesLine (λ e. term e) result (Some (two_term_lem op (term first) (term second))) }
+{
+    let (a, b) = two_boxes(alloc, first, second)?;
+    Ok(two_of(op, a, b))
+}
+
+fn placed_two_of(op: PlacedTwo, place: u32, a: Box<Expr>, b: Box<Expr>) -> Expr
+    ensures { term result ≡ placed_two_term_lem op place (term a.value) (term b.value) }
+{
+    match op {
+        PlacedTwo::Add => Expr::Add(place, a, b),
+        PlacedTwo::Sub => Expr::Sub(place, a, b),
+        PlacedTwo::Mul => Expr::Mul(place, a, b),
+        PlacedTwo::Div => Expr::Div(place, a, b),
+        PlacedTwo::Rem => Expr::Rem(place, a, b),
+    }
 }
 
 fn placed_two_expr(
@@ -138,23 +164,15 @@ fn placed_two_expr(
 ) -> Result<Expr, LineStop>
     ensures { GivesLine (λ e. term e) result (Some (placed_two_term_lem op place (term first) (term second))) }
 {
-    let a = Box::new(alloc, first)?;
-    let b = Box::new(alloc, second)?;
-    Ok(match op {
-        PlacedTwo::Add => Expr::Add(place, a, b),
-        PlacedTwo::Sub => Expr::Sub(place, a, b),
-        PlacedTwo::Mul => Expr::Mul(place, a, b),
-        PlacedTwo::Div => Expr::Div(place, a, b),
-        PlacedTwo::Rem => Expr::Rem(place, a, b),
-    })
+    let (a, b) = two_boxes(alloc, first, second)?;
+    Ok(placed_two_of(op, place, a, b))
 }
 
 fn choice_expr(alloc: Global, condition: Expr, first: Expr, second: Expr) -> Result<Expr, LineStop>
     ensures { GivesLine (λ e. term e) result (Some (choice_term (term condition) (term first) (term second))) }
 {
     let c = Box::new(alloc, condition)?;
-    let a = Box::new(alloc, first)?;
-    let b = Box::new(alloc, second)?;
+    let (a, b) = two_boxes(alloc, first, second)?;
     Ok(Expr::Choose(c, a, b))
 }
 

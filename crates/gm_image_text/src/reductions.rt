@@ -115,12 +115,20 @@ fn several(alloc: Global, words: Words) -> Result<Items<(u32, Expr)>, LineStop>
     counted(count, slots)
 }
 
+// The least or the greatest.
+fn extreme_word<'a>(words: Words<'a>) -> Result<(Reduce, Words<'a>), LineStop>
+    ensures { GivesLine (λ x. (x.0, words_left x.1)) result (word_at extreme_in (words_left words.entry)) }
+{
+    let (word, rest) = next_word(words)?;
+    let reduce = extreme(word)?;
+    Ok((reduce, rest))
+}
+
 // The least or the greatest, a place, and several slots with their values, which are all words.
 fn extreme_of(alloc: Global, words: Words) -> Result<(Reduce, u32, Items<(u32, Expr)>), LineStop>
     ensures { GivesLine (λ x. (x.0, (x.1, map target x.2))) result (picked_in Version.Two (words_left words.entry)) }
 {
-    let (word, rest) = next_word(words)?;
-    let reduce = extreme(word)?;
+    let (reduce, rest) = extreme_word(words)?;
     let (place, rest) = index(rest)?;
     let slots = several(alloc, rest)?;
     Ok((reduce, place, slots))
