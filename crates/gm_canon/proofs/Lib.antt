@@ -2,4 +2,4 @@ mod Items
 mod Leasts
 mod Parts
 mod Trees
-mod Verdicts
+mod Phases
