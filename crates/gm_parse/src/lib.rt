@@ -2,6 +2,7 @@
 #![tactic(auto)]
 
 mod around;
+mod assignments;
 mod choices;
 mod expressions;
 mod faults;
