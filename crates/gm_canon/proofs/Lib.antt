@@ -3,3 +3,4 @@ mod Leasts
 mod Parts
 mod Trees
 mod Phases
+mod Ones

@@ -1,6 +1,7 @@
 //! The verdict on a whole text: its phases, in their order.
 
-ghost use Rattle.std.specs.Prelude.{IfOk, IfErr};
+ghost use Rattle.std.specs.Prelude.{◌≡◌, IfOk, IfErr};
+ghost use Rattle.gm_ast.specs.Program.{Program};
 ghost use Rattle.gm_ast.specs.SurfaceTree.{procedure_of};
 ghost use Rattle.gm_ast.specs.Tree.{program_of};
 ghost use Rattle.gm_canon.specs.Verdict.{IsVerdictOf, IsVerdictOnTree, StandsFor, TreeStandsFor};
@@ -9,7 +10,7 @@ use crate::programs::canonical;
 use gm_ast::forms::Checked;
 use gm_ast::surface::SpelledProcedure;
 use gm_base::Stop;
-use gm_parse::parse;
+use gm_parse::{parse, texts_have_one_tree};
 use gm_race::races;
 use gm_token::scan;
 use gm_types::typed;
@@ -38,8 +39,13 @@ pub fn verdict_tree(alloc: Global, procedure: SpelledProcedure) -> Result<Checke
 /// procedure breaks a rule of types, of races or of canonical form. `NoMemory` may come of any text.
 pub fn verdict(alloc: Global, text: &[u8]) -> Result<Checked, Stop>
     ensures accepted { IfOk result (λ checked. StandsFor text.now (program_of checked)) }
+
+    // The text stands for no other program: it has one list of tokens, and these one tree.
+    ensures only { IfOk result (λ checked. (other : Program) → StandsFor text.now other → other ≡ program_of checked) }
+
     ensures refused { IfErr result (IsVerdictOf text.now) }
 {
+    texts_have_one_tree();
     let tokens = scan(alloc, text)?;
     let procedure = parse(alloc, &tokens)?;
     let checked = verdict_tree(alloc, procedure)?;

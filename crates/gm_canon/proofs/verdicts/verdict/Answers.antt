@@ -1,5 +1,7 @@
 use Rattle.gm_ast.specs.SurfaceTree.{procedure_of}
 use Rattle.gm_canon.specs.Verdict.{Spells, IsVerdictOf}
+use Rattle.gm_ast.specs.Tree.{program_of}
+use Rattle.gm_canon.proofs.Ones.{same-listing, one-program}
 use Rattle.gm_canon.proofs.Phases.{passed-on, stop-by_tokens, stop-by_grammar, stop-by_tree}
 use Rattle.gm_canon.proofs.verdicts.verdict.Goals as goal
 
@@ -37,3 +39,9 @@ returns-clause-accepted c =
       spelled = spelled;
       stands = c.in_ok-checked.ensures.accepted;
     }
+
+pub returns-clause-only : goal.returns-clause-only
+returns-clause-only c =
+    λ other stands. one-program c.args.text.now c.in_ok-tokens.tokens (procedure_of c.in_ok-procedure.procedure) (program_of c.in_ok-checked.checked) other
+    (λ it scanned. same-listing c.in_ok-tokens.tokens it (c.in_ok-tokens.ensures.accepted it scanned))
+    c.texts_have_one_tree.ensures c.in_ok-procedure.ensures.tree c.in_ok-checked.ensures.accepted.typed stands
