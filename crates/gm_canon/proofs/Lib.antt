@@ -2,4 +2,5 @@ mod Items
 mod Leasts
 mod Parts
 mod Trees
-mod Verdicts
+mod Phases
+mod Ones

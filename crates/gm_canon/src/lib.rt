@@ -5,9 +5,9 @@ mod expressions;
 mod loops;
 mod programs;
 mod statements;
-mod texts;
+mod verdicts;
 mod walks;
 mod ways;
 
 pub use programs::canonical;
-pub use texts::verdict;
+pub use verdicts::{verdict, verdict_tree};

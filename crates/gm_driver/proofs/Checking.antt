@@ -6,7 +6,7 @@ use Rattle.gm_base.specs.declared.statuses.Status.{Status}
 use Rattle.gm_ast.specs.Program.{Program}
 use Rattle.gm_token.specs.declared.limits.TheConstants.{MAX_TEXT}
 use Rattle.gm_token.specs.Scanning.{IsRefusalOf}
-use Rattle.gm_canon.specs.Verdict.{Breaks, by_tokens, by_grammar, by_types, by_races, by_form, StandsFor}
+use Rattle.gm_canon.specs.Verdict.{Breaks, by_tokens, by_grammar, by_tree, StandsFor}
 use Rattle.gm_driver.specs.Fronts.{most_program}
 use Rattle.gm_words.specs.declared.jobs.Options.{Options}
 use Rattle.gm_input.proofs.Answering.{text_answer_front}
@@ -41,19 +41,13 @@ whole_breaks n whole r is (by_tokens bad) = by_tokens (whole_refusal n whole r i
 whole_breaks n whole r is (by_grammar it scanned refused_so) =
     let front : Breaks (take n whole) r = by_grammar it scanned refused_so in
     rw (scanned_front n whole is scanned.0) at front
-whole_breaks n whole r is (by_types tree spells l) =
-    let front : Breaks (take n whole) r = by_types tree spells l in
+whole_breaks n whole r is (by_tree tree spells broken) =
+    let front : Breaks (take n whole) r = by_tree tree spells broken in
     rw (scanned_front n whole is spells.scanned.0) at front
-whole_breaks n whole r is (by_races p types l) =
-    let front : Breaks (take n whole) r = by_races p types l in
-    rw (scanned_front n whole is types.spelled.scanned.0) at front
-whole_breaks n whole r is (by_form p types none l) =
-    let front : Breaks (take n whole) r = by_form p types none l in
-    rw (scanned_front n whole is types.spelled.scanned.0) at front
 
 -- what a front stands for the text stands for
 pub whole_stands : (n : ℕ) (whole : List ℕ) (p : Program) → n ≡ MAX_TEXT + 1 → StandsFor (take n whole) p → StandsFor whole p
-whole_stands n whole p is stands = rw (scanned_front n whole is stands.typed.spelled.scanned.0) at stands
+whole_stands n whole p is stands = rw (scanned_front n whole is stands.spelled.scanned.0) at stands
 
 -- the verdict on a front is that on the text
 pub whole_verdict : (n : ℕ) (whole text : List ℕ) (status : Status) → n ≡ MAX_TEXT + 1 → IsVerdict (take n whole) text status → IsVerdict whole text status
@@ -72,6 +66,6 @@ pub program_right : (words : List (List ℕ)) (options : Options) → IsRightRoa
 program_right words options = record {
   stands = λ whole p stands. whole_stands most_program whole p refl stands;
   bad = λ whole text status said. said_refused most_program whole text status refl said;
-  short = λ bytes p stands. let few : length bytes ≤ MAX_TEXT = stands.typed.spelled.scanned.0 in omega (arith, few);
+  short = λ bytes p stands. let few : length bytes ≤ MAX_TEXT = stands.spelled.scanned.0 in omega (arith, few);
   over = λ p whole text status answer. text_answer_front options.format (shape_of p) (inputs_of p) words (Ran p options.turns) whole text status answer;
 }

@@ -15,3 +15,7 @@ mod StatementLaws
 mod TupleLaws
 mod Verdict
 mod SupportLaws
+mod FirstWords
+mod Plans
+mod ExpressionPlans
+mod StatementPlans

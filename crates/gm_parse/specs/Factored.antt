@@ -14,9 +14,13 @@ assigned = a_value ∣ a_deferred_value ∣ a_reduced_value ∣ an_increment
 abbrev pub an_assignment : Rule
 an_assignment = Of Target ▸ assigned
 
+-- the operators after a comparison or what stands for it, from the tightest to the loosest
+abbrev pub rest_of_relation : Rule
+rest_of_relation = Many (equality_sign ▸ Of Relation) ▸ Many (the words.AndAnd ▸ Of Equality) ▸ Many (the words.OrOr ▸ Of Conjunction) ▸ Maybe a_choice
+
 -- the operators after the first operand of an expression, from the tightest to the loosest
 abbrev pub rest : Rule
-rest = Many (product_sign ▸ Of Unary) ▸ Many (sum_sign ▸ Of Product) ▸ Maybe (relation_sign ▸ Of Sum) ▸ Many (equality_sign ▸ Of Relation) ▸ Many (the words.AndAnd ▸ Of Equality) ▸ Many (the words.OrOr ▸ Of Conjunction) ▸ Maybe a_choice
+rest = Many (product_sign ▸ Of Unary) ▸ Many (sum_sign ▸ Of Product) ▸ Maybe (relation_sign ▸ Of Sum) ▸ rest_of_relation
 
 -- a cast, or an expression in parentheses
 abbrev pub in_parentheses : Rule

@@ -7,5 +7,6 @@ pub mod Goes
 pub mod Choices
 pub mod Levels
 pub mod Trees
+pub mod OneTree
 pub mod Nesting
 pub mod Refused

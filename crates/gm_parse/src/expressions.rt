@@ -4,8 +4,10 @@ ghost use Rattle.std.specs.Prelude.{◌≡◌, ◌≢◌, ◌+◌, ◌≤◌, �
 ghost use Rattle.gm_token.specs.declared.words.Word.TheVariants.{Number};
 ghost use Rattle.gm_token.specs.Tokens.{Token, words_of};
 ghost use Rattle.gm_ast.specs.SurfaceTree.{name_of, expr_of, test_of, head_of};
-ghost use Rattle.gm_parse.specs.Grammar.{Of, Maybe, Many, ◌▸◌, the, a_member, test_sign, an_entry, Range as RangePart, Sum, Unary, Relation, Expression, Primary, Reduction, Braces, Condition, Head as HeadPart};
-ghost use Rattle.gm_parse.specs.Factored.{in_parentheses, atom};
+ghost use Rattle.gm_ast.specs.Surface.{SurfaceExpr};
+ghost use Rattle.gm_ast.specs.Surface as trees;
+ghost use Rattle.gm_parse.specs.Grammar.{Of, Maybe, Many, ◌▸◌, the, a_member, a_choice, test_sign, an_entry, Range as RangePart, Sum, Unary, Relation, Disjunction, Expression, Primary, Reduction, Braces, Condition, Head as HeadPart};
+ghost use Rattle.gm_parse.specs.Factored.{in_parentheses, atom, rest, rest_of_relation};
 ghost use Rattle.gm_parse.specs.Goes.{Goes, end_of};
 ghost use Rattle.gm_parse.specs.Levels.{part_of, operand_of, signs_of};
 ghost use Rattle.gm_parse.specs.Trees.{ReadsTree, ReadsCondition, ReadsFilter, ReadsBraces, ReadsRange, ReadsHead};
@@ -444,29 +446,101 @@ pub fn expression(
     ensures next { IfOk result (λ read. (at < read.1) × (read.1 ≤ length tokens.now.tokens) × (around.statements ≤ 64)) }
 {
     let within = around.in_expression(at);
-    let (first, at_product) = unary(alloc, tokens, at, within)?;
-    let (product, at_sum) = row_rest(alloc, tokens, at_product, Level::Product, within, first)?;
-    let (sum, at_relation) = row_rest(alloc, tokens, at_sum, Level::Sum, within, product)?;
-    let (relation, at_equality) = relation_rest(alloc, tokens, at_relation, within, sum)?;
-    let (equality, at_and) = row_rest(
-        alloc,
-        tokens,
-        at_equality,
-        Level::Equality,
-        within,
-        relation,
-    )?;
-    let (both, at_or) = row_rest(alloc, tokens, at_and, Level::And, within, equality)?;
-    let (either, after) = row_rest(alloc, tokens, at_or, Level::Or, within, both)?;
-    if !next_is(tokens, after, Word::Question) {
-        return Ok((either, after));
+    let (first, after) = unary(alloc, tokens, at, within)?;
+    let (whole, end) = from_operand(alloc, tokens, after, within, first)?;
+    Ok((whole, end))
+}
+
+// What goes on with the first operand of an expression, to the expression's end.
+#[cycle(expression)]
+fn from_operand(
+    alloc: Global,
+    tokens: &Tokens,
+    at: usize,
+    around: Around,
+    first: SpelledExpr,
+) -> Result<(SpelledExpr, usize), Fault>
+    requires begun { (around.statements ≤ 64) × (at ≤ length tokens.now.tokens) }
+    ensures goes { Goes rest around (words_of tokens.now) at (end_of result) }
+    ensures tree { (us : List Token) → ReadsTree Unary us (expr_of first) (drop at tokens.now.tokens) → IfOk result (λ read. ReadsTree Expression us (expr_of read.0) (drop read.1 tokens.now.tokens)) }
+    ensures next { IfOk result (λ read. (at ≤ read.1) × (read.1 ≤ length tokens.now.tokens)) }
+{
+    let (product, at_sum) = row_rest(alloc, tokens, at, Level::Product, around, first)?;
+    let (sum, at_relation) = row_rest(alloc, tokens, at_sum, Level::Sum, around, product)?;
+    let (relation, after) = relation_rest(alloc, tokens, at_relation, around, sum)?;
+    let (whole, end) = from_relation(alloc, tokens, after, around, relation)?;
+    Ok((whole, end))
+}
+
+// What goes on with a comparison, or what stands for it, to the expression's end.
+#[cycle(expression)]
+fn from_relation(
+    alloc: Global,
+    tokens: &Tokens,
+    at: usize,
+    around: Around,
+    first: SpelledExpr,
+) -> Result<(SpelledExpr, usize), Fault>
+    requires begun { (around.statements ≤ 64) × (at ≤ length tokens.now.tokens) }
+    ensures goes { Goes rest_of_relation around (words_of tokens.now) at (end_of result) }
+    ensures tree { (us : List Token) → ReadsTree Relation us (expr_of first) (drop at tokens.now.tokens) → IfOk result (λ read. ReadsTree Expression us (expr_of read.0) (drop read.1 tokens.now.tokens)) }
+    ensures next { IfOk result (λ read. (at ≤ read.1) × (read.1 ≤ length tokens.now.tokens)) }
+{
+    let (equality, at_and) = row_rest(alloc, tokens, at, Level::Equality, around, first)?;
+    let (both, at_or) = row_rest(alloc, tokens, at_and, Level::And, around, equality)?;
+    let (either, after) = row_rest(alloc, tokens, at_or, Level::Or, around, both)?;
+    let (whole, end) = from_test(alloc, tokens, after, around, either)?;
+    Ok((whole, end))
+}
+
+// A choice after its test, if there is one.
+#[cycle(expression)]
+fn from_test(
+    alloc: Global,
+    tokens: &Tokens,
+    at: usize,
+    around: Around,
+    test: SpelledExpr,
+) -> Result<(SpelledExpr, usize), Fault>
+    requires begun { (around.statements ≤ 64) × (at ≤ length tokens.now.tokens) }
+    ensures goes { Goes (Maybe a_choice) around (words_of tokens.now) at (end_of result) }
+    ensures tree { (us : List Token) → ReadsTree Disjunction us (expr_of test) (drop at tokens.now.tokens) → IfOk result (λ read. ReadsTree Expression us (expr_of read.0) (drop read.1 tokens.now.tokens)) }
+    ensures next { IfOk result (λ read. (at ≤ read.1) × (read.1 ≤ length tokens.now.tokens)) }
+{
+    if !next_is(tokens, at, Word::Question) {
+        return Ok((test, at));
     }
-    let (question, start) = eat(tokens, after, Word::Question, within)?;
-    let (yes, middle) = expression(alloc, tokens, start, within)?;
-    let colon = skip(tokens, middle, Word::Colon, within)?;
-    let (no, end) = expression(alloc, tokens, colon, within)?;
-    let choice = chosen(alloc, question, either, yes, no)?;
+    let (values, end) = choice_values(alloc, tokens, at, around)?;
+    let ChoiceValues { question, yes, no } = values;
+    let choice = chosen(alloc, question, test, yes, no)?;
     Ok((choice, end))
+}
+
+// The two values of a choice, and the place of its question mark.
+#[derive(Drop)]
+struct ChoiceValues {
+    question: Place,
+    yes: SpelledExpr,
+    no: SpelledExpr,
+}
+
+// The two values of a choice.
+#[cycle(expression)]
+fn choice_values(
+    alloc: Global,
+    tokens: &Tokens,
+    at: usize,
+    around: Around,
+) -> Result<(ChoiceValues, usize), Fault>
+    ensures goes { Goes a_choice around (words_of tokens.now) at (end_of result) }
+    ensures tree { (us : List Token) (e : SurfaceExpr) → ReadsTree Disjunction us e (drop at tokens.now.tokens) → IfOk result (λ read. ReadsTree Expression us (trees.Choose read.0.question e (expr_of read.0.yes) (expr_of read.0.no)) (drop read.1 tokens.now.tokens)) }
+    ensures next { IfOk result (λ read. (at < read.1) × (read.1 ≤ length tokens.now.tokens)) }
+{
+    let (question, start) = eat(tokens, at, Word::Question, around)?;
+    let (yes, middle) = expression(alloc, tokens, start, around)?;
+    let colon = skip(tokens, middle, Word::Colon, around)?;
+    let (no, end) = expression(alloc, tokens, colon, around)?;
+    Ok((ChoiceValues { question, yes, no }, end))
 }
 
 /// A value of a tuple: a sum, which is no part of another expression.

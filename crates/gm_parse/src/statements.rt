@@ -4,17 +4,15 @@ ghost use Rattle.std.specs.Prelude.{◌≡◌, ◌+◌, ◌≤◌, ◌<◌, List
 ghost use Rattle.gm_token.specs.Tokens.{Token, words_of};
 ghost use Rattle.gm_ast.specs.SurfaceTree.{name_of, target_of, expr_of, test_of, stmt_of};
 ghost use Rattle.gm_parse.specs.Grammar.{Of, Maybe, AtName, Target, Statement, Block, SearchHead, Reverse, Condition, from_sign, a_declaration, a_loop, an_if, a_while, a_do, a_search, a_return};
-ghost use Rattle.gm_parse.specs.Factored.{an_assignment};
 ghost use Rattle.gm_parse.specs.Goes.{Goes, end_of};
 ghost use Rattle.gm_parse.specs.Trees.{ReadsTarget, ReadsAt, ReadsFrom, ReadsFilter, ReadsSearch, ReadsStmt, ReadsBlock, ReadsReverse};
 
 use crate::around::Around;
-use crate::choices::{loop_word, reduce_sign};
+use crate::assignments::assignment;
+use crate::choices::loop_word;
 use crate::expressions::{condition, expression, head};
 use crate::faults::Fault;
-use crate::nodes::{
-    Front, do_loop, if_else, if_then, looped, reduced, search, search_both, while_loop,
-};
+use crate::nodes::{Front, do_loop, if_else, if_then, looped, search, search_both, while_loop};
 use crate::reading::{
     choose, eat, eat_name, next_is, next_is_expression, next_is_loop, next_is_name,
     next_is_statement, next_is_type, peek, skip,
@@ -169,61 +167,6 @@ fn declaration(
     let (names, end) = more_names(alloc, tokens, after, around, first)?;
     let close = skip(tokens, end, Word::Semicolon, around)?;
     Ok((SpelledStmt::Declare { vtype, names }, close))
-}
-
-// An assignment of any kind.
-fn assignment(
-    alloc: Global,
-    tokens: &Tokens,
-    at: usize,
-    around: Around,
-) -> Result<(SpelledStmt, usize), Fault>
-    ensures goes { Goes an_assignment around (words_of tokens.now) at (end_of result) }
-    ensures tree { IfOk result (λ read. ReadsStmt (drop at tokens.now.tokens) (stmt_of read.0) (drop read.1 tokens.now.tokens)) }
-    ensures next { IfOk result (λ read. (at < read.1) × (read.1 ≤ length tokens.now.tokens)) }
-{
-    let (target, after) = target_name(alloc, tokens, at, around)?;
-    if next_is(tokens, after, Word::Assign) {
-        let (equals, start) = eat(tokens, after, Word::Assign, around)?;
-        let (value, end) = expression(alloc, tokens, start, around)?;
-        let last = skip(tokens, end, Word::Semicolon, around)?;
-        Ok((
-            SpelledStmt::Assign {
-                target,
-                equals,
-                value,
-            },
-            last,
-        ))
-    } else if next_is(tokens, after, Word::LessEqual) {
-        let (arrow, start) = eat(tokens, after, Word::LessEqual, around)?;
-        let (later, end) = expression(alloc, tokens, start, around)?;
-        let (binding, close) = at_iterator(alloc, tokens, end, around)?;
-        let deferred = skip(tokens, close, Word::Semicolon, around)?;
-        Ok((
-            SpelledStmt::Defer {
-                target,
-                arrow,
-                value: later,
-                iterator: binding,
-            },
-            deferred,
-        ))
-    } else {
-        let word = peek(tokens, after);
-        let found = reduce_sign(word);
-        let Some(op) = found else {
-            let (place, close) = eat(tokens, after, Word::PlusPlus, around)?;
-            let counted = skip(tokens, close, Word::Semicolon, around)?;
-            return Ok((SpelledStmt::Increment { target, place }, counted));
-        };
-        let (sign, start) = choose(tokens, after, around, Some(op))?;
-        let (part, end) = expression(alloc, tokens, start, around)?;
-        let (bound, close) = at_iterator(alloc, tokens, end, around)?;
-        let folded = skip(tokens, close, Word::Semicolon, around)?;
-        let reduction = reduced(alloc, target, sign.value, sign.place, part, bound)?;
-        Ok((reduction, folded))
-    }
 }
 
 // A return.

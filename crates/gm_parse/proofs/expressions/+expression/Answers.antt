@@ -2,7 +2,7 @@ use Rattle.std.proofs.Common.{is_some, refl, sym, ap, ◌∙◌, arith}
 use Rattle.std.specs.Option.{option_and_then}
 use Rattle.gm_token.specs.Tokens.{words_of}
 use Rattle.gm_parse.specs.declared.levels.Level.TheVariants as levels
-use Rattle.gm_parse.specs.Grammar.{Condition, Expression, Unary, Reduction, Head, Braces, InExpression, Of, ◌▸◌, Maybe, Many, test_sign, rule}
+use Rattle.gm_parse.specs.Grammar.{Condition, Expression, Unary, Reduction, Head, Braces, InExpression, Of, ◌▸◌, Maybe, Many, test_sign, a_choice, rule}
 use Rattle.gm_parse.specs.Factored.{factored, in_parentheses}
 use Rattle.gm_parse.specs.Levels.{operand_of, signs_of}
 use Rattle.gm_parse.specs.Choices.{cast_type, value_reduction, test_reduction, infix_of}
@@ -402,62 +402,110 @@ pub expression-returns-in_err-first-clause-goes : goal.expression-returns-in_err
 unfolding rule factored
 expression-returns-in_err-first-clause-goes t c = at_exit c.from_residual.result c.from_residual.ensures.1 (goes_part Expression (goes_within InExpression (as_around c.in_expression-within.ensures (goes_first c.in_err-first.ensures.goes) (λ a r h. h))))
 
-pub expression-returns-in_err-product-clause-goes : goal.expression-returns-in_err-product-clause-goes
+pub expression-returns-in_err-whole-clause-goes : goal.expression-returns-in_err-whole-clause-goes
 unfolding rule factored
-expression-returns-in_err-product-clause-goes t c = at_exit c.from_residual-in_err-product.result c.from_residual-in_err-product.ensures.1 (goes_part Expression (goes_within InExpression (as_around c.in_expression-within.ensures (goes_then c.in_ok-first.ensures.goes (goes_first c.in_err-product.ensures.goes)) (λ a r h. h))))
-
-pub expression-returns-in_err-sum-clause-goes : goal.expression-returns-in_err-sum-clause-goes
-unfolding rule factored
-expression-returns-in_err-sum-clause-goes t c = at_exit c.from_residual-in_err-sum.result c.from_residual-in_err-sum.ensures.1 (goes_part Expression (goes_within InExpression (as_around c.in_expression-within.ensures (goes_then c.in_ok-first.ensures.goes (goes_then c.in_ok-product.ensures.goes (goes_first c.in_err-sum.ensures.goes))) (λ a r h. h))))
-
-pub expression-returns-in_err-relation-clause-goes : goal.expression-returns-in_err-relation-clause-goes
-unfolding rule factored
-expression-returns-in_err-relation-clause-goes t c = at_exit c.from_residual-in_err-relation.result c.from_residual-in_err-relation.ensures.1 (goes_part Expression (goes_within InExpression (as_around c.in_expression-within.ensures (goes_then c.in_ok-first.ensures.goes (goes_then c.in_ok-product.ensures.goes (goes_then c.in_ok-sum.ensures.goes (goes_first c.in_err-relation.ensures.goes)))) (λ a r h. h))))
-
-pub expression-returns-in_err-equality-clause-goes : goal.expression-returns-in_err-equality-clause-goes
-unfolding rule factored
-expression-returns-in_err-equality-clause-goes t c = at_exit c.from_residual-in_err-equality.result c.from_residual-in_err-equality.ensures.1 (goes_part Expression (goes_within InExpression (as_around c.in_expression-within.ensures (goes_then c.in_ok-first.ensures.goes (goes_then c.in_ok-product.ensures.goes (goes_then c.in_ok-sum.ensures.goes (goes_then c.in_ok-relation.ensures.goes (goes_first c.in_err-equality.ensures.goes))))) (λ a r h. h))))
-
-pub expression-returns-in_err-both-clause-goes : goal.expression-returns-in_err-both-clause-goes
-unfolding rule factored
-expression-returns-in_err-both-clause-goes t c = at_exit c.from_residual-in_err-both.result c.from_residual-in_err-both.ensures.1 (goes_part Expression (goes_within InExpression (as_around c.in_expression-within.ensures (goes_then c.in_ok-first.ensures.goes (goes_then c.in_ok-product.ensures.goes (goes_then c.in_ok-sum.ensures.goes (goes_then c.in_ok-relation.ensures.goes (goes_then c.in_ok-equality.ensures.goes (goes_first c.in_err-both.ensures.goes)))))) (λ a r h. h))))
-
-pub expression-returns-in_err-either-clause-goes : goal.expression-returns-in_err-either-clause-goes
-unfolding rule factored
-expression-returns-in_err-either-clause-goes t c = at_exit c.from_residual-in_err-either.result c.from_residual-in_err-either.ensures.1 (goes_part Expression (goes_within InExpression (as_around c.in_expression-within.ensures (goes_then c.in_ok-first.ensures.goes (goes_then c.in_ok-product.ensures.goes (goes_then c.in_ok-sum.ensures.goes (goes_then c.in_ok-relation.ensures.goes (goes_then c.in_ok-equality.ensures.goes (goes_then c.in_ok-both.ensures.goes (goes_first c.in_err-either.ensures.goes))))))) (λ a r h. h))))
-
-pub expression-returns-then-not-next_is-clause-goes : goal.expression-returns-then-not-next_is-clause-goes
-unfolding rule factored
-expression-returns-then-not-next_is-clause-goes t c = goes_part Expression (goes_within InExpression (as_around c.in_expression-within.ensures (goes_then c.in_ok-first.ensures.goes (goes_then c.in_ok-product.ensures.goes (goes_then c.in_ok-sum.ensures.goes (goes_then c.in_ok-relation.ensures.goes (goes_then c.in_ok-equality.ensures.goes (goes_then c.in_ok-both.ensures.goes (goes_then c.in_ok-either.ensures.goes (goes_absent (sees_then c.next_is.ensures c.if-not-next_is.true))))))))) (λ a r h. h)))
-
-pub expression-returns-then-not-next_is-clause-tree : goal.expression-returns-then-not-next_is-clause-tree
-unfolding rule factored
-expression-returns-then-not-next_is-clause-tree t c = ReadsTree.no_choice (c.in_ok-either.ensures.tree _ (c.in_ok-both.ensures.tree _ (c.in_ok-equality.ensures.tree _ (c.in_ok-relation.ensures.tree _ (c.in_ok-sum.ensures.tree _ (c.in_ok-product.ensures.tree _ c.in_ok-first.ensures.tree))))))
-
-pub expression-returns-in_err-question-clause-goes : goal.expression-returns-in_err-question-clause-goes
-unfolding rule factored
-expression-returns-in_err-question-clause-goes t c = at_exit c.from_residual-in_err-question.result c.from_residual-in_err-question.ensures.1 (goes_part Expression (goes_within InExpression (as_around c.in_expression-within.ensures (goes_then c.in_ok-first.ensures.goes (goes_then c.in_ok-product.ensures.goes (goes_then c.in_ok-sum.ensures.goes (goes_then c.in_ok-relation.ensures.goes (goes_then c.in_ok-equality.ensures.goes (goes_then c.in_ok-both.ensures.goes (goes_then c.in_ok-either.ensures.goes (goes_present (sees_then c.next_is.ensures c.if-not-next_is.false) (goes_first c.in_err-question.ensures.goes))))))))) (λ a r h. h))))
-
-pub expression-returns-in_err-yes-clause-goes : goal.expression-returns-in_err-yes-clause-goes
-unfolding rule factored
-expression-returns-in_err-yes-clause-goes t c = at_exit c.from_residual-in_err-yes.result c.from_residual-in_err-yes.ensures.1 (goes_part Expression (goes_within InExpression (as_around c.in_expression-within.ensures (goes_then c.in_ok-first.ensures.goes (goes_then c.in_ok-product.ensures.goes (goes_then c.in_ok-sum.ensures.goes (goes_then c.in_ok-relation.ensures.goes (goes_then c.in_ok-equality.ensures.goes (goes_then c.in_ok-both.ensures.goes (goes_then c.in_ok-either.ensures.goes (goes_present (sees_then c.next_is.ensures c.if-not-next_is.false) (goes_then c.in_ok-question.ensures.goes (goes_first c.in_err-yes.ensures.goes)))))))))) (λ a r h. h))))
-
-pub expression-returns-in_err-colon-clause-goes : goal.expression-returns-in_err-colon-clause-goes
-unfolding rule factored
-expression-returns-in_err-colon-clause-goes t c = at_exit c.from_residual-in_err-colon.result c.from_residual-in_err-colon.ensures.1 (goes_part Expression (goes_within InExpression (as_around c.in_expression-within.ensures (goes_then c.in_ok-first.ensures.goes (goes_then c.in_ok-product.ensures.goes (goes_then c.in_ok-sum.ensures.goes (goes_then c.in_ok-relation.ensures.goes (goes_then c.in_ok-equality.ensures.goes (goes_then c.in_ok-both.ensures.goes (goes_then c.in_ok-either.ensures.goes (goes_present (sees_then c.next_is.ensures c.if-not-next_is.false) (goes_then c.in_ok-question.ensures.goes (goes_then c.in_ok-yes.ensures.goes (goes_first c.in_err-colon.ensures.goes))))))))))) (λ a r h. h))))
-
-pub expression-returns-in_err-no-clause-goes : goal.expression-returns-in_err-no-clause-goes
-unfolding rule factored
-expression-returns-in_err-no-clause-goes t c = at_exit c.from_residual-in_err-no.result c.from_residual-in_err-no.ensures.1 (goes_part Expression (goes_within InExpression (as_around c.in_expression-within.ensures (goes_then c.in_ok-first.ensures.goes (goes_then c.in_ok-product.ensures.goes (goes_then c.in_ok-sum.ensures.goes (goes_then c.in_ok-relation.ensures.goes (goes_then c.in_ok-equality.ensures.goes (goes_then c.in_ok-both.ensures.goes (goes_then c.in_ok-either.ensures.goes (goes_present (sees_then c.next_is.ensures c.if-not-next_is.false) (goes_then c.in_ok-question.ensures.goes (goes_then c.in_ok-yes.ensures.goes (goes_then c.in_ok-colon.ensures.goes (c.in_err-no.ensures.goes)))))))))))) (λ a r h. h))))
-
-pub expression-returns-in_err-choice-clause-goes : goal.expression-returns-in_err-choice-clause-goes
-unfolding rule factored
-expression-returns-in_err-choice-clause-goes t c = at_exit c.from_residual-in_err-choice.result c.from_residual-in_err-choice.ensures.1 (goes_nowhere (Of Expression) c.args.around (words_of c.args.tokens.now) c.args.at)
+expression-returns-in_err-whole-clause-goes t c = at_exit c.from_residual-in_err-whole.result c.from_residual-in_err-whole.ensures.1 (goes_part Expression (goes_within InExpression (as_around c.in_expression-within.ensures (goes_then c.in_ok-first.ensures.goes c.in_err-whole.ensures.goes) (λ a r h. h))))
 
 pub expression-returns-clause-goes : goal.expression-returns-clause-goes
 unfolding rule factored
-expression-returns-clause-goes t c = goes_part Expression (goes_within InExpression (as_around c.in_expression-within.ensures (goes_then c.in_ok-first.ensures.goes (goes_then c.in_ok-product.ensures.goes (goes_then c.in_ok-sum.ensures.goes (goes_then c.in_ok-relation.ensures.goes (goes_then c.in_ok-equality.ensures.goes (goes_then c.in_ok-both.ensures.goes (goes_then c.in_ok-either.ensures.goes (goes_present (sees_then c.next_is.ensures c.if-not-next_is.false) (goes_then c.in_ok-question.ensures.goes (goes_then c.in_ok-yes.ensures.goes (goes_then c.in_ok-colon.ensures.goes (c.in_ok-no.ensures.goes)))))))))))) (λ a r h. h)))
+expression-returns-clause-goes t c = goes_part Expression (goes_within InExpression (as_around c.in_expression-within.ensures (goes_then c.in_ok-first.ensures.goes c.in_ok-whole.ensures.goes) (λ a r h. h)))
 
 pub expression-returns-clause-tree : goal.expression-returns-clause-tree
 unfolding rule factored
-expression-returns-clause-tree t c = as_tree c.in_ok-choice.ensures (ReadsTree.choice (c.in_ok-either.ensures.tree _ (c.in_ok-both.ensures.tree _ (c.in_ok-equality.ensures.tree _ (c.in_ok-relation.ensures.tree _ (c.in_ok-sum.ensures.tree _ (c.in_ok-product.ensures.tree _ c.in_ok-first.ensures.tree)))))) c.in_ok-question.ensures.tree c.in_ok-yes.ensures.tree c.in_ok-colon.ensures.tree c.in_ok-no.ensures.tree)
+expression-returns-clause-tree t c = c.in_ok-whole.ensures.tree _ c.in_ok-first.ensures.tree
+
+pub from_operand-returns-in_err-product-clause-goes : goal.from_operand-returns-in_err-product-clause-goes
+unfolding rule factored
+from_operand-returns-in_err-product-clause-goes t c = at_exit c.from_residual.result c.from_residual.ensures.1 (goes_first c.in_err-product.ensures.goes)
+
+pub from_operand-returns-in_err-sum-clause-goes : goal.from_operand-returns-in_err-sum-clause-goes
+unfolding rule factored
+from_operand-returns-in_err-sum-clause-goes t c = at_exit c.from_residual-in_err-sum.result c.from_residual-in_err-sum.ensures.1 (goes_then c.in_ok-product.ensures.goes (goes_first c.in_err-sum.ensures.goes))
+
+pub from_operand-returns-in_err-relation-clause-goes : goal.from_operand-returns-in_err-relation-clause-goes
+unfolding rule factored
+from_operand-returns-in_err-relation-clause-goes t c = at_exit c.from_residual-in_err-relation.result c.from_residual-in_err-relation.ensures.1 (goes_then c.in_ok-product.ensures.goes (goes_then c.in_ok-sum.ensures.goes (goes_first c.in_err-relation.ensures.goes)))
+
+pub from_operand-returns-in_err-whole-clause-goes : goal.from_operand-returns-in_err-whole-clause-goes
+unfolding rule factored
+from_operand-returns-in_err-whole-clause-goes t c = at_exit c.from_residual-in_err-whole.result c.from_residual-in_err-whole.ensures.1 (goes_then c.in_ok-product.ensures.goes (goes_then c.in_ok-sum.ensures.goes (goes_then c.in_ok-relation.ensures.goes (c.in_err-whole.ensures.goes))))
+
+pub from_operand-returns-clause-goes : goal.from_operand-returns-clause-goes
+unfolding rule factored
+from_operand-returns-clause-goes t c = goes_then c.in_ok-product.ensures.goes (goes_then c.in_ok-sum.ensures.goes (goes_then c.in_ok-relation.ensures.goes (c.in_ok-whole.ensures.goes)))
+
+pub from_operand-returns-clause-tree : goal.from_operand-returns-clause-tree
+unfolding rule factored
+from_operand-returns-clause-tree t c = λ us h. c.in_ok-whole.ensures.tree _ (c.in_ok-relation.ensures.tree _ (c.in_ok-sum.ensures.tree _ (c.in_ok-product.ensures.tree _ h)))
+
+pub from_relation-returns-in_err-equality-clause-goes : goal.from_relation-returns-in_err-equality-clause-goes
+unfolding rule factored
+from_relation-returns-in_err-equality-clause-goes t c = at_exit c.from_residual.result c.from_residual.ensures.1 (goes_first c.in_err-equality.ensures.goes)
+
+pub from_relation-returns-in_err-both-clause-goes : goal.from_relation-returns-in_err-both-clause-goes
+unfolding rule factored
+from_relation-returns-in_err-both-clause-goes t c = at_exit c.from_residual-in_err-both.result c.from_residual-in_err-both.ensures.1 (goes_then c.in_ok-equality.ensures.goes (goes_first c.in_err-both.ensures.goes))
+
+pub from_relation-returns-in_err-either-clause-goes : goal.from_relation-returns-in_err-either-clause-goes
+unfolding rule factored
+from_relation-returns-in_err-either-clause-goes t c = at_exit c.from_residual-in_err-either.result c.from_residual-in_err-either.ensures.1 (goes_then c.in_ok-equality.ensures.goes (goes_then c.in_ok-both.ensures.goes (goes_first c.in_err-either.ensures.goes)))
+
+pub from_relation-returns-in_err-whole-clause-goes : goal.from_relation-returns-in_err-whole-clause-goes
+unfolding rule factored
+from_relation-returns-in_err-whole-clause-goes t c = at_exit c.from_residual-in_err-whole.result c.from_residual-in_err-whole.ensures.1 (goes_then c.in_ok-equality.ensures.goes (goes_then c.in_ok-both.ensures.goes (goes_then c.in_ok-either.ensures.goes (c.in_err-whole.ensures.goes))))
+
+pub from_relation-returns-clause-goes : goal.from_relation-returns-clause-goes
+unfolding rule factored
+from_relation-returns-clause-goes t c = goes_then c.in_ok-equality.ensures.goes (goes_then c.in_ok-both.ensures.goes (goes_then c.in_ok-either.ensures.goes (c.in_ok-whole.ensures.goes)))
+
+pub from_relation-returns-clause-tree : goal.from_relation-returns-clause-tree
+unfolding rule factored
+from_relation-returns-clause-tree t c = λ us h. c.in_ok-whole.ensures.tree _ (c.in_ok-either.ensures.tree _ (c.in_ok-both.ensures.tree _ (c.in_ok-equality.ensures.tree _ h)))
+
+pub from_test-returns-then-not-next_is-clause-goes : goal.from_test-returns-then-not-next_is-clause-goes
+unfolding rule factored
+from_test-returns-then-not-next_is-clause-goes t c = goes_absent (sees_then c.next_is.ensures c.if-not-next_is.true)
+
+pub from_test-returns-then-not-next_is-clause-tree : goal.from_test-returns-then-not-next_is-clause-tree
+unfolding rule factored
+from_test-returns-then-not-next_is-clause-tree t c = λ us h. ReadsTree.no_choice h
+
+pub from_test-returns-in_err-values-clause-goes : goal.from_test-returns-in_err-values-clause-goes
+unfolding rule factored
+from_test-returns-in_err-values-clause-goes t c = at_exit c.from_residual.result c.from_residual.ensures.1 (goes_present (sees_then c.next_is.ensures c.if-not-next_is.false) c.in_err-values.ensures.goes)
+
+pub from_test-returns-in_err-choice-clause-goes : goal.from_test-returns-in_err-choice-clause-goes
+unfolding rule factored
+from_test-returns-in_err-choice-clause-goes t c = at_exit c.from_residual-in_err-choice.result c.from_residual-in_err-choice.ensures.1 (goes_nowhere (Maybe a_choice) c.args.around (words_of c.args.tokens.now) c.args.at)
+
+pub from_test-returns-clause-goes : goal.from_test-returns-clause-goes
+unfolding rule factored
+from_test-returns-clause-goes t c = goes_present (sees_then c.next_is.ensures c.if-not-next_is.false) c.in_ok-values.ensures.goes
+
+pub from_test-returns-clause-tree : goal.from_test-returns-clause-tree
+unfolding rule factored
+from_test-returns-clause-tree t c = λ us h. as_tree c.in_ok-choice.ensures (c.in_ok-values.ensures.tree _ _ h)
+
+pub choice_values-returns-in_err-question-clause-goes : goal.choice_values-returns-in_err-question-clause-goes
+unfolding rule factored
+choice_values-returns-in_err-question-clause-goes t c = at_exit c.from_residual.result c.from_residual.ensures.1 (goes_first c.in_err-question.ensures.goes)
+
+pub choice_values-returns-in_err-yes-clause-goes : goal.choice_values-returns-in_err-yes-clause-goes
+unfolding rule factored
+choice_values-returns-in_err-yes-clause-goes t c = at_exit c.from_residual-in_err-yes.result c.from_residual-in_err-yes.ensures.1 (goes_then c.in_ok-question.ensures.goes (goes_first c.in_err-yes.ensures.goes))
+
+pub choice_values-returns-in_err-colon-clause-goes : goal.choice_values-returns-in_err-colon-clause-goes
+unfolding rule factored
+choice_values-returns-in_err-colon-clause-goes t c = at_exit c.from_residual-in_err-colon.result c.from_residual-in_err-colon.ensures.1 (goes_then c.in_ok-question.ensures.goes (goes_then c.in_ok-yes.ensures.goes (goes_first c.in_err-colon.ensures.goes)))
+
+pub choice_values-returns-in_err-no-clause-goes : goal.choice_values-returns-in_err-no-clause-goes
+unfolding rule factored
+choice_values-returns-in_err-no-clause-goes t c = at_exit c.from_residual-in_err-no.result c.from_residual-in_err-no.ensures.1 (goes_then c.in_ok-question.ensures.goes (goes_then c.in_ok-yes.ensures.goes (goes_then c.in_ok-colon.ensures.goes (c.in_err-no.ensures.goes))))
+
+pub choice_values-returns-clause-goes : goal.choice_values-returns-clause-goes
+unfolding rule factored
+choice_values-returns-clause-goes t c = goes_then c.in_ok-question.ensures.goes (goes_then c.in_ok-yes.ensures.goes (goes_then c.in_ok-colon.ensures.goes (c.in_ok-no.ensures.goes)))
+
+pub choice_values-returns-clause-tree : goal.choice_values-returns-clause-tree
+unfolding rule factored
+choice_values-returns-clause-tree t c = λ us e h. ReadsTree.choice h c.in_ok-question.ensures.tree c.in_ok-yes.ensures.tree c.in_ok-colon.ensures.tree c.in_ok-no.ensures.tree

@@ -11,6 +11,18 @@ decreases-condition l = 32 * (length l.tokens.now.tokens - l.at) + 2
 abbrev pub decreases-expression : goal.decreases-expression
 decreases-expression l = 32 * (length l.tokens.now.tokens - l.at) + 20
 
+abbrev pub decreases-from_operand : goal.decreases-from_operand
+decreases-from_operand l = 32 * (length l.tokens.now.tokens - l.at) + 4
+
+abbrev pub decreases-from_relation : goal.decreases-from_relation
+decreases-from_relation l = 32 * (length l.tokens.now.tokens - l.at) + 3
+
+abbrev pub decreases-from_test : goal.decreases-from_test
+decreases-from_test l = 32 * (length l.tokens.now.tokens - l.at) + 2
+
+abbrev pub decreases-choice_values : goal.decreases-choice_values
+decreases-choice_values l = 32 * (length l.tokens.now.tokens - l.at) + 1
+
 abbrev pub decreases-head : goal.decreases-head
 decreases-head l = 32 * (length l.tokens.now.tokens - l.at) + 3
 
