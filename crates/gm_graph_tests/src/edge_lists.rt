@@ -3,9 +3,9 @@
 ghost use Rattle.std.specs.Prelude.{◌≤◌, IfOk};
 ghost use Rattle.gm_loader.specs.GraphText.{HasColumns};
 
-use gm_base::{Items, MemSource};
+use gm_base::Items;
 use gm_graph::{Graph, Shape};
-use gm_loader::{GraphFault, Limits, load, parse_graph};
+use gm_loader::{GraphFault, Limits, consume_graph, parse_graph};
 use gm_value::{VType, Value};
 use std::alloc::{AllocError, Global};
 use std::fmt::Write;
@@ -88,7 +88,8 @@ fn outcome(
     }
 }
 
-// Reads texts, with columns of the types of some letters, and compares what comes of each.
+// Reads texts, with columns of the types of some letters, and compares what comes of each by `parse_graph` and by
+// `consume_graph`.
 fn compare(
     rt: &(impl Abort + AllocGlobal),
     letters: (&str, &str),
@@ -109,32 +110,12 @@ fn compare(
         let result = parse_graph(rt.alloc(), text.as_bytes(), &shape, limits);
         let found = outcome(rt.alloc(), result, nodes as u32, edges as u32)?;
         assert_eq!(rt; found.as_str(), *want, "of {text:?}");
+        let bytes = Vec::from_slice(rt.alloc(), text.as_bytes())?;
+        let consumed = consume_graph(rt.alloc(), bytes, &shape, limits);
+        let consumed = outcome(rt.alloc(), consumed, nodes as u32, edges as u32)?;
+        assert_eq!(rt; consumed.as_str(), *want, "of {text:?}");
     }
     Ok(())
-}
-
-// Loads a text from a source that gives one byte per read, with one Int column of nodes.
-fn loaded(
-    rt: &(impl Abort + AllocGlobal),
-    text: &str,
-    fails: Vec<u64>,
-    limits: &Limits,
-) -> Result<String, Fail>
-    requires few_nodes { limits.now.nodes ≤ 2147483647 }
-    requires few_edges { limits.now.edges ≤ 2147483647 }
-{
-    let shape = Shape {
-        nodes: types(rt.alloc(), "i")?,
-        edges: types(rt.alloc(), "")?,
-    };
-    let nodes = shape.nodes.len();
-    let edges = shape.edges.len();
-    assert!(rt; nodes < 100 && edges < 100);
-    let bytes = Vec::from_slice(rt.alloc(), text.as_bytes())?;
-    let mut source = MemSource::new(bytes, 1, fails);
-    let result = load(rt.alloc(), &mut source, &shape, limits);
-    let found = outcome(rt.alloc(), result, nodes as u32, edges as u32)?;
-    Ok(found)
 }
 
 #[test]
@@ -168,6 +149,30 @@ fn texts_stand_for_graphs(rt: HostRuntime) -> Result<(), Fail> {
             ("v", "BadLine(1)"),
             ("V 1", "BadLine(1)"),
             ("v 4\n\n \t\n  # x\nv 4\n0 x", "NodeTwice(5)"),
+        ],
+    )?;
+    compare(
+        &rt,
+        ("", ""),
+        &AMPLE,
+        &[
+            ("0\t1\n1 0\t\n", "0 0>1;1 1>0;"),
+            ("  0  1\n0 1 # x\n", "0 0>1 1>1;1;"),
+            ("0 1\r\n1 0\r", "BadLine(2)"),
+            ("0 1\rx\n", "BadLine(1)"),
+            ("0 1x\n", "BadLine(1)"),
+            ("0x 1\n", "BadLine(1)"),
+            ("0 1\n 1\n", "BadLine(2)"),
+            ("0\n1\n", "BadLine(1)"),
+            (
+                "999999999999999999 1000000000000000000\n000000000000000000007 7\n",
+                "7 1>7;999999999999999999 0>1000000000000000000;1000000000000000000;",
+            ),
+            (
+                "900000000000000000 9000000000000000000\n",
+                "900000000000000000 0>9000000000000000000;9000000000000000000;",
+            ),
+            ("0 1\n18446744073709551616 0\n", "OutOfRange(2)"),
         ],
     )?;
     compare(
@@ -253,27 +258,14 @@ fn values_have_their_spellings(rt: HostRuntime) -> Result<(), Fail> {
             ("0 1\n0 1\n2 3", "TooManyNodes(3)"),
             ("v 1\nv 2\nv 3\nv 3", "TooManyNodes(3)"),
             ("20000000 20000001", "20000000 0>20000001;20000001;"),
+            ("0 1\n1 2\n", "TooManyNodes(2)"),
+            ("2 9\n9 2\n", "2 0>9;9 1>2;"),
+            ("0 9\n1 9\n", "TooManyNodes(2)"),
+            ("v 9\n9 2\nv 0\n", "TooManyNodes(3)"),
             ("                    ", ""),
             ("                     ", "TooLong"),
         ],
     )?;
-    Ok(())
-}
-
-#[test]
-fn sources_are_loaded(rt: HostRuntime) -> Result<(), Fail> {
-    let alloc = rt.alloc();
-    let text = "v 7 1\nv 3 2\nv 5 0\n";
-    let whole = loaded(&rt, text, vec![in alloc]?, &AMPLE)?;
-    assert_eq!(rt; whole.as_str(), "3:2;5:0;7:1;");
-    for call in [1, 2, 9, 18] {
-        let failed = loaded(&rt, text, vec![in alloc; call]?, &AMPLE)?;
-        assert_eq!(rt; failed.as_str(), "ReadFault", "call {call}");
-    }
-    let long = loaded(&rt, "                     ", vec![in alloc]?, &TIGHT)?;
-    assert_eq!(rt; long.as_str(), "TooLong");
-    let fault = loaded(&rt, "v 7 1\nv 3\n", vec![in alloc]?, &AMPLE)?;
-    assert_eq!(rt; fault.as_str(), "MissingColumn(2)");
     Ok(())
 }
 
@@ -298,7 +290,6 @@ fn faults_say_what_and_where(rt: HostRuntime) -> Result<(), Fail> {
             GraphFault::TooManyEdges(18_446_744_073_709_551_615),
             "too many edges from line 18446744073709551615 on",
         ),
-        (GraphFault::ReadFault, "a read failed"),
         (GraphFault::TooLong, "too long"),
         (GraphFault::NoMemory, "out of memory"),
     ];

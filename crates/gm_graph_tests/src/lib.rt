@@ -4,6 +4,8 @@
 #[cfg(test)]
 mod arguments;
 #[cfg(test)]
+mod borders;
+#[cfg(test)]
 mod command_lines;
 #[cfg(test)]
 mod demos;

@@ -3,10 +3,10 @@
 ghost use Rattle.std.specs.Prelude.{◌≤◌, IfOk};
 ghost use Rattle.gm_loader.specs.GraphText.{HasColumns};
 
-use gm_base::{Items, MemSource};
+use gm_base::Items;
 use gm_graph::{Graph, Shape};
 use gm_loader::{GraphFault, Limits, parse_graph};
-use gm_mtx::{MtxFault, consume_mtx, load_mtx, parse_mtx};
+use gm_mtx::{MtxFault, consume_mtx};
 use gm_value::{VType, Value};
 use std::alloc::{AllocError, Global};
 use std::fmt::Write;
@@ -122,8 +122,7 @@ fn shape_of(alloc: Global, letters: (&str, &str)) -> Result<Shape, AllocError> {
     })
 }
 
-// What comes of a text, with columns of the types of some letters, by `parse_mtx`, by `consume_mtx` and by `load_mtx` from a
-// source that gives three bytes per read: the three must agree.
+// What comes of a text, with columns of the types of some letters.
 fn comes_of(
     rt: &(impl Abort + AllocGlobal),
     letters: (&str, &str),
@@ -137,18 +136,10 @@ fn comes_of(
     let nodes = shape.nodes.len();
     let edges = shape.edges.len();
     assert!(rt; nodes < 100 && edges < 100);
-    let parsed = parse_mtx(rt.alloc(), text, &shape, limits);
-    let parsed = outcome(rt.alloc(), parsed, 0, nodes as u32, edges as u32)?;
     let bytes = Vec::from_slice(rt.alloc(), text)?;
-    let consumed = consume_mtx(rt.alloc(), bytes, &shape, limits);
-    let consumed = outcome(rt.alloc(), consumed, 0, nodes as u32, edges as u32)?;
-    assert_eq!(rt; parsed.as_str(), consumed.as_str());
-    let bytes = Vec::from_slice(rt.alloc(), text)?;
-    let mut source = MemSource::new(bytes, 3, Vec::new(rt.alloc()));
-    let loaded = load_mtx(rt.alloc(), &mut source, &shape, limits);
-    let loaded = outcome(rt.alloc(), loaded, 0, nodes as u32, edges as u32)?;
-    assert_eq!(rt; parsed.as_str(), loaded.as_str());
-    Ok(parsed)
+    let answer = consume_mtx(rt.alloc(), bytes, &shape, limits);
+    let found = outcome(rt.alloc(), answer, 0, nodes as u32, edges as u32)?;
+    Ok(found)
 }
 
 // Reads texts and compares what comes of each.
@@ -592,31 +583,14 @@ fn edge_lists_give_the_same(rt: HostRuntime) -> Result<(), Fail> {
     assert!(rt; node_columns < 100 && edge_columns < 100);
     let listed = parse_graph(alloc, edges.as_bytes(), &shape, &AMPLE);
     let listed = edge_outcome(alloc, listed, node_columns as u32, edge_columns as u32)?;
-    let matrixed = parse_mtx(alloc, matrix.as_bytes(), &shape, &AMPLE);
+    let bytes = Vec::from_slice(alloc, matrix.as_bytes())?;
+    let matrixed = consume_mtx(alloc, bytes, &shape, &AMPLE);
     let matrixed = outcome(alloc, matrixed, 1, node_columns as u32, edge_columns as u32)?;
     assert_eq!(rt;
         listed.as_str(),
         "0:0 0>1/4 1>2/1;1:0 4>1/0;2:0 2>1/-2 3>1/-2;3:0;"
     );
     assert_eq!(rt; matrixed.as_str(), listed.as_str());
-    Ok(())
-}
-
-#[test]
-fn failed_reads_are_told(rt: HostRuntime) -> Result<(), Fail> {
-    let alloc = rt.alloc();
-    let shape = shape_of(alloc, ("", ""))?;
-    let text = "%%MatrixMarket matrix coordinate pattern general\n2 2 1\n1 2\n";
-    let node_columns = shape.nodes.len();
-    let edge_columns = shape.edges.len();
-    assert!(rt; node_columns < 100 && edge_columns < 100);
-    for call in [1, 2, 20] {
-        let bytes = Vec::from_slice(alloc, text.as_bytes())?;
-        let mut source = MemSource::new(bytes, 2, vec![in alloc; call]?);
-        let failed = load_mtx(alloc, &mut source, &shape, &AMPLE);
-        let failed = outcome(alloc, failed, 0, node_columns as u32, edge_columns as u32)?;
-        assert_eq!(rt; failed.as_str(), "ReadFault", "call {call}");
-    }
     Ok(())
 }
 
@@ -643,7 +617,6 @@ fn faults_say_what_and_where(rt: HostRuntime) -> Result<(), Fail> {
             MtxFault::TooManyEdges(18_446_744_073_709_551_615),
             "too many edges in line 18446744073709551615",
         ),
-        (MtxFault::ReadFault, "a read failed"),
         (MtxFault::TooLong, "too long"),
         (MtxFault::NoMemory, "out of memory"),
     ];

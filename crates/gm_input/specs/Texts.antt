@@ -43,12 +43,10 @@ graph_text (faults.NodeTwice number) = graph_line (codes "NodeTwice") number
 graph_text (faults.TooManyNodes number) = graph_line (codes "TooManyNodes") number
 graph_text (faults.TooManyEdges number) = graph_line (codes "TooManyEdges") number
 graph_text faults.TooLong = codes "graph TooLong" ++ line_end
-graph_text faults.ReadFault = []
 graph_text faults.NoMemory = []
 
 -- the faults that a text may have
 abbrev pub IsTextFault : GraphFault → Type 0
-IsTextFault faults.ReadFault = ⊥
 IsTextFault faults.NoMemory = ⊥
 IsTextFault _ = Unit {0}
 

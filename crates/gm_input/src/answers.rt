@@ -66,7 +66,7 @@ fn graph_line(alloc: Global, kind: &[u8], number: u64) -> Result<Vec<u8>, NoMemo
     Ok(text)
 }
 
-// The line for a fault of an edge list; a read that failed and want of memory have none.
+// The line for a fault of an edge list; want of memory has none.
 fn graph_text(alloc: Global, fault: GraphFault) -> Result<Vec<u8>, NoMemory>
     ensures { IfOk result (λ text. IsTextFault fault × (text.items ≡ graph_text_lem fault)) }
 {
@@ -78,7 +78,7 @@ fn graph_text(alloc: Global, fault: GraphFault) -> Result<Vec<u8>, NoMemory>
         GraphFault::TooManyNodes(number) => graph_line(alloc, b"TooManyNodes", number),
         GraphFault::TooManyEdges(number) => graph_line(alloc, b"TooManyEdges", number),
         GraphFault::TooLong => Ok(Vec::from_slice(alloc, b"graph TooLong\n")?),
-        GraphFault::ReadFault | GraphFault::NoMemory => Err(NoMemory),
+        GraphFault::NoMemory => Err(NoMemory),
     }
 }
 
@@ -92,7 +92,7 @@ pub fn bad_graph(alloc: Global, fault: GraphFault) -> Result<Answer, NoMemory>
     })
 }
 
-// The line for a fault of a Matrix Market text; a read that failed and want of memory have none.
+// The line for a fault of a Matrix Market text; want of memory has none.
 fn matrix_text(alloc: Global, fault: MtxFault) -> Result<Vec<u8>, NoMemory>
     ensures { IfOk result (λ text. IsMatrixTextFault fault × (text.items ≡ mtx_text fault)) }
 {
@@ -106,7 +106,7 @@ fn matrix_text(alloc: Global, fault: MtxFault) -> Result<Vec<u8>, NoMemory>
         MtxFault::TooManyNodes(number) => graph_line(alloc, b"TooManyNodes", number),
         MtxFault::TooManyEdges(number) => graph_line(alloc, b"TooManyEdges", number),
         MtxFault::TooLong => Ok(Vec::from_slice(alloc, b"graph TooLong\n")?),
-        MtxFault::ReadFault | MtxFault::NoMemory => Err(NoMemory),
+        MtxFault::NoMemory => Err(NoMemory),
     }
 }
 

@@ -20,7 +20,7 @@ use crate::halts::{Halt, answered};
 use crate::names::{NameStop, are_input, read_named};
 use gm_base::{Files, NoMemory, Source, Text};
 use gm_graph::{Graph, Shape};
-use gm_loader::parse_graph;
+use gm_loader::consume_graph;
 use gm_mtx::consume_mtx;
 use gm_value::Value;
 use gm_words::{Format, Input, bind};
@@ -147,12 +147,12 @@ pub fn read_graph<S: Source, F: Files>(
 }
 
 // The graph of an edge list, or the answer that says what is wrong with it.
-fn listed_graph(alloc: Global, text: &[u8], shape: &Shape) -> Result<Graph, Halt>
-    ensures graph { IfOk result (IsGraphOf edge_list shape.now text.now) }
+fn listed_graph(alloc: Global, text: Vec<u8>, shape: &Shape) -> Result<Graph, Halt>
+    ensures graph { IfOk result (IsGraphOf edge_list shape.now text.items) }
     ensures columns { IfOk result (HasColumns (length shape.now.nodes) (length shape.now.edges)) }
-    ensures halt { IfErr result (λ halt. IfAnswered halt (λ a. SaysBadGraph edge_list shape.now text.now a.text.items a.status)) }
+    ensures halt { IfErr result (λ halt. IfAnswered halt (λ a. SaysBadGraph edge_list shape.now text.items a.text.items a.status)) }
 {
-    match parse_graph(alloc, text, shape, &GRAPH_LIMITS) {
+    match consume_graph(alloc, text, shape, &GRAPH_LIMITS) {
         Ok(graph) => Ok(graph),
         Err(fault) => Err(answered(bad_graph(alloc, fault))),
     }
@@ -178,7 +178,7 @@ pub fn graph_of(alloc: Global, format: Format, text: Vec<u8>, shape: &Shape) -> 
     ensures halt { IfErr result (λ halt. IfAnswered halt (λ a. SaysBadGraph (format_of format) shape.now text.items a.text.items a.status)) }
 {
     match format {
-        Format::Edges => listed_graph(alloc, &text, shape),
+        Format::Edges => listed_graph(alloc, text, shape),
         Format::Mtx => matrix_graph(alloc, text, shape),
     }
 }

@@ -64,23 +64,29 @@ distinct-push (x ∷ xs) n =
     ∙ ap (λ b. cond (among x xs) (length (distinct xs)) (length (distinct xs) + 1) + cond (b || among n xs) 0 1) (eqb_swap n x)
     ∙ ap (λ k. k + cond (eqb x n || among n xs) 0 1) (sym (length_cond (among x xs) (distinct xs) x))
 
+-- what `insert` says
+pub record Inserts (old new : NumberSet) (n : ℕ) (added : Bool) : Type 0 where
+  pub is_new : added ≡ not (has old n)
+  pub members : (k : ℕ) → has new k ≡ (eqb n k || has old k)
+  pub count : new.count ≡ min (old.count + cond added 1 0) 18446744073709551615
+
 -- a set with one number more
-added_count : (b : Bool) (added : Bool) (old new k : ℕ) → old ≡ k → k < 8589934592 → added ≡ not b → new ≡ min (old + cond added 1 0) 18446744073709551615 → new ≡ k + cond b 0 1
-added_count true added old new k e small a h = h ∙ rw a (omega (arith, e, small))
-added_count false added old new k e small a h = h ∙ rw a (omega (arith, e, small))
+added_count : (b : Bool) (added : Bool) (old new k : ℕ) → old ≡ min k 18446744073709551615 → added ≡ not b → new ≡ min (old + cond added 1 0) 18446744073709551615 → new ≡ min (k + cond b 0 1) 18446744073709551615
+added_count true added old new k e a h = h ∙ rw a (omega (arith, e))
+added_count false added old new k e a h = h ∙ rw a (omega (arith, e))
 
 pub HasEach-push : (numbers : List ℕ) (old new : NumberSet) (n : ℕ) → HasEach numbers old → ((k : ℕ) → has new k ≡ (eqb n k || has old k)) → HasEach (numbers ++ n ∷ []) new
 HasEach-push numbers old new n s members = λ k. members k ∙ ap (λ b. eqb n k || b) (s k) ∙ sym (among-push k numbers n)
 
-pub IsSetOf-push : (numbers : List ℕ) (old new : NumberSet) (n : ℕ) (added : Bool) → IsSetOf numbers old → length (distinct numbers) < 8589934592
+pub IsSetOf-push : (numbers : List ℕ) (old new : NumberSet) (n : ℕ) (added : Bool) → IsSetOf numbers old
     → added ≡ not (has old n) → ((k : ℕ) → has new k ≡ (eqb n k || has old k)) → new.count ≡ min (old.count + cond added 1 0) 18446744073709551615
     → IsSetOf (numbers ++ n ∷ []) new
-IsSetOf-push numbers old new n added s small a members count = record {
+IsSetOf-push numbers old new n added s a members count = record {
   members = HasEach-push numbers old new n s.members members;
   count =
-      added_count (has old n) added old.count new.count (length (distinct numbers)) s.count small a count
-      ∙ ap (λ b. length (distinct numbers) + cond b 0 1) (s.members n)
-      ∙ sym (distinct-push numbers n);
+      added_count (has old n) added old.count new.count (length (distinct numbers)) s.count a count
+      ∙ ap (λ b. min (length (distinct numbers) + cond b 0 1) 18446744073709551615) (s.members n)
+      ∙ sym (ap (λ k. min k 18446744073709551615) (distinct-push numbers n));
 }
 
 -- the numbers but one

@@ -1,5 +1,6 @@
 pub mod Fields
 pub mod Lines
+pub mod Quick
 pub mod GraphText
 pub mod Sets
 pub mod Tables

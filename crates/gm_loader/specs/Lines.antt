@@ -43,6 +43,12 @@ node_line types parts = do
   values ← values_in types (drop 1 parts)
   Ok (NodeLine number values)
 
+-- an edge whose nodes were read, with the values that further fields spell
+abbrev pub edge_with : List VType → ℕ → ℕ → List (List ℕ) → Result Line LineFault
+edge_with types from to parts = do
+  values ← values_in types parts
+  Ok (EdgeLine from to values)
+
 -- an edge: the numbers of the nodes from which and to which it leads, then its values
 abbrev pub edge_line : List VType → List (List ℕ) → Result Line LineFault
 edge_line types parts = do

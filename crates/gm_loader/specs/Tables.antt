@@ -1,5 +1,5 @@
 -- What the parts of the loader say of one another.
-use Rattle.std.specs.Prelude.{◌≡◌, ◌≢◌, ◌≤◌, ℕ, ⊤, min, ℤ, pos, negsuc, List, [], ◌∷◌, ◌++◌, map, Result, Ok, Err, IsOkAnd, AllPairs}
+use Rattle.std.specs.Prelude.{◌≡◌, ◌≢◌, ◌≤◌, ℕ, ⊤, min, ℤ, pos, negsuc, List, [], ◌∷◌, ◌++◌, length, map, Result, Ok, Err, IsOkAnd, AllPairs}
 use Rattle.std.specs.Str.Lines.{lines}
 use Rattle.gm_fields.specs.Fields.{number_in}
 use Rattle.gm_value.specs.declared.values.Value.{Value}
@@ -16,7 +16,7 @@ use Rattle.gm_loader.specs.declared.tables.Tables.{Tables}
 use Rattle.gm_loader.specs.Fields.{node_number, value_in}
 use Rattle.gm_loader.specs.Lines.{Line, ◌>>=◌, line_of}
 use Rattle.gm_loader.specs.GraphText.{edge_rows, node_rows, numbers_on, node_count, edge_count, columns_of, judged, lines_after}
-use Rattle.gm_loader.specs.Sets.{HasEach, IsSetOf}
+use Rattle.gm_loader.specs.Sets.{HasEach, Counts}
 
 -- the types of whole numbers
 abbrev pub IsWholeType : VType → Type 0
@@ -69,7 +69,7 @@ pub record Holds (shape : Shape) (limits : Limits) (before : List Line) (tables 
   pub edge_columns : tables.edge_columns.items ≡ columns_of shape.edges (map (λ e. e.values) (edge_rows before))
   pub extra : tables.extra.items ≡ map (λ r. r.number) (node_rows before)
   pub node_columns : tables.node_columns.items ≡ columns_of shape.nodes (map (λ r. r.values) (node_rows before))
-  pub seen : IsSetOf (numbers_on before) tables.seen
+  pub seen : Counts limits.nodes (numbers_on before) tables.seen
   pub listed : HasEach (map (λ r. r.number) (node_rows before)) tables.listed
   pub distinct_nodes : AllPairs (λ m n. m ≢ n) (map (λ r. r.number) (node_rows before))
   pub few_nodes : node_count before ≤ limits.nodes
@@ -81,8 +81,27 @@ Takes shape limits before line tables (Ok done) =
     IsOkAnd (judged limits before line) (λ sound. Holds shape limits (before ++ sound ∷ []) tables)
 Takes shape limits before line tables (Err stop) = IfFault stop (λ e. judged limits before line ≡ Err e)
 
+-- the first line of a text was taken into the tables, or has the fault that stopped it; more lines are behind it
+pub record TakesFirst (limits : Limits) (text : List ℕ) (more : List (List ℕ)) (old new : Tables) (answer : Result (Unit {0}) LineStop) : Type 0 where
+  pub line : List ℕ
+  pub first : lines text ≡ line ∷ more
+  pub takes : (shape : Shape) (before : List Line) → Holds shape limits before old → Takes shape limits before (line_of shape line) new answer
+
 -- the tables hold what the lines of a text give, none of which has a fault
 pub record HoldsLines (shape : Shape) (limits : Limits) (text : List ℕ) (tables : Tables) : Type 0 where
   pub sound_lines : List Line
   pub no_fault : lines_after limits [] (map (line_of shape) (lines text)) ≡ Ok sound_lines
   pub held : Holds shape limits sound_lines tables
+
+-- and the text has no more bytes than the limit
+pub record HoldsText (shape : Shape) (limits : Limits) (text : List ℕ) (tables : Tables) : Type 0 where
+  pub held_lines : HoldsLines shape limits text tables
+  pub fits : length text ≤ limits.bytes
+
+-- the tables hold what some lines give, within limits that a graph may have
+pub record HoldsSome (shape : Shape) (tables : Tables) : Type 0 where
+  pub limits : Limits
+  pub before : List Line
+  pub held : Holds shape limits before tables
+  pub few_nodes : limits.nodes ≤ 2147483647
+  pub few_edges : limits.edges ≤ 2147483647

@@ -3,10 +3,10 @@
 ghost use Rattle.std.specs.Prelude.{◌≡◌};
 ghost use Rattle.gm_loader.specs.declared.faults.LineStop.TheVariants.{Fault, NoMemory as stop_no_memory};
 ghost use Rattle.gm_loader.specs.GraphText.{at_line};
-ghost use Rattle.gm_loader.specs.Loads.{stop_at_line, stopped};
+ghost use Rattle.gm_loader.specs.Loads.{stop_at_line};
 ghost use Rattle.gm_loader.specs.declared.faults.GraphFault.TheVariants.{NoMemory};
 
-use gm_base::{NoMemory, ReadStop};
+use gm_base::NoMemory;
 use std::alloc::{AllocError, AllocFailed};
 use std::error::Error;
 use std::fmt;
@@ -26,8 +26,6 @@ pub enum GraphFault {
     TooManyNodes(u64),
     /// There are more edges than the limit.
     TooManyEdges(u64),
-    /// A read failed.
-    ReadFault,
     /// There are more bytes than the limit.
     TooLong,
     /// There was not enough memory.
@@ -43,7 +41,6 @@ impl fmt::Display for GraphFault {
             GraphFault::NodeTwice(line) => write!(f, "a second line of one node in line {line}"),
             GraphFault::TooManyNodes(line) => write!(f, "too many nodes from line {line} on"),
             GraphFault::TooManyEdges(line) => write!(f, "too many edges from line {line} on"),
-            GraphFault::ReadFault => write!(f, "a read failed"),
             GraphFault::TooLong => write!(f, "too long"),
             GraphFault::NoMemory => write!(f, "out of memory"),
         }
@@ -65,18 +62,6 @@ impl From<NoMemory> for GraphFault {
 
     fn from(_error: NoMemory) -> GraphFault {
         GraphFault::NoMemory
-    }
-}
-
-impl From<ReadStop> for GraphFault {
-    ghost from_gives = { λ stop f. f ≡ stopped stop };
-
-    fn from(stop: ReadStop) -> GraphFault {
-        match stop {
-            ReadStop::Failed => GraphFault::ReadFault,
-            ReadStop::TooLong => GraphFault::TooLong,
-            ReadStop::NoMemory => GraphFault::NoMemory,
-        }
     }
 }
 

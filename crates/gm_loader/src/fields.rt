@@ -29,7 +29,7 @@ pub fn node_number(field: &[u8]) -> Result<u64, LineFault>
     }
 }
 
-// The first byte of a field, or 0.
+/// The first byte of a field, or 0.
 pub fn first_byte(field: &[u8]) -> u8
     ensures { result ≡ slice_index field.now 0 }
 {
@@ -39,8 +39,8 @@ pub fn first_byte(field: &[u8]) -> u8
     }
 }
 
-// The whole number that a field spells, if it spells one; far ones are brought near.
-fn whole_in(field: &[u8]) -> Option<i128>
+/// The whole number that a field spells, if it spells one; a number past 64 bits is brought down to the greatest of these.
+pub fn whole_in(field: &[u8]) -> Option<i128>
     ensures { result ≡ option_map clipped (whole_in field.now) }
 {
     if first_byte(field) == b'-' {
@@ -77,8 +77,8 @@ pub fn is_word(field: &[u8], word: &[u8]) -> bool
     field == word
 }
 
-// The truth value that a field spells.
-fn flag_in(field: &[u8]) -> Option<bool>
+/// The truth value that a field spells.
+pub fn flag_in(field: &[u8]) -> Option<bool>
     ensures { result ≡ flag_in field.now }
 {
     if is_word(field, b"0") || is_word(field, b"false") || is_word(field, b"False") {

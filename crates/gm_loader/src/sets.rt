@@ -1,7 +1,7 @@
 //! Sets of node numbers.
 
-ghost use Rattle.std.specs.Prelude.{◌≡◌, ◌≤◌, ◌<◌, ◌+◌, ◌==◌, ◌||◌, ℕ, false, not, min, if◌then◌else◌, IfOk, OnOk, slice_index_or, vec_len};
-ghost use Rattle.gm_loader.specs.Sets.{has, flag_count};
+ghost use Rattle.std.specs.Prelude.{◌≡◌, ◌≤◌, ◌<◌, ◌+◌, ◌++◌, ◌==◌, ◌||◌, ℕ, List, false, not, min, if◌then◌else◌, IfOk, OnOk, slice_index_or, vec_len};
+ghost use Rattle.gm_loader.specs.Sets.{has, IsSetOf};
 
 use gm_base::NoMemory;
 use std::alloc::Global;
@@ -75,5 +75,15 @@ impl NumberSet {
             self.count = count.saturating_add(1);
         }
         Ok(added)
+    }
+
+    // Puts numbers into the set.
+    pub fn insert_all(&mut self, numbers: &[u64]) -> Result<(), NoMemory>
+        ensures { OnOk result ((before : List ℕ) → IsSetOf before self.old → IsSetOf (before ++ numbers.now) self.new) }
+    {
+        for number in numbers {
+            self.insert(*number)?;
+        }
+        Ok(())
     }
 }

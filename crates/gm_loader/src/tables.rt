@@ -1,25 +1,28 @@
 //! The tables that are filled line by line.
 
-ghost use Rattle.std.specs.Prelude.{◌≡◌, ◌∷◌, ◌++◌, [], ℕ, List, drop, MatchResult, IfOk, IfErr, OnOk, Ok, Err};
+ghost use Rattle.std.specs.Prelude.{◌≡◌, ◌<◌, ◌∷◌, [], ℕ, List, IfOk, IfErr, OnOk, Ok, Err, length};
+ghost use Rattle.std.specs.Str.Lines.{lines};
 ghost use Rattle.gm_graph.specs.declared.builds.Shape.{Shape as ShapeValue};
 ghost use Rattle.gm_loader.specs.declared.limits.Limits.{Limits as LimitsValue};
 ghost use Rattle.gm_fields.specs.Fields.{fields};
-ghost use Rattle.gm_loader.specs.Lines.{Line, first_number, node_line, edge_line, line_of};
+ghost use Rattle.gm_loader.specs.Lines.{Line, first_number, node_line, edge_line, edge_with, line_of};
 ghost use Rattle.gm_loader.specs.GraphText.{columns_of, raw_of};
-ghost use Rattle.gm_loader.specs.Tables.{IfFault, Holds, Takes, ReadsValue, ReadsNumber, row_added};
+ghost use Rattle.gm_loader.specs.Tables.{IfFault, Holds, Takes, TakesFirst, ReadsValue, ReadsNumber, row_added};
 
+use crate::counts::NodeCount;
 use crate::faults::{LineFault, LineStop};
 use crate::fields::{first_byte, is_word, node_number, value_in};
 use crate::limits::Limits;
+use crate::quick::ends_of;
 use crate::sets::NumberSet;
 use gm_base::{Items, NoMemory};
-use gm_fields::cut_field;
+use gm_fields::{cut_field, cut_line};
 use gm_graph::{Column, RawGraph, Shape};
 use gm_value::VType;
 use std::alloc::{AllocError, Global};
 
 // What was read so far: the edges by their node numbers, the nodes that have lines of their own, the values of
-// both, and the sets of all numbers and of the numbers with lines of their own.
+// both, the count of all numbers, and the set of the numbers with lines of their own.
 #[derive(Drop)]
 pub struct Tables {
     pub from: Vec<u64>,
@@ -27,12 +30,12 @@ pub struct Tables {
     pub edge_columns: Vec<Column>,
     pub extra: Vec<u64>,
     pub node_columns: Vec<Column>,
-    pub seen: NumberSet,
+    pub seen: NodeCount,
     pub listed: NumberSet,
 }
 
-// A column without rows for each type.
-fn empty_columns(alloc: Global, types: &[VType]) -> Result<Vec<Column>, AllocError>
+/// A column without rows for each type.
+pub fn empty_columns(alloc: Global, types: &[VType]) -> Result<Vec<Column>, AllocError>
     ensures { IfOk result (λ columns. columns.items ≡ columns_of types.now []) }
 {
     let mut columns = Vec::new(alloc);
@@ -90,9 +93,27 @@ impl Tables {
             edge_columns: empty_columns(alloc, shape.edges.as_slice())?,
             extra: Vec::new(alloc),
             node_columns: empty_columns(alloc, shape.nodes.as_slice())?,
-            seen: NumberSet::new(alloc),
+            seen: NodeCount::new(alloc),
             listed: NumberSet::new(alloc),
         })
+    }
+
+    // Takes in an edge from a node number to a node number: `text` has its values.
+    fn add_edge(&mut self, limits: &Limits, from: u64, to: u64, text: &[u8]) -> Result<(), LineStop>
+        ensures { (shape : ShapeValue) (before : List Line) → Holds shape limits.now before self.old
+            → Takes shape limits.now before (edge_with shape.edges from to (fields text.now)) self.new result }
+    {
+        read_values(&mut self.edge_columns, text)?;
+        self.from.push(from)?;
+        self.to.push(to)?;
+        self.seen.add(limits.nodes, (from, to), &self.from, &self.to, &self.extra)?;
+        if self.seen.exceeds(limits.nodes) {
+            return Err(LineStop::Fault(LineFault::TooManyNodes));
+        }
+        if self.from.len() > limits.edges as usize {
+            return Err(LineStop::Fault(LineFault::TooManyEdges));
+        }
+        Ok(())
     }
 
     // Takes in an edge line: `text` begins with its fields.
@@ -102,18 +123,7 @@ impl Tables {
     {
         let (from, rest) = read_number(text)?;
         let (to, rest) = read_number(rest)?;
-        read_values(&mut self.edge_columns, rest)?;
-        self.seen.insert(from)?;
-        self.seen.insert(to)?;
-        self.from.push(from)?;
-        self.to.push(to)?;
-        if self.seen.count > u64::from(limits.nodes) {
-            return Err(LineStop::Fault(LineFault::TooManyNodes));
-        }
-        if self.from.len() > limits.edges as usize {
-            return Err(LineStop::Fault(LineFault::TooManyEdges));
-        }
-        Ok(())
+        self.add_edge(limits, from, to, rest)
     }
 
     // Takes in a node line: `text` begins with its fields behind the first.
@@ -126,16 +136,22 @@ impl Tables {
         if !self.listed.insert(number)? {
             return Err(LineStop::Fault(LineFault::NodeTwice));
         }
-        self.seen.insert(number)?;
         self.extra.push(number)?;
-        if self.seen.count > u64::from(limits.nodes) {
+        self.seen.add(
+            limits.nodes,
+            (number, number),
+            &self.from,
+            &self.to,
+            &self.extra,
+        )?;
+        if self.seen.exceeds(limits.nodes) {
             return Err(LineStop::Fault(LineFault::TooManyNodes));
         }
         Ok(())
     }
 
-    // Takes in the next line.
-    pub fn take_line(&mut self, limits: &Limits, line: &[u8]) -> Result<(), LineStop>
+    // Takes in a line.
+    fn take_line(&mut self, limits: &Limits, line: &[u8]) -> Result<(), LineStop>
         ensures { (shape : ShapeValue) (before : List Line) → Holds shape limits.now before self.old
             → Takes shape limits.now before (line_of shape line.now) self.new result }
     {
@@ -149,6 +165,31 @@ impl Tables {
             self.take_node(limits, rest)
         } else {
             self.take_edge(limits, line)
+        }
+    }
+
+    // Takes in the first line of a text that is not empty, and answers the text behind it.
+    pub fn take_first_line<'a>(
+        &mut self,
+        limits: &Limits,
+        text: &'a [u8],
+    ) -> Result<&'a [u8], LineStop>
+        requires { 0 < length text.now }
+        ensures taken { IfOk result (λ behind. TakesFirst limits.now text.now (lines behind.now) self.old self.new (Ok tt)) }
+        ensures shorter { IfOk result (λ behind. length behind.now < length text.now) }
+        ensures stopped { IfErr result (λ stop. (more : List (List ℕ)) × TakesFirst limits.now text.now more self.old self.new (Err stop)) }
+    {
+        if let Some(ends) = ends_of(text) {
+            let (line, behind) = cut_line(ends.rest);
+            return match self.add_edge(limits, ends.from, ends.to, line) {
+                Ok(()) => Ok(behind),
+                Err(stop) => Err(stop),
+            };
+        }
+        let (line, behind) = cut_line(text);
+        match self.take_line(limits, line) {
+            Ok(()) => Ok(behind),
+            Err(stop) => Err(stop),
         }
     }
 

@@ -1,11 +1,10 @@
 -- A text that is read line by line.
 use Rattle.std.proofs.Common.{◌≡◌, ◌≤◌, ◌<◌, ◌+◌, ℕ, zero, suc, true, false, cond, List, [], ◌∷◌, ◌++◌, length, ltb, refl, ap, sym, ◌∙◌, arith}
-use Rattle.std.specs.Prelude.{Result, Ok, Err, IsOkAnd, Option, Some, None}
+use Rattle.std.specs.Prelude.{Result, Ok, Err, IsOkAnd}
 use Rattle.std.specs.List.{range_with_len}
 use Rattle.std.specs.Str.Lines.{lines}
 use Rattle.std.proofs.lemmas.Bool.Decides.{nat_tests}
 use Rattle.std.proofs.lemmas.List.{length-map}
-use Rattle.gm_base.specs.Streams.{ReadsAll}
 use Rattle.gm_fields.specs.Fields.{fields}
 use Rattle.gm_value.specs.declared.values.VType.{VType}
 use Rattle.gm_loader.specs.declared.limits.Limits.{Limits}
@@ -79,11 +78,6 @@ read_all_entries types kind size number text rest last tables r none enough =
       no_fault = read_whole types kind size (number + 1) text rest last tables r none ∙ ap (λ b. cond b (Err (fault.CountDiffers last)) (Ok r.before)) full;
       held = r.held;
     }
-
--- a whole text has no more bytes than the limit
-pub reads_len : (before after : Option (List ℕ)) (text : List ℕ) (limit : ℕ) → ReadsAll before after text limit → length text ≤ limit
-reads_len None after text limit r = r.1
-reads_len (Some left) after text limit r = rw r.1 r.2
 
 -- the numbers of nodes with one more
 range_last : (a n j : ℕ) → a + n ≡ j → range_with_len a (suc n) ≡ range_with_len a n ++ j ∷ []

@@ -18,11 +18,9 @@ mtx_text (fault.CountDiffers number) = fault_line (codes "CountDiffers") number
 mtx_text (fault.TooManyNodes number) = fault_line (codes "TooManyNodes") number
 mtx_text (fault.TooManyEdges number) = fault_line (codes "TooManyEdges") number
 mtx_text fault.TooLong = codes "graph TooLong" ++ 10 ∷ []
-mtx_text fault.ReadFault = []
 mtx_text fault.NoMemory = []
 
 -- the faults that a text may have
 abbrev pub IsTextFault : MtxFault → Type 0
-IsTextFault fault.ReadFault = ⊥
 IsTextFault fault.NoMemory = ⊥
 IsTextFault _ = Unit {0}

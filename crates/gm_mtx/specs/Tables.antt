@@ -1,9 +1,8 @@
 -- What the parts of the reader say of one another.
-use Rattle.std.specs.Prelude.{◌≡◌, ◌≤◌, ◌+◌, ℕ, ⊤, min, ℤ, pos, negsuc, List, [], ◌∷◌, ◌++◌, length, map, Option, Result, Ok, Err, IsOkAnd}
+use Rattle.std.specs.Prelude.{◌≡◌, ◌≤◌, ◌+◌, ℕ, ⊤, List, [], ◌∷◌, ◌++◌, length, map, Option, Result, Ok, Err, IsOkAnd}
 use Rattle.std.specs.Str.Lines.{lines}
 use Rattle.gm_fields.specs.Fields.{number_in}
 use Rattle.gm_value.specs.declared.values.VType.{VType}
-use Rattle.gm_value.specs.declared.values.VType.TheVariants.{I32, I64, Flag, Node}
 use Rattle.gm_value.specs.declared.values.Value.{Value}
 use Rattle.gm_graph.specs.declared.builds.Shape.{Shape}
 use Rattle.gm_graph.specs.Columns.{TypedRow}
@@ -23,18 +22,6 @@ use Rattle.gm_mtx.specs.MatrixMarket.{Entry, at_line, size_line, values_in, entr
 abbrev pub stop_at_line : ℕ → LineStop → MtxFault
 stop_at_line k (Fault e) = at_line k e
 stop_at_line k NoMemory = fault.NoMemory
-
--- the types of whole numbers
-abbrev pub IsWholeType : VType → Type 0
-IsWholeType I32 = ⊤
-IsWholeType I64 = ⊤
-IsWholeType Flag = ⊥
-IsWholeType Node = ⊥
-
--- a whole number, with those of more than 64 bits brought near
-abbrev pub clipped : ℤ → ℤ
-clipped (pos n) = pos (min 18446744073709551615 n)
-clipped (negsuc n) = negsuc (min 18446744073709551614 n)
 
 -- a number was read from the first of some fields, as it is judged, and more fields are behind it
 pub record Reads (judged : Option ℕ → Result ℕ LineFault) (parts : List (List ℕ)) (number : ℕ) (more : List (List ℕ)) : Type 0 where

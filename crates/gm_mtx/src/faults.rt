@@ -2,12 +2,11 @@
 
 ghost use Rattle.std.specs.Prelude.{◌≡◌};
 ghost use Rattle.gm_mtx.specs.MatrixMarket.{at_line};
-ghost use Rattle.gm_mtx.specs.Loads.{stopped};
 ghost use Rattle.gm_mtx.specs.Tables.{stop_at_line};
 ghost use Rattle.gm_mtx.specs.declared.faults.LineStop.TheVariants.{Fault, NoMemory as stop_no_memory};
 ghost use Rattle.gm_mtx.specs.declared.faults.MtxFault.TheVariants.{NoMemory};
 
-use gm_base::{NoMemory, ReadStop};
+use gm_base::NoMemory;
 use std::alloc::{AllocError, AllocFailed};
 use std::error::Error;
 use std::fmt;
@@ -31,8 +30,6 @@ pub enum MtxFault {
     TooManyNodes(u64),
     /// There are more edges than the limit.
     TooManyEdges(u64),
-    /// A read failed.
-    ReadFault,
     /// There are more bytes than the limit.
     TooLong,
     /// There was not enough memory.
@@ -53,7 +50,6 @@ impl fmt::Display for MtxFault {
             MtxFault::CountDiffers(line) => write!(f, "another number of entries at line {line}"),
             MtxFault::TooManyNodes(line) => write!(f, "too many nodes in line {line}"),
             MtxFault::TooManyEdges(line) => write!(f, "too many edges in line {line}"),
-            MtxFault::ReadFault => write!(f, "a read failed"),
             MtxFault::TooLong => write!(f, "too long"),
             MtxFault::NoMemory => write!(f, "out of memory"),
         }
@@ -75,18 +71,6 @@ impl From<NoMemory> for MtxFault {
 
     fn from(_error: NoMemory) -> MtxFault {
         MtxFault::NoMemory
-    }
-}
-
-impl From<ReadStop> for MtxFault {
-    ghost from_gives = { λ stop f. f ≡ stopped stop };
-
-    fn from(stop: ReadStop) -> MtxFault {
-        match stop {
-            ReadStop::Failed => MtxFault::ReadFault,
-            ReadStop::TooLong => MtxFault::TooLong,
-            ReadStop::NoMemory => MtxFault::NoMemory,
-        }
     }
 }
 

@@ -1,14 +1,16 @@
 //! The words, numbers and values that fields spell.
 
-ghost use Rattle.std.specs.Prelude.{◌≡◌, ◌≤◌, IfOk, IfErr, Ok, Err, option_map, slice_index};
-ghost use Rattle.std.specs.Str.{bytes_eq, str_eq_ignore_ascii_case};
+ghost use Rattle.std.specs.Prelude.{◌≡◌, ◌≤◌, IfOk, IfErr, Ok, Err};
+ghost use Rattle.std.specs.Str.{str_eq_ignore_ascii_case};
 ghost use Rattle.gm_fields.specs.Fields.{fields, number_in};
-ghost use Rattle.gm_loader.specs.Fields.{whole_in, flag_in};
+ghost use Rattle.gm_loader.specs.Fields.{whole_in};
+ghost use Rattle.gm_loader.specs.Tables.{IsWholeType};
 ghost use Rattle.gm_mtx.specs.Fields.{size_number, index_number, first_number, whole_value, value_in};
-ghost use Rattle.gm_mtx.specs.Tables.{IsWholeType, Reads, clipped};
+ghost use Rattle.gm_mtx.specs.Tables.{Reads};
 
 use crate::faults::LineFault;
 use gm_fields::{cut_field, number_in};
+use gm_loader::{flag_in, whole_in};
 use gm_value::{VType, Value};
 
 // The greatest number of a size line.
@@ -19,16 +21,6 @@ pub fn is_word(field: &[u8], word: &[u8]) -> bool
     ensures { result ≡ str_eq_ignore_ascii_case field.now word.now }
 {
     field.eq_ignore_ascii_case(word)
-}
-
-// The first byte of a field, or 0.
-pub fn first_byte(field: &[u8]) -> u8
-    ensures { result ≡ slice_index field.now 0 }
-{
-    match field {
-        [first, ..] => *first,
-        [] => 0,
-    }
 }
 
 // The number of the size line that a field spells.
@@ -87,23 +79,6 @@ pub fn read_index<'a>(most: u32, text: &'a [u8]) -> Result<(u64, &'a [u8]), Line
     Ok((number, rest))
 }
 
-// The whole number that a field spells, if it spells one; far ones are brought near.
-fn whole_in(field: &[u8]) -> Option<i128>
-    ensures { result ≡ option_map clipped (whole_in field.now) }
-{
-    if first_byte(field) == b'-' {
-        match number_in(&field[1..]) {
-            Some(number) => Some(-i128::from(number)),
-            None => None,
-        }
-    } else {
-        match number_in(field) {
-            Some(number) => Some(i128::from(number)),
-            None => None,
-        }
-    }
-}
-
 // The value of a type of whole numbers that a field spells.
 fn whole_value(vtype: VType, field: &[u8]) -> Result<Value, LineFault>
     requires { IsWholeType vtype }
@@ -116,26 +91,6 @@ fn whole_value(vtype: VType, field: &[u8]) -> Result<Value, LineFault>
             Err(_) => Err(LineFault::OutOfRange),
         },
     }
-}
-
-// Whether a field is just these bytes.
-fn is_exactly(field: &[u8], word: &[u8]) -> bool
-    ensures { result ≡ bytes_eq field.now word.now }
-{
-    field == word
-}
-
-// The truth value that a field spells.
-fn flag_in(field: &[u8]) -> Option<bool>
-    ensures { result ≡ flag_in field.now }
-{
-    if is_exactly(field, b"0") || is_exactly(field, b"false") || is_exactly(field, b"False") {
-        return Some(false);
-    }
-    if is_exactly(field, b"1") || is_exactly(field, b"true") || is_exactly(field, b"True") {
-        return Some(true);
-    }
-    None
 }
 
 // The value of a type that a field spells.

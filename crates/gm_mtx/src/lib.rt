@@ -16,4 +16,4 @@ mod tables;
 
 pub use faults::MtxFault;
 pub use laws::rows_are_worked;
-pub use loads::{consume_mtx, load_mtx, parse_mtx};
+pub use loads::consume_mtx;

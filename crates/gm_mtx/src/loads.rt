@@ -2,31 +2,19 @@
 
 ghost use Rattle.std.specs.Prelude.{◌≡◌, ◌≢◌, ◌≤◌, IfOk, IfErr, Err, length};
 ghost use Rattle.std.specs.Str.Lines.{lines};
-ghost use Rattle.gm_base.specs.Streams.{Rises, ReadsPast};
 ghost use Rattle.gm_loader.specs.GraphText.{HasColumns};
 ghost use Rattle.gm_mtx.specs.MatrixMarket.{matrix_in, matrix_of, StandsFor};
-ghost use Rattle.gm_mtx.specs.Loads.{LoadsGraph, LoadsFault, IsLineFault};
+ghost use Rattle.gm_mtx.specs.Loads.{IsLineFault};
 ghost use Rattle.gm_mtx.specs.Tables.{HoldsMatrix};
 
 use crate::faults::MtxFault;
 use crate::headers::header_in;
 use crate::sizes::{Size, find_size};
 use crate::tables::{Tables, read_entries};
-use gm_base::{Items, Source, read_all};
 use gm_fields::cut_line;
 use gm_graph::{Graph, Shape, build};
-use gm_loader::Limits;
-use std::alloc::{AllocError, Global};
-
-// A shape like another.
-fn shape_like(alloc: Global, shape: &Shape) -> Result<Shape, AllocError>
-    ensures { IfOk result (λ copy. copy ≡ shape.now) }
-{
-    Ok(Shape {
-        nodes: Items::new(Vec::from_slice(alloc, shape.nodes.as_slice())?),
-        edges: Items::new(Vec::from_slice(alloc, shape.edges.as_slice())?),
-    })
-}
+use gm_loader::{Limits, shape_like};
+use std::alloc::Global;
 
 // A matrix that was read: its size and its entries.
 #[derive(Drop)]
@@ -65,43 +53,14 @@ fn read_matrix(
 /// more bytes than the limit. The limits on nodes and edges are at most 2,147,483,647.
 ///
 /// The nodes are 1 to the greater of rows and columns, with 0 or False in each node column. An entry is an edge from its
-/// row to its column; the first edge column takes its value.
+/// row to its column; the first edge column takes its value. The text is let go as soon as its lines are read, so that it
+/// adds nothing to the memory that the making of the graph takes.
 ///
 /// # Errors
 ///
 /// The faults of lines with the number of the line, from 1: the fields of a line are judged from left to right, then
 /// whether the entry is one too many, then, at the size line, the limits on nodes and on edges. Where entries are
-/// missing, `CountDiffers` has the number of the line behind the last. `TooLong` comes before all of these. There is no
-/// `ReadFault`.
-pub fn parse_mtx(
-    alloc: Global,
-    bytes: &[u8],
-    shape: &Shape,
-    limits: &Limits,
-) -> Result<Graph, MtxFault>
-    requires few_nodes { limits.now.nodes ≤ 2147483647 }
-    requires few_edges { limits.now.edges ≤ 2147483647 }
-    ensures graph { IfOk result (StandsFor shape.now limits.now bytes.now) }
-    ensures columns { IfOk result (HasColumns (length shape.now.nodes) (length shape.now.edges)) }
-    ensures fault { IfErr result (λ e. e ≢ MtxFault.NoMemory
-        → matrix_of shape.now limits.now bytes.now ≡ Err e) }
-{
-    if bytes.len() as u64 > limits.bytes {
-        return Err(MtxFault::TooLong);
-    }
-    let matrix = read_matrix(alloc, bytes, shape, limits)?;
-    let raw = matrix
-        .tables
-        .into_raw(alloc, shape_like(alloc, shape)?, matrix.size)?;
-    Ok(build(alloc, raw)?)
-}
-
-/// The graph that a Matrix Market text stands for, or the fault of its first line that has one, as `parse_mtx` answers. The
-/// text is let go as soon as its lines are read, so that it adds nothing to the memory that the making of the graph takes.
-///
-/// # Errors
-///
-/// Those of `parse_mtx`.
+/// missing, `CountDiffers` has the number of the line behind the last. `TooLong` comes before all of these.
 pub fn consume_mtx(
     alloc: Global,
     text: Vec<u8>,
@@ -118,42 +77,6 @@ pub fn consume_mtx(
     if text.len() as u64 > limits.bytes {
         return Err(MtxFault::TooLong);
     }
-    let matrix = read_matrix(alloc, &text, shape, limits)?;
-    drop(text);
-    let raw = matrix
-        .tables
-        .into_raw(alloc, shape_like(alloc, shape)?, matrix.size)?;
-    Ok(build(alloc, raw)?)
-}
-
-/// The graph that the bytes of a source stand for as a Matrix Market text. It reads to the end first, in pieces of any
-/// size.
-///
-/// # Errors
-///
-/// `ReadFault` where a read failed: the source's count of faults rose. `TooLong` where the source has more bytes
-/// than the limit, of which it then has given one more than the limit. After a fault of a line, as after a graph,
-/// the source is at its end.
-pub fn load_mtx<S: Source>(
-    alloc: Global,
-    source: &mut S,
-    shape: &Shape,
-    limits: &Limits,
-) -> Result<Graph, MtxFault>
-    requires few_nodes { limits.now.nodes ≤ 2147483647 }
-    requires few_edges { limits.now.edges ≤ 2147483647 }
-    ensures graph { IfOk result (LoadsGraph (S.left source.old) (S.left source.new) shape.now limits.now) }
-    ensures columns { IfOk result (HasColumns (length shape.now.nodes) (length shape.now.edges)) }
-    ensures line_fault { IfErr result (λ e. IsLineFault e
-        → LoadsFault (S.left source.old) (S.left source.new) shape.now limits.now e) }
-    ensures too_long { result ≡ Err MtxFault.TooLong
-        → ReadsPast (S.left source.old) (S.left source.new) limits.now.bytes }
-    ensures read_fault { result ≡ Err MtxFault.ReadFault
-        → Rises (S.read_faults source.old) (S.read_faults source.new) }
-    ensures quiet { result ≢ Err MtxFault.ReadFault
-        → S.read_faults source.new ≡ S.read_faults source.old }
-{
-    let text = read_all(alloc, source, limits.bytes)?;
     let matrix = read_matrix(alloc, &text, shape, limits)?;
     drop(text);
     let raw = matrix

@@ -8,9 +8,9 @@ ghost use Rattle.gm_mtx.specs.Loads.{IsLineFault};
 ghost use Rattle.gm_mtx.specs.Tables.{FindsSize};
 
 use crate::faults::{LineFault, MtxFault};
-use crate::fields::{first_byte, read_size_number};
+use crate::fields::read_size_number;
 use gm_fields::{cut_field, cut_line};
-use gm_loader::Limits;
+use gm_loader::{Limits, first_byte};
 
 // How large a matrix is: its rows, columns and entries.
 #[derive(Clone, Copy, Debug, PartialEq, Eq)]

@@ -6,7 +6,6 @@ ghost use Rattle.std.specs.Str.Lines.{lines};
 ghost use Rattle.gm_fields.specs.Fields.{fields};
 ghost use Rattle.gm_value.specs.declared.values.VType.{VType as VTypeValue};
 ghost use Rattle.gm_graph.specs.declared.builds.Shape.{Shape as ShapeValue};
-ghost use Rattle.gm_loader.specs.GraphText.{columns_of};
 ghost use Rattle.gm_mtx.specs.MatrixMarket.{Entry, with_entry, entries_after, entries_with, zero_column, raw_of};
 ghost use Rattle.gm_mtx.specs.Loads.{IsLineFault};
 ghost use Rattle.gm_mtx.specs.Tables.{FillsColumns, Holds, HoldsEntries, Takes};
@@ -18,6 +17,7 @@ use crate::sizes::{Size, is_skipped};
 use gm_base::{Items, NoMemory};
 use gm_fields::{cut_field, cut_line};
 use gm_graph::{Column, RawGraph, Shape};
+use gm_loader::empty_columns;
 use gm_value::VType;
 use std::alloc::{AllocError, Global};
 
@@ -27,17 +27,6 @@ pub struct Tables {
     pub from: Vec<u64>,
     pub to: Vec<u64>,
     pub edge_columns: Vec<Column>,
-}
-
-// A column without rows for each type.
-fn empty_columns(alloc: Global, types: &[VType]) -> Result<Vec<Column>, AllocError>
-    ensures { IfOk result (λ columns. columns.items ≡ columns_of types.now []) }
-{
-    let mut columns = Vec::new(alloc);
-    for vtype in types {
-        columns.push(Column::new(alloc, *vtype))?;
-    }
-    Ok(columns)
 }
 
 // A column with the zero of its type in each of so many rows.

@@ -1,4 +1,4 @@
-use Rattle.std.proofs.Common.{◌≡◌, ◌<◌, true, false, refl, arith, rules}
+use Rattle.std.proofs.Common.{◌≡◌, true, false, refl, rules}
 use Rattle.std.proofs.lemmas.Result.{err_from_is_err_and}
 use Rattle.gm_fields.specs.Fields.{fields}
 use Rattle.gm_loader.proofs.Taking.{node_stop, node_twice, node_many, node_holds}
@@ -15,22 +15,20 @@ returns-then-not-branch c = λ shape before h.
     node_twice shape c.args.limits.now before c.args.self.now c.args.self.now c.read_values.new.columns.items (fields c.args.text.now) (fields c.in_ok-number.rest.now) c.in_ok-number.number c.in_ok-insert.field-0
     h c.in_ok-number.ensures.read c.in_ok-read_values.ensures.read c.in_ok-insert.ensures.added twice
 
-pub returns-then-self-from : goal.returns-then-self-from
-returns-then-self-from c = λ shape before h.
+pub returns-then-exceeds : goal.returns-then-exceeds
+returns-then-exceeds c = λ shape before h.
     let once : c.in_ok-insert.field-0 ≡ true = search rules in
-    let small : c.args.limits.now.nodes < 4294967296 = omega arith in
-    node_many shape c.args.limits.now before c.args.self.now (record c.args.self.now { seen = c.insert-2.new.self }) c.read_values.new.columns.items (fields c.args.text.now) (fields c.in_ok-number.rest.now) c.in_ok-number.number c.in_ok-insert.field-0 c.in_ok-insert-2.field-0
-    small h c.in_ok-number.ensures.read c.in_ok-read_values.ensures.read c.in_ok-insert.ensures.added once
-    (record { is_new = c.in_ok-insert-2.ensures.added; members = c.in_ok-insert-2.ensures.has; count = c.in_ok-insert-2.ensures.count }) (omega arith)
+    node_many shape c.args.limits.now before c.args.self.now c.args.self.now c.add.new.self c.read_values.new.columns.items c.push.new.self.items (fields c.args.text.now) (fields c.in_ok-number.rest.now) c.in_ok-number.number c.in_ok-insert.field-0 c.exceeds.result
+    h c.in_ok-number.ensures.read c.in_ok-read_values.ensures.read c.in_ok-insert.ensures.added once c.in_ok-push.ensures.items
+    (rw (c.deref.ensures.value, c.deref-2.ensures.value, c.deref-3.ensures.value) at c.in_ok-add.ensures) c.exceeds.ensures c.if-exceeds.true
 
 pub returns : goal.returns
 returns c = λ shape before h.
     let once : c.in_ok-insert.field-0 ≡ true = search rules in
-    let small : c.args.limits.now.nodes < 4294967296 = omega arith in
     node_holds shape c.args.limits.now before c.args.self.now
-    (record { from = c.args.self.now.from; to = c.args.self.now.to; edge_columns = c.args.self.now.edge_columns; extra = c.push.new.self; node_columns = c.read_values.new.columns; seen = c.insert-2.new.self; listed = c.insert.new.self })
-    (fields c.args.text.now) (fields c.in_ok-number.rest.now) c.in_ok-number.number c.in_ok-insert.field-0 c.in_ok-insert-2.field-0
-    small h c.in_ok-number.ensures.read c.in_ok-read_values.ensures.read
+    (record { from = c.args.self.now.from; to = c.args.self.now.to; edge_columns = c.args.self.now.edge_columns; extra = c.push.new.self; node_columns = c.read_values.new.columns; seen = c.add.new.self; listed = c.insert.new.self })
+    (fields c.args.text.now) (fields c.in_ok-number.rest.now) c.in_ok-number.number c.in_ok-insert.field-0 c.exceeds.result
+    h c.in_ok-number.ensures.read c.in_ok-read_values.ensures.read
     (record { is_new = c.in_ok-insert.ensures.added; members = c.in_ok-insert.ensures.has; count = c.in_ok-insert.ensures.count }) once
-    (record { is_new = c.in_ok-insert-2.ensures.added; members = c.in_ok-insert-2.ensures.has; count = c.in_ok-insert-2.ensures.count }) (omega arith)
+    (rw (c.deref.ensures.value, c.deref-2.ensures.value, c.deref-3.ensures.value) at c.in_ok-add.ensures) c.exceeds.ensures c.if-exceeds.false
     c.in_ok-push.ensures.items refl refl refl tt
