@@ -2,6 +2,10 @@
 #![tactic(auto)]
 
 #[cfg(test)]
+mod accesses;
+#[cfg(test)]
+mod argument_reductions;
+#[cfg(test)]
 mod canonical_form;
 #[cfg(test)]
 mod grammar;
