@@ -26,7 +26,7 @@ use Rattle.gm_ast.specs.Typing.{typed}
 use Rattle.gm_ast.specs.Statements.{type_broken, sort_of, vtype_of, variable_of, declared_all, with_names, known_after, plain_declarations, declarations_as, declared_plainly, bare, edge_asked, edge_owner, declared_value, is_edge_type, edge_declared, declared_typed, declared_with, checked}
 use Rattle.gm_forms.specs.Uses as Uses
 use Rattle.gm_forms.specs.Uses.{use_as, uses_in, uses_of}
-use Rattle.gm_ready.proofs.Tables.{Has, Binds, binds-at, Suit, join, suit-as, AllKnown, known-with}
+use Rattle.gm_ready.proofs.Tables.{iterates_nodes, Has, Binds, binds-at, Suit, join, suit-as, AllKnown, known-with}
 use Rattle.gm_ready.proofs.Judging.{IfPart, if-both, if-good, if-then, Gives, Good, gives-judge, gives-beside, gives-both, good-used, append-empty}
 use Rattle.gm_ready.proofs.Expressions.{IsNamed, IsNamedPart, fitted-named, typed-named}
 use Rattle.gm_ready.proofs.Statements.{IsNamedStmt}
@@ -64,35 +64,46 @@ edge-sort (Plain at Word.Bool g) h = absurd (both_ways false refl h)
 edge-sort (Plain at Word.Node g) h = absurd (both_ways false refl h)
 edge-sort (Property at b inner g) h = absurd (both_ways false refl h)
 
+-- what a type declares holds nodes where it iterates
+pub variable-nodes : (t : SurfaceType) (depth : ℕ) → iterates_nodes (variable_of t depth) ≡ true
+variable-nodes (Plain at Word.Graph g) depth = refl
+variable-nodes (Plain at Word.Edge g) depth = refl
+variable-nodes (Plain at Word.Int g) depth = refl
+variable-nodes (Plain at Word.Long g) depth = refl
+variable-nodes (Plain at Word.Bool g) depth = refl
+variable-nodes (Plain at Word.Node g) depth = refl
+variable-nodes (Property at Nodes inner g) depth = refl
+variable-nodes (Property at Edges inner g) depth = refl
+
 module _ (ds : List Declaration) where
   -- what stands in the table as this variable
-  abbrev Is : Variable → ℕ → Type 0
+  abbrev pub Is : Variable → ℕ → Type 0
   Is v n = Binds ds (record { index = n; variable = v })
 
-  abbrev AllAre : Variable → List ℕ → Type 0
+  abbrev pub AllAre : Variable → List ℕ → Type 0
   AllAre v [] = Unit {0}
   AllAre v (n ∷ ns) = Is v n × AllAre v ns
 
-  declared-is : (env : Env) (x : SurfaceName) (v : Variable) → Gives ds (Is v) env.next (declared_as env x v)
-  declared-is env x v has clean = binds-at ds env.next (record { name = x.text; variable = v }) has.0
+  declared-is : (env : Env) (x : SurfaceName) (v : Variable) → iterates_nodes v ≡ true → Gives ds (Is v) env.next (declared_as env x v)
+  declared-is env x v nodes has clean = binds-at ds env.next (record { name = x.text; variable = v }) has.0 nodes
 
   -- names after a declaration of one more
   known-next : (env : Env) (x : SurfaceName) (v : Variable) → AllKnown ds env.known → Is v env.next → AllKnown ds (with_name env x v).known
   known-next env x v known is = known-with ds env.known x.text (record { index = env.next; variable = v }) known is
 
-  pub all-declared : (v : Variable) (xs : List SurfaceName) → Good ds (AllAre v) (declared_all v xs)
-  all-declared v [] env known = λ has clean. tt
-  all-declared v (x ∷ xs) env known =
+  pub all-declared : (v : Variable) (xs : List SurfaceName) → iterates_nodes v ≡ true → Good ds (AllAre v) (declared_all v xs)
+  all-declared v [] nodes env known = λ has clean. tt
+  all-declared v (x ∷ xs) nodes env known =
       let d : Declaration = record { name = x.text; variable = v } in
       gives-judge ds (λ p. Is v p.0 × AllAre v p.1) (AllAre v) env.next (beside (declared_as env x v) (declared_all v xs (with_name env x v))) (λ p. Ok (p.0 ∷ p.1))
-      (λ has clean. gives-beside ds (Is v) (AllAre v) env.next (declared_as env x v) (declared_all v xs (with_name env x v)) (declared-is env x v)
-      (all-declared v xs (with_name env x v) (known-next env x v known (binds-at ds env.next d has.0))) has clean)
+      (λ has clean. gives-beside ds (Is v) (AllAre v) env.next (declared_as env x v) (declared_all v xs (with_name env x v)) (declared-is env x v nodes)
+      (all-declared v xs nodes (with_name env x v) (known-next env x v known (binds-at ds env.next d has.0 nodes))) has clean)
       (λ p h. h)
 
-  pub names-known : (v : Variable) (xs : List SurfaceName) (env other : Env) → AllKnown ds env.known → Has ds env.next (declared_all v xs other).declared → AllKnown ds (with_names v xs env).known
-  names-known v [] env other known has = known
-  names-known v (x ∷ xs) env other known has =
-      names-known v xs (with_name env x v) (with_name other x v) (known-next env x v known (binds-at ds env.next (record { name = x.text; variable = v }) has.0)) has.1
+  pub names-known : (v : Variable) (xs : List SurfaceName) (env other : Env) → iterates_nodes v ≡ true → AllKnown ds env.known → Has ds env.next (declared_all v xs other).declared → AllKnown ds (with_names v xs env).known
+  names-known v [] env other nodes known has = known
+  names-known v (x ∷ xs) env other nodes known has =
+      names-known v xs (with_name env x v) (with_name other x v) nodes (known-next env x v known (binds-at ds env.next (record { name = x.text; variable = v }) has.0 nodes)) has.1
 
   plainly-named : (k : Key) (v : Variable) (ns : List ℕ) → is Sorts.Scalar v || is Sorts.NodeProperty v ≡ true → AllAre v ns → IsNamedStmt ds (plain_declarations k ns)
   plainly-named k v [] fits h = refl
@@ -114,13 +125,13 @@ module _ (ds : List Declaration) where
       let all = append-empty parts.broken (broken_by parts.part (λ p. declarations_as (sort_of t) env.key xs p.1)) clean in
       let none = append-empty (type_broken t Local env) (declared_all v xs env).broken all.0 in
       gives-judge ds (λ p. Unit {0} × AllAre v p.1) (IsNamedStmt ds) env.next parts (λ p. declarations_as (sort_of t) env.key xs p.1)
-      (λ has clean. if-both (λ u. Unit {0}) (AllAre v) (Some (tt {0})) (declared_all v xs env).part tt (all-declared v xs env known has none.1))
+      (λ has clean. if-both (λ u. Unit {0}) (AllAre v) (Some (tt {0})) (declared_all v xs env).part tt (all-declared v xs (variable-nodes t env.depth) env known has none.1))
       (λ p h. declarations-named (sort_of t) env.key v xs p.1 (local-sort t env none.0) refl h.1) has clean
 
-  typed-declared : (t : SurfaceType) (x : SurfaceName) (env : Env) → Gives ds (Is (variable_of t env.depth)) env.next (declared_typed t x env)
+  pub typed-declared : (t : SurfaceType) (x : SurfaceName) (env : Env) → Gives ds (Is (variable_of t env.depth)) env.next (declared_typed t x env)
   typed-declared t x env has clean =
       let v = variable_of t env.depth in
-      binds-at ds env.next (record { name = x.text; variable = v }) has.0
+      binds-at ds env.next (record { name = x.text; variable = v }) has.0 (variable-nodes t env.depth)
 
   owner-named : (y : SurfaceName) → Good ds (λ b. Suit ds (use_as Uses.Owner b.index)) (edge_owner y)
   owner-named y env known = gives-judge ds (Binds ds) (λ b. Suit ds (use_as Uses.Owner b.index)) env.next (used y env) (λ b. refused_unless (is_node b.variable) T7 y.place b)
@@ -158,12 +169,12 @@ module _ (ds : List Declaration) where
 
   declares-first : (o : Option SurfaceName) (t : SurfaceType) (x : SurfaceName) (at : Place) (e : SurfaceExpr) (env : Env) (n : ℕ)
       → Has ds n (declared_with o t x at e env).declared → Is (variable_of t env.depth) n
-  declares-first (Some y) t x at e env n has = binds-at ds n (record { name = x.text; variable = variable_of t env.depth }) has.0
-  declares-first None t x at e env n has = binds-at ds n (record { name = x.text; variable = variable_of t env.depth }) has.0
+  declares-first (Some y) t x at e env n has = binds-at ds n (record { name = x.text; variable = variable_of t env.depth }) has.0 (variable-nodes t env.depth)
+  declares-first None t x at e env n has = binds-at ds n (record { name = x.text; variable = variable_of t env.depth }) has.0 (variable-nodes t env.depth)
 
   -- the names that are known after a statement
   pub known-behind : (a : SurfaceStmt) (env : Env) → AllKnown ds env.known → Has ds env.next (numbered (checked a) env).declared → AllKnown ds (known_after a env)
-  known-behind (S.Declare t xs) env known has = names-known (variable_of t env.depth) xs env (record env { number = env.number + 1; key = operators_of env.number }) known has
+  known-behind (S.Declare t xs) env known has = names-known (variable_of t env.depth) xs env (record env { number = env.number + 1; key = operators_of env.number }) (variable-nodes t env.depth) known has
   known-behind (S.DeclareAs t x at e) env known has =
       known-next env x (variable_of t env.depth) known (declares-first (edge_declared t e) t x at e (record env { number = env.number + 1; key = operators_of env.number }) env.next has)
   known-behind _ env known has = known

@@ -105,15 +105,20 @@ module _ (ds : List Declaration) where
   IsIterator i = (depth : ℕ) × Binds ds (record { index = i; variable = an_iterator depth })
 
   -- an iterator, and what is judged in its loop
-  pub good-iterated : {A : Type 0} (P : A → Type 0) (name : SurfaceName) (loops : ℕ) (part : Env → Judged A) → Good P part
-      → Good (λ p. IsIterator p.0 × P p.1) (iterated name loops part)
-  good-iterated P name loops part good env known has clean =
+  pub gives-iterated : {A : Type 0} (P : A → Type 0) (name : SurfaceName) (loops : ℕ) (part : Env → Judged A) (env : Env) → AllKnown ds env.known
+      → (AllKnown ds (inside env name loops).known → Gives P (inside env name loops).next (part (inside env name loops)))
+      → Gives (λ p. IsIterator p.0 × P p.1) env.next (iterated name loops part env)
+  gives-iterated P name loops part env known good has clean =
       let v = an_iterator (env.depth + loops) in
       let inner = inside env name loops in
-      let bound : Binds ds (record { index = env.next; variable = v }) = binds-at ds env.next (record { name = name.text; variable = v }) has.0 in
+      let bound : Binds ds (record { index = env.next; variable = v }) = binds-at ds env.next (record { name = name.text; variable = v }) has.0 refl in
       let none = append-empty (unless (is_none (known_as env.known name.text)) T2 name.place) (part inner).broken clean in
       if-both IsIterator P (Some env.next) (part inner).part (env.depth + loops, bound)
-      (good inner (known-with ds env.known name.text (record { index = env.next; variable = v }) known bound) has.1 none.1)
+      (good (known-with ds env.known name.text (record { index = env.next; variable = v }) known bound) has.1 none.1)
+
+  pub good-iterated : {A : Type 0} (P : A → Type 0) (name : SurfaceName) (loops : ℕ) (part : Env → Judged A) → Good P part
+      → Good (λ p. IsIterator p.0 × P p.1) (iterated name loops part)
+  good-iterated P name loops part good env known = gives-iterated P name loops part env known (good (inside env name loops))
 
   -- what is judged under a key, or takes numbers, stands among the same names
   pub good-keyed : {A : Type 0} (P : A → Type 0) (k : Key) (part : Env → Judged A) → Good P part → Good P (keyed k part)

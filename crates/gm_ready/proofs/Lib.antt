@@ -5,3 +5,5 @@ pub mod Statements
 pub mod Declarations
 pub mod Blocks
 pub mod Procedures
+pub mod Types
+pub mod TypedStatements

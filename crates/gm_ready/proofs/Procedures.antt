@@ -8,17 +8,20 @@ use Rattle.std.proofs.lemmas.Option.{slice_get-get_or}
 use Rattle.gm_ast.specs.declared.tree.Declaration.{Declaration}
 use Rattle.gm_ast.specs.declared.tree.Variable.{Variable}
 use Rattle.gm_ast.specs.Surface.{SurfaceName, SurfaceGroup, SurfaceProcedure}
-use Rattle.gm_ast.specs.Program.{Program}
+use Rattle.gm_ast.specs.Program.{Program, Stmt}
 use Rattle.gm_ast.specs.Judged.{beside, noted}
-use Rattle.gm_ast.specs.Names.{Env, with_name, numbered}
+use Rattle.gm_ast.specs.Names.{Env, with_name, operators_of, numbered}
 use Rattle.gm_ast.specs.Statements.{variable_of, declared_all, with_names, checked}
 use Rattle.gm_ast.specs.Procedures.{nothing_known, parameters, with_parameters, count_names, head_broken, result_of, env_of_outputs, env_of_body, all_parameters, parts_of, elaborated, IsTyped}
+use Rattle.gm_forms.specs.Typing.{has_types}
 use Rattle.gm_forms.specs.Uses.{is_named}
+use Rattle.gm_ready.specs.Spelled.{is_spelled}
 use Rattle.gm_ready.proofs.Tables.{Has, has-append, AllKnown}
-use Rattle.gm_ready.proofs.Judging.{IfPart, if-by, if-both, append-empty, good-numbered}
+use Rattle.gm_ready.proofs.Judging.{IfPart, if-by, if-both, append-empty, good-numbered, Gives}
 use Rattle.gm_ready.proofs.Statements.{IsNamedStmt}
-use Rattle.gm_ready.proofs.Declarations.{names-known}
+use Rattle.gm_ready.proofs.Declarations.{variable-nodes, names-known}
 use Rattle.gm_ready.proofs.Blocks.{checked-named}
+use Rattle.gm_ready.proofs.TypedStatements.{IsTypedStmt, checked-typed}
 
 -- ---- how many declarations there are
 
@@ -71,33 +74,62 @@ module _ (ds : List Declaration) where
       let one = (declared_all v g.names env).declared in
       let parts = has-append ds env.next one (parameters gs inner).declared has in
       let at : env.next + length one ≡ inner.next = ap (λ n. env.next + n) (names-declared v g.names env) ∙ sym (names-next v g.names env) in
-      parameters-known gs inner (names-known ds v g.names env env known parts.0) (subst (λ n. Has ds n (parameters gs inner).declared) at parts.1)
+      parameters-known gs inner (names-known ds v g.names env env (variable-nodes g.vtype 0) known parts.0) (subst (λ n. Has ds n (parameters gs inner).declared) at parts.1)
 
--- the body of a procedure, in the table of all its declarations
-body-named : (p : SurfaceProcedure) → (parts_of p).broken ≡ [] → IfPart (λ q. Unit {0} × (Unit {0} × IsNamedStmt (parts_of p).declared q.1.1)) (parts_of p).part
-body-named p clean =
+-- where the declarations of the body begin
+at-body : (p : SurfaceProcedure) → 0 + length ((parameters p.inputs (nothing_known (result_of p))).declared ++ (parameters p.outputs (env_of_outputs p)).declared) ≡ (env_of_body p).next
+at-body p =
+    let ins = (parameters p.inputs (nothing_known (result_of p))).declared in
+    let outs = (parameters p.outputs (env_of_outputs p)).declared in
+    let ins_next : (env_of_outputs p).next ≡ 0 + count_names p.inputs = parameters-next p.inputs (nothing_known (result_of p)) in
+    let ins_size : length ins ≡ count_names p.inputs = parameters-declared p.inputs (nothing_known (result_of p)) in
+    let outs_next : (env_of_body p).next ≡ (env_of_outputs p).next + count_names p.outputs = parameters-next p.outputs (env_of_outputs p) in
+    let outs_size : length outs ≡ count_names p.outputs = parameters-declared p.outputs (env_of_outputs p) in
+    let both : length (ins ++ outs) ≡ length ins + length outs = length-append ins outs in
+    omega (arith, ins_next, ins_size, outs_next, outs_size, both)
+
+-- the names that are known in the body stand in the table
+known-body : (p : SurfaceProcedure) → AllKnown (parts_of p).declared (env_of_body p).known
+known-body p =
+    let ds = (parts_of p).declared in
+    let ins = (parameters p.inputs (nothing_known (result_of p))).declared in
+    let outs = (parameters p.outputs (env_of_outputs p)).declared in
+    let body = numbered (checked p.body) (env_of_body p) in
+    let heads = has-append ds 0 (ins ++ outs) body.declared (has-behind ds [] ds refl) in
+    let inputs = has-append ds 0 ins outs heads.0 in
+    let ins_next : (env_of_outputs p).next ≡ 0 + count_names p.inputs = parameters-next p.inputs (nothing_known (result_of p)) in
+    let ins_size : length ins ≡ count_names p.inputs = parameters-declared p.inputs (nothing_known (result_of p)) in
+    let at_outs : 0 + length ins ≡ (env_of_outputs p).next = omega (arith, ins_next, ins_size) in
+    let known_inputs : AllKnown ds (env_of_outputs p).known = parameters-known ds p.inputs (nothing_known (result_of p)) tt inputs.0 in
+    parameters-known ds p.outputs (env_of_outputs p) known_inputs (subst (λ n. Has ds n outs) at_outs inputs.1)
+
+-- the result that is known in the body is the procedure's
+names-result : (v : Variable) (xs : List SurfaceName) (env : Env) → (with_names v xs env).result ≡ env.result
+names-result v [] env = refl
+names-result v (x ∷ xs) env = names-result v xs (with_name env x v)
+
+parameters-result : (gs : List SurfaceGroup) (env : Env) → (with_parameters gs env).result ≡ env.result
+parameters-result [] env = refl
+parameters-result (g ∷ gs) env = parameters-result gs (with_names (variable_of g.vtype 0) g.names env) ∙ names-result (variable_of g.vtype 0) g.names env
+
+body-result : (p : SurfaceProcedure) → (env_of_body p).result ≡ result_of p
+body-result p = parameters-result p.outputs (env_of_outputs p) ∙ parameters-result p.inputs (nothing_known (result_of p))
+
+-- what holds of a body wherever it stands, in the table of all declarations of its procedure
+body-in : (p : SurfaceProcedure) (Q : Stmt → Type 0) → Gives (parts_of p).declared Q (env_of_body p).next (numbered (checked p.body) (env_of_body p)) → (parts_of p).broken ≡ []
+    → IfPart (λ q. Unit {0} × (Unit {0} × Q q.1.1)) (parts_of p).part
+body-in p Q gives clean =
     let ds = (parts_of p).declared in
     let ins = (parameters p.inputs (nothing_known (result_of p))).declared in
     let outs = (parameters p.outputs (env_of_outputs p)).declared in
     let body = numbered (checked p.body) (env_of_body p) in
     let all : Has ds 0 ds = has-behind ds [] ds refl in
     let heads = has-append ds 0 (ins ++ outs) body.declared all in
-    let inputs = has-append ds 0 ins outs heads.0 in
-    let ins_next : (env_of_outputs p).next ≡ 0 + count_names p.inputs = parameters-next p.inputs (nothing_known (result_of p)) in
-    let ins_size : length ins ≡ count_names p.inputs = parameters-declared p.inputs (nothing_known (result_of p)) in
-    let outs_next : (env_of_body p).next ≡ (env_of_outputs p).next + count_names p.outputs = parameters-next p.outputs (env_of_outputs p) in
-    let outs_size : length outs ≡ count_names p.outputs = parameters-declared p.outputs (env_of_outputs p) in
-    let both : length (ins ++ outs) ≡ length ins + length outs = length-append ins outs in
-    let at_outs : 0 + length ins ≡ (env_of_outputs p).next = omega (arith, ins_next, ins_size) in
-    let at_body : 0 + length (ins ++ outs) ≡ (env_of_body p).next = omega (arith, ins_next, ins_size, outs_next, outs_size, both) in
-    let known_inputs : AllKnown ds (env_of_outputs p).known = parameters-known ds p.inputs (nothing_known (result_of p)) tt inputs.0 in
-    let known_all : AllKnown ds (env_of_body p).known = parameters-known ds p.outputs (env_of_outputs p) known_inputs (subst (λ n. Has ds n outs) at_outs inputs.1) in
     let none = append-empty (all_parameters p).broken (head_broken p ++ body.broken) clean in
     let none_body = append-empty (head_broken p) body.broken none.1 in
-    let named : IfPart (IsNamedStmt ds) body.part =
-    good-numbered ds (IsNamedStmt ds) (checked p.body) (checked-named ds p.body) (env_of_body p) known_all (subst (λ n. Has ds n body.declared) at_body heads.1) none_body.1 in
-    if-both (λ u. Unit {0}) (λ q. Unit {0} × IsNamedStmt ds q.1) (all_parameters p).part (beside (noted (tt {0}) (head_broken p)) body).part (nothing (all_parameters p).part)
-    (if-both (λ u. Unit {0}) (IsNamedStmt ds) (Some (tt {0})) body.part tt named)
+    let named : IfPart Q body.part = gives (subst (λ n. Has ds n body.declared) (at-body p) heads.1) none_body.1 in
+    if-both (λ u. Unit {0}) (λ q. Unit {0} × Q q.1) (all_parameters p).part (beside (noted (tt {0}) (head_broken p)) body).part (nothing (all_parameters p).part)
+    (if-both (λ u. Unit {0}) Q (Some (tt {0})) body.part tt named)
   where
     nothing : {A : Type 0} (o : Option A) → IfPart (λ u. Unit {0}) o
     nothing None = tt
@@ -116,8 +148,25 @@ sizes p =
 
 pub typed-named : (p : Program) → IsTyped p → is_named p ≡ true
 typed-named p typed =
-    let parts = parts_of typed.source in
+    let source = typed.source in
+    let parts = parts_of source in
+    let ds = parts.declared in
     let none = append-empty parts.broken _ typed.clean in
-    let named : IfPart (λ p. is_named p ≡ true) (elaborated typed.source).part =
-    if-by (λ q. Unit {0} × (Unit {0} × IsNamedStmt parts.declared q.1.1)) (λ p. is_named p ≡ true) parts.part _ (body-named typed.source none.0) (λ q h. both_true (sizes typed.source) h.1.1) in
+    let body = good-numbered ds (IsNamedStmt ds) (checked source.body) (checked-named ds source.body) (env_of_body source) (known-body source) in
+    let named : IfPart (λ p. is_named p ≡ true) (elaborated source).part =
+    if-by (λ q. Unit {0} × (Unit {0} × IsNamedStmt ds q.1.1)) (λ p. is_named p ≡ true) parts.part _ (body-in source (IsNamedStmt ds) body none.0) (λ q h. both_true (sizes source) h.1.1) in
     subst (λ o. IfPart (λ p. is_named p ≡ true) o) typed.is named
+
+pub typed-typed : (p : Program) → IsTyped p → is_spelled p ≡ true → has_types p ≡ true
+typed-typed p typed spelled =
+    let source = typed.source in
+    let parts = parts_of source in
+    let ds = parts.declared in
+    let r = result_of source in
+    let none = append-empty parts.broken _ typed.clean in
+    let env = env_of_body source in
+    let body : Gives ds (IsTypedStmt ds r) env.next (numbered (checked source.body) env) =
+    λ has clean. checked-typed ds r source.body (record env { number = env.number + 1; key = operators_of env.number }) (known-body source) (body-result source) has clean in
+    let held : IfPart (λ p. is_spelled p ≡ true → has_types p ≡ true) (elaborated source).part =
+    if-by (λ q. Unit {0} × (Unit {0} × IsTypedStmt ds r q.1.1)) (λ p. is_spelled p ≡ true → has_types p ≡ true) parts.part _ (body-in source (IsTypedStmt ds r) body none.0) (λ q h. h.1.1) in
+    subst (λ o. IfPart (λ p. is_spelled p ≡ true → has_types p ≡ true) o) typed.is held spelled

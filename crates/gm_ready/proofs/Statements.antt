@@ -105,7 +105,7 @@ module _ (ds : List Declaration) where
   AllParts [] = Unit {0}
   AllParts (p ∷ ps) = IsNamedPart ds p × AllParts ps
 
-  each-good : {X A : Type 0} (Q : A → Type 0) (R : List A → Type 0) (one : X → Env → Judged A) → R [] → ((a : A) (as' : List A) → Q a → R as' → R (a ∷ as'))
+  pub each-good : {X A : Type 0} (Q : A → Type 0) (R : List A → Type 0) (one : X → Env → Judged A) → R [] → ((a : A) (as' : List A) → Q a → R as' → R (a ∷ as'))
       → ((x : X) → Good ds Q (one x)) → (xs : List X) → Good ds R (judged_each one xs)
   each-good Q R one none more good [] env known = λ has clean. none
   each-good Q R one none more good (x ∷ xs) env known =
@@ -115,7 +115,7 @@ module _ (ds : List Declaration) where
   abbrev All : List Goal → List Expr → Type 0
   All gs es = Suit ds (uses_of_targets (map (λ g. g.target) gs)) × Suit ds (uses_in_all es)
 
-  if-with : {A B C : Type 0} (Q : A → Type 0) (R : B → Type 0) (S : C → Type 0) (f : A → B → C) (a : Answer A) (b : Answer B)
+  pub if-with : {A B C : Type 0} (Q : A → Type 0) (R : B → Type 0) (S : C → Type 0) (f : A → B → C) (a : Answer A) (b : Answer B)
       → IfPart Q (ok_of a) → IfPart R (ok_of b) → ((x : A) (y : B) → Q x → R y → S (f x y)) → IfPart S (ok_of (answers_with f a b))
   if-with Q R S f (Ok a) (Ok b) h k m = m a b h k
   if-with Q R S f (Ok a) (Err rs) h k m = tt

@@ -3,4 +3,4 @@
 
 mod laws;
 
-pub use laws::checked_programs_are_named;
+pub use laws::{checked_programs_are_named, checked_programs_have_types};
