@@ -10,10 +10,10 @@ mod machine;
 #[cfg(test)]
 mod owners;
 #[cfg(test)]
-mod reader;
-#[cfg(test)]
 mod replies;
 #[cfg(test)]
 mod rule_names;
+#[cfg(test)]
+mod texts;
 #[cfg(test)]
 mod written_and_read;

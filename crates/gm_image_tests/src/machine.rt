@@ -1,70 +1,27 @@
 //! Small images on a small graph.
 
-ghost use Rattle.std.specs.Prelude.{◌≡◌, ◌∷◌, ℕ, [], IfOk};
+ghost use Rattle.std.specs.Prelude.{◌≡◌, [], IfOk};
 ghost use Rattle.gm_graph.specs.Builds.{IsBuildable};
-ghost use Rattle.gm_image.specs.Views.{program};
-ghost use Rattle.gm_machine.specs.Steps.{KeepsFields};
+ghost use Rattle.gm_machine.specs.VertexViews.{HasColumns};
+ghost use Rattle.gm_machine.specs.Masters.{FitsGraph};
 
-use gm_base::{Items, NoMemory, Place};
-use gm_graph::{RawGraph, Shape, build};
-use gm_image::{Block, Expr, Image, MasterLine};
-use gm_machine::{Master, MasterStop, inboxes_have_no_order, master_run};
-use gm_value::{VType, Value};
-use std::alloc::Global;
+use crate::texts::{text_of, verified};
+use gm_base::{Items, NoMemory};
+use gm_graph::{Graph, Outcome, RawGraph, Shape, Values, build};
+use gm_image::Image;
+use gm_image_text::read_image;
+use gm_machine::{Master, inboxes_have_no_order, master_run, run_one};
+use gm_value::Value;
+use std::alloc::{AllocError, Global};
 use std::test::Fail;
 
-// An image without inputs, outputs and columns.
-fn image_of(
-    alloc: Global,
-    globals: Vec<VType>,
-    fields: Vec<VType>,
-    blocks: Vec<Block>,
-    master: Vec<MasterLine>,
-) -> Result<Image, NoMemory>
-    ensures columns { IfOk result (λ image. image.columns ≡ []) }
-    ensures blocks { IfOk result (λ image. image.blocks ≡ blocks.items) }
-{
-    Ok(Image {
-        name: Items::new(vec![in alloc; b'a']?),
-        inputs: Items::new(Vec::new(alloc)),
-        outputs: Items::new(Vec::new(alloc)),
-        result: None,
-        globals: Items::new(globals),
-        fields: Items::new(fields),
-        registers: Items::new(Vec::new(alloc)),
-        columns: Items::new(Vec::new(alloc)),
-        kinds: Items::new(Vec::new(alloc)),
-        places: Items::new(vec![in alloc; Place { line: 3, col: 21 }]?),
-        blocks: Items::new(blocks),
-        master: Items::new(master),
-    })
-}
-
-// Counts to six.
-fn spin(alloc: Global) -> Result<Image, NoMemory>
+// The image that the text of this name spells. It has no columns.
+fn image_of(alloc: Global, name: &str) -> Result<Image, Fail>
     ensures { IfOk result (λ image. image.columns ≡ []) }
 {
-    let test = Expr::Lt(
-        Box::new(alloc, Expr::Global(0))?,
-        Box::new(alloc, Expr::Const(Value::I32(6)))?,
-    );
-    let sum = Expr::Add(
-        0,
-        Box::new(alloc, Expr::Global(0))?,
-        Box::new(alloc, Expr::Const(Value::I32(1)))?,
-    );
-    let mut master = Vec::new(alloc);
-    master.push(MasterLine::Turn(3, test))?;
-    master.push(MasterLine::SetGlobal(0, sum))?;
-    master.push(MasterLine::Back(0))?;
-    master.push(MasterLine::Finish)?;
-    image_of(
-        alloc,
-        vec![in alloc; VType::I32]?,
-        Vec::new(alloc),
-        Vec::new(alloc),
-        master,
-    )
+    let mut image = read_image(alloc, text_of(name).as_bytes())?;
+    image.columns = Items::new(Vec::new(alloc));
+    Ok(image)
 }
 
 // The line `7 3`: two nodes and one edge.
@@ -85,24 +42,117 @@ fn two_nodes(alloc: Global) -> Result<RawGraph, NoMemory>
     })
 }
 
+// Three nodes point at the last one, and the third at the first.
+fn four_nodes(alloc: Global) -> Result<RawGraph, NoMemory>
+    ensures buildable { IfOk result IsBuildable }
+    ensures columns { IfOk result (λ raw. raw.edge_columns ≡ []) }
+{
+    Ok(RawGraph {
+        shape: Shape {
+            nodes: Items::new(Vec::new(alloc)),
+            edges: Items::new(Vec::new(alloc)),
+        },
+        from: Items::new(vec![in alloc; 1u64, 2, 3, 3]?),
+        to: Items::new(vec![in alloc; 4u64, 4, 4, 1]?),
+        edge_columns: Items::new(Vec::new(alloc)),
+        extra: Items::new(Vec::new(alloc)),
+        node_columns: Items::new(Vec::new(alloc)),
+    })
+}
+
+// The graph of some edges without columns.
+fn graph_of(alloc: Global, raw: RawGraph) -> Result<Graph, NoMemory>
+    requires buildable { IsBuildable raw }
+    requires columns { raw.edge_columns ≡ [] }
+    ensures { IfOk result (λ g. HasColumns g 0) }
+{
+    build(alloc, raw)
+}
+
+// How the master list of an image stops before its first superstep, after how many turns, and the globals.
+fn stop_of(alloc: Global, image: &Image, graph: &Graph, bound: u64) -> Result<String, Fail>
+    requires { FitsGraph image.now graph.now }
+{
+    let mut master = Master::start(alloc, image, &[], bound)?;
+    let stop = master_run(image, graph, &mut master);
+    let (turns, globals) = (master.turns, master.globals.as_slice());
+    Ok(format!(in alloc; "{stop:?} {turns} {globals:?}")?)
+}
+
+// How the image `spin` stops that may take so many turns.
+fn stop_of_spin(alloc: Global, bound: u64) -> Result<String, Fail> {
+    let graph = graph_of(alloc, two_nodes(alloc)?)?;
+    let image = image_of(alloc, "spin")?;
+    stop_of(alloc, &image, &graph, bound)
+}
+
 #[test]
 fn spin_is_cut_at_its_bound(rt: HostRuntime) -> Result<(), Fail> {
-    let alloc = rt.alloc();
-    let image = spin(alloc)?;
-    let graph = build(alloc, two_nodes(alloc)?)?;
-    for (bound, want, turns) in [(6, MasterStop::Ended, 6), (5, MasterStop::Cut, 5)] {
-        let mut master = Master::start(alloc, &image, &[], bound)?;
-        assert_eq!(rt;
-            master_run(&image, &graph, &mut master),
-            want,
-            "with {bound} turns"
-        );
-        assert_eq!(rt; master.turns, turns);
-        assert_eq!(rt;
-            master.globals.as_slice(),
-            [Value::I32(turns as i32)].as_slice()
-        );
-    }
+    let ended = stop_of_spin(rt.alloc(), 6)?;
+    assert_eq!(rt; ended.as_str(), "Ended 6 [I32(6)]");
+    let cut = stop_of_spin(rt.alloc(), 5)?;
+    assert_eq!(rt; cut.as_str(), "Cut 5 [I32(5)]");
     inboxes_have_no_order();
+    Ok(())
+}
+
+// The values of a column.
+fn values_in(alloc: Global, values: &Values) -> Result<Vec<Value>, AllocError> {
+    let mut all = Vec::new(alloc);
+    for i in 0..values.len() {
+        all.push(values.get(i))?;
+    }
+    Ok(all)
+}
+
+// Writes a list of values as a line.
+fn put_values(alloc: Global, text: &mut String, values: &[Value]) -> Result<(), AllocError> {
+    let line = format!(in alloc; "{values:?}\n")?;
+    text.push_str(line.as_str())?;
+    Ok(())
+}
+
+// The values of the scalar outputs, and those of each output property, where a run is done.
+fn outputs_of(alloc: Global, outcome: &Outcome) -> Result<String, AllocError> {
+    let mut text = String::new(alloc);
+    if let Outcome::Done { scalars, nodes, .. } = outcome {
+        put_values(alloc, &mut text, scalars.as_slice())?;
+        for values in nodes.as_slice() {
+            put_values(alloc, &mut text, &values_in(alloc, values)?)?;
+        }
+    }
+    Ok(text)
+}
+
+// What a sound image puts out.
+fn run_of(alloc: Global, image: Image, graph: &Graph) -> Result<String, Fail>
+    requires { FitsGraph image graph.now }
+{
+    let sound = verified(alloc, image)?;
+    let end = run_one(alloc, &sound, graph, &[], 9)?;
+    Ok(outputs_of(alloc, &end.outcome)?)
+}
+
+// What the image `picks` puts out.
+fn run_of_picks(alloc: Global) -> Result<String, Fail> {
+    let graph = graph_of(alloc, four_nodes(alloc)?)?;
+    run_of(alloc, image_of(alloc, "picks")?, &graph)
+}
+
+// The greatest out-degree is 2, of the third node. 0 with NIL is less than 0 with a node. Then for each field and node:
+// the least out-degree of those that point at the node, and the lesser one of those that have it; the in-degree with
+// True, but 0 with False is kept; of two neighbours with 7 the lesser one.
+const PICKED: &str = "[I32(2), At(Some(2)), I32(0), At(None)]\n\
+    [I32(2), I32(9), I32(9), I32(1)]\n\
+    [At(Some(2)), At(None), At(None), At(Some(0))]\n\
+    [I32(1), I32(0), I32(0), I32(3)]\n\
+    [Flag(true), Flag(false), Flag(false), Flag(true)]\n\
+    [I32(7), I32(7), I32(7), I32(0)]\n\
+    [At(Some(3)), At(Some(3)), At(Some(0)), At(None)]\n";
+
+#[test]
+fn picks_take_whole_tuples(rt: HostRuntime) -> Result<(), Fail> {
+    let outputs = run_of_picks(rt.alloc())?;
+    assert_eq!(rt; outputs.as_str(), PICKED);
     Ok(())
 }

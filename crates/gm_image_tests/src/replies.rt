@@ -3,12 +3,13 @@
 ghost use Rattle.std.specs.Prelude.{◌<◌, [], IfOk};
 ghost use Rattle.gm_words.specs.Jobs.{AllAssign};
 
+use crate::texts::{parts_of, text_of, text_of_lines};
 use gm_base::{Items, MemFiles, MemSource, NoMemory, Status, Text};
 use gm_exec::exec;
 use gm_input::Answer;
 use gm_observe::{Counter, Note, Observer, Table};
 use gm_words::{Job, Options, read_words};
-use std::alloc::Global;
+use std::alloc::{AllocError, Global};
 use std::cell::Cell;
 use std::rc::Rc;
 use std::test::Fail;
@@ -64,220 +65,153 @@ impl Observer for Counted {
     }
 }
 
-// The words NAME=VALUE that a command line has behind `exec - -`.
-fn arguments(alloc: Global, line: &str) -> Result<Items<Text>, Fail>
-    ensures { IfOk result AllAssign }
-{
+// The words of a command line.
+fn words_of(alloc: Global, line: &str) -> Result<Vec<String>, AllocError> {
     let mut words = Vec::new(alloc);
-    for word in ["exec", "-", "-"] {
-        words.push(String::from_str(alloc, word)?)?;
-    }
     for word in line.split(' ') {
-        if !word.is_empty() {
-            words.push(String::from_str(alloc, word)?)?;
-        }
-    }
-    match read_words(alloc, words.as_slice())? {
-        Job::Exec { args, .. } => Ok(args),
-        _ => Err("no run")?,
-    }
-}
-
-// The options of a run with this bound on turns, observed or not.
-fn options(alloc: Global, turns: u64, observe: bool) -> Result<Options, Fail> {
-    let line = format!(in alloc; "exec - - --turns {turns}")?;
-    let mut words = Vec::new(alloc);
-    for word in line.as_str().split(' ') {
         words.push(String::from_str(alloc, word)?)?;
     }
-    if observe {
-        words.push(String::from_str(alloc, "--observe")?)?;
-    }
+    Ok(words)
+}
+
+// The words NAME=VALUE and the options of a command line that runs an image.
+fn command(alloc: Global, line: &str) -> Result<(Items<Text>, Options), Fail>
+    ensures { IfOk result (λ x. AllAssign x.0) }
+{
+    let words = words_of(alloc, line)?;
     match read_words(alloc, words.as_slice())? {
-        Job::Exec { options, .. } => Ok(options),
+        Job::Exec { args, options, .. } => Ok((args, options)),
         _ => Err("no run")?,
     }
 }
 
-// The answer over a standard input of this text, which is read in pieces of this size, and of which the read of this
-// number fails. A counter and a table watch, or do not.
-fn answer_of(
-    alloc: Global,
-    words: &[Text],
-    watched: bool,
-    turns: u64,
-    text: &[u8],
-    piece: usize,
-    fails: u64,
-) -> Result<Answer, Fail>
-    requires words { AllAssign words.now }
+// A standard input of this text, which is read in pieces of this size, and of which the read of this number fails.
+fn source_of(alloc: Global, text: &[u8], piece: usize, fails: u64) -> Result<MemSource, NoMemory>
     requires piece { 0 < piece }
 {
-    let mut input = MemSource::new(Vec::from_slice(alloc, text)?, piece, vec![in alloc; fails]?);
-    let mut files = MemFiles::new(Vec::new(alloc), Vec::new(alloc));
-    let mut observers: Vec<Box<dyn Observer>> = Vec::new(alloc);
-    let counter: Box<dyn Observer> = Box::new(alloc, Counter::new(alloc))?;
-    observers.push(counter).map_err(NoMemory::from)?;
-    let table: Box<dyn Observer> = Box::new(alloc, Table::new(alloc))?;
-    observers.push(table).map_err(NoMemory::from)?;
-    let answer = exec(
-        alloc,
-        "-",
-        "-",
-        words,
-        &options(alloc, turns, watched)?,
-        &mut input,
-        &mut files,
-        &mut observers,
-    )?;
-    Ok(answer)
+    let fails = vec![in alloc; fails]?;
+    Ok(MemSource::new(Vec::from_slice(alloc, text)?, piece, fails))
 }
 
-// The sums of the values of each node's senders, in two supersteps.
-const TOTAL: &str =
-    "gm-image 1\nname total\ninputs 1\nnode I v 0\noutputs 1\nnode I s 1\nresult -\nglobals 0\nfields 2\nI\nI\nregisters 0\ncolumns 0\nkinds 1\n- I\nplaces 1\n2 32\nblocks 2\nblock 0\nbody 2\neach out 1\nsend 0 nb f 0\nblock 1\non 0 1\nfold sum 0 1 m 0\nbody 0\nmaster 3\nstep 0\nstep 1\nend\n";
+// The answer to the names of an image and a graph, over a standard input and some files.
+fn answer_to(
+    alloc: Global,
+    names: (&str, &str),
+    words: &[Text],
+    options: &Options,
+    input: MemSource,
+    files: MemFiles,
+    observers: &mut [Box<dyn Observer>],
+) -> Result<Answer, NoMemory>
+    requires words { AllAssign words.now }
+{
+    let mut input = input;
+    let mut files = files;
+    exec(
+        alloc, names.0, names.1, words, options, &mut input, &mut files, observers,
+    )
+}
 
-// As many turns as the argument says.
-const COUNT: &str =
-    "gm-image 1\nname count\ninputs 1\nscalar I n 1\noutputs 0\nresult I 0\nglobals 2\nI\nI\nfields 0\nregisters 0\ncolumns 0\nkinds 0\nplaces 1\n3 21\nblocks 0\nmaster 4\nloop 3 < g 0 g 1\nset 0 + 0 g 0 c I 1\nback 0\nend\n";
+// A counter and a table.
+fn watchers(alloc: Global) -> Result<Vec<Box<dyn Observer>>, NoMemory> {
+    let mut observers: Vec<Box<dyn Observer>> = Vec::new(alloc);
+    let counter: Box<dyn Observer> = Box::new(alloc, Counter::new(alloc))?;
+    observers.push(counter)?;
+    let table: Box<dyn Observer> = Box::new(alloc, Table::new(alloc))?;
+    observers.push(table)?;
+    Ok(observers)
+}
 
-// The words, whether the run is watched, the image, what stands behind it, and what is said.
-const REPLIES: [(&str, bool, &str, &str, &str, Status); 12] = [
-    (
-        "",
-        false,
-        "gm-image 1\nname total\ninputs x\n",
-        "%%\n0 x\n",
-        "image BadText at line 3\n",
-        Status::BadInput,
-    ),
-    (
-        "",
-        true,
-        "gm-image 1\n",
-        "",
-        "image BadText at line 2\n",
-        Status::BadInput,
-    ),
-    (
-        "",
-        true,
-        "gm-image 1\nname 7\ninputs 0\noutputs 0\nresult -\nglobals 0\nfields 0\nregisters 0\ncolumns 0\nkinds 0\nplaces 0\nblocks 0\nmaster 1\nend\n",
-        "%%\n0 x\n",
-        "image I10 at line 2\n",
-        Status::BadInput,
-    ),
-    (
-        "x=1",
-        true,
-        TOTAL,
-        "%%\n0 1\nv 0\n",
-        "graph MissingColumn at line 2\n",
-        Status::BadInput,
-    ),
-    (
-        "x=1",
-        true,
-        TOTAL,
-        "%%\n0 1\n",
-        "argument Unknown x\n",
-        Status::BadInput,
-    ),
-    (
-        "",
-        true,
-        COUNT,
-        "",
-        "argument Missing n\n",
-        Status::BadInput,
-    ),
-    (
-        "n=x",
-        true,
-        COUNT,
-        "",
-        "argument BadValue n\n",
-        Status::BadInput,
-    ),
-    (
-        "",
-        false,
-        TOTAL,
-        "%%\n0 1\n0 1\n1 1\nv 0 5\nv 1 7\n",
-        "node s\n0 0\n1 17\nsupersteps 2 messages 3 turns 0\n",
-        Status::Done,
-    ),
-    (
-        "",
-        true,
-        TOTAL,
-        "%%\n0 1\n0 1\n1 1\nv 0 5\nv 1 7\n",
-        "node s\n0 0\n1 17\nsupersteps 2 messages 3 turns 0\nobserved 2 supersteps 3 messages\nstep 1 block 0 vertices 2 messages 3\nstep 2 block 1 vertices 2 messages 0\n",
-        Status::Done,
-    ),
-    (
-        "",
-        true,
-        TOTAL,
-        "%%\n0 1\n0 1\nv 0 2147483647\n",
-        "fault Overflow at 2:32\nobserved 2 supersteps 2 messages\nstep 1 block 0 vertices 2 messages 2\nstep 2 block 1 vertices 2 messages 0\n",
-        Status::Fault,
-    ),
-    (
-        "n=4",
-        true,
-        COUNT,
-        "",
-        "return = 4\nsupersteps 0 messages 0 turns 4\nobserved 0 supersteps 0 messages\n",
-        Status::Done,
-    ),
-    (
-        "n=5",
-        true,
-        COUNT,
-        "",
-        "cut after 4 turns\nobserved 0 supersteps 0 messages\n",
-        Status::Cut,
-    ),
-];
+// The answer to a command line over a standard input. A counter and a table watch, if the line says so.
+fn reply_of(alloc: Global, line: &str, input: MemSource) -> Result<Answer, Fail> {
+    let (words, options) = command(alloc, line)?;
+    let files = MemFiles::new(Vec::new(alloc), Vec::new(alloc));
+    let mut observers = watchers(alloc)?;
+    Ok(answer_to(
+        alloc,
+        ("-", "-"),
+        words.as_slice(),
+        &options,
+        input,
+        files,
+        &mut observers,
+    )?)
+}
+
+// The status of this name.
+fn status_of(name: &str) -> Status {
+    match name {
+        "Done" => Status::Done,
+        "Fault" => Status::Fault,
+        "Cut" => Status::Cut,
+        "ReadFault" => Status::ReadFault,
+        _ => Status::BadInput,
+    }
+}
+
+// Whether an answer has this status and text.
+fn says(answer: &Answer, status: &str, text: &[u8]) -> bool {
+    answer.status == status_of(status) && answer.text.as_slice() == text
+}
+
+// An image by its name or its lines, and the lines of a graph behind it.
+fn input_of(alloc: Global, image: &str, rest: &str) -> Result<Vec<u8>, AllocError> {
+    let mut text = match image {
+        "total" | "count" => Vec::from_slice(alloc, text_of(image).as_bytes())?,
+        _ => text_of_lines(alloc, image)?,
+    };
+    text.extend_from_slice(&text_of_lines(alloc, rest)?)?;
+    Ok(text)
+}
+
+// The command line, the image, what stands behind it, and what is said.
+const REPLIES: &str =
+    "exec - - --turns 4|gm-image 1~name total~inputs x|%%~0 x|BadInput|image BadText at line 3;\
+    exec - - --turns 4 --observe|gm-image 1|(none)|BadInput|image BadText at line 2;\
+    exec - - --turns 4 --observe|gm-image 1~name 7~inputs 0~outputs 0~result -~globals 0~fields 0~registers 0~columns 0~kinds 0~places 0~blocks 0~master 1~end|%%~0 x|BadInput|image I10 at line 2;\
+    exec - - --turns 4 --observe x=1|total|%%~0 1~v 0|BadInput|graph MissingColumn at line 2;\
+    exec - - --turns 4 --observe x=1|total|%%~0 1|BadInput|argument Unknown x;\
+    exec - - --turns 4 --observe|count|(none)|BadInput|argument Missing n;\
+    exec - - --turns 4 --observe n=x|count|(none)|BadInput|argument BadValue n;\
+    exec - - --turns 4|total|%%~0 1~0 1~1 1~v 0 5~v 1 7|Done|node s~0 0~1 17~supersteps 2 messages 3 turns 0;\
+    exec - - --turns 4 --observe|total|%%~0 1~0 1~1 1~v 0 5~v 1 7|Done|node s~0 0~1 17~supersteps 2 messages 3 turns 0~observed 2 supersteps 3 messages~step 1 block 0 vertices 2 messages 3~step 2 block 1 vertices 2 messages 0;\
+    exec - - --turns 4 --observe|total|%%~0 1~0 1~v 0 2147483647|Fault|fault Overflow at 2:32~observed 2 supersteps 2 messages~step 1 block 0 vertices 2 messages 2~step 2 block 1 vertices 2 messages 0;\
+    exec - - --turns 4 --observe n=4|count|(none)|Done|return = 4~supersteps 0 messages 0 turns 4~observed 0 supersteps 0 messages;\
+    exec - - --turns 4 --observe n=5|count|(none)|Cut|cut after 4 turns~observed 0 supersteps 0 messages";
+
+// Whether a case has its reply.
+fn is_replied(alloc: Global, case: &str) -> Result<bool, Fail> {
+    match parts_of(alloc, case)?.as_slice() {
+        [line, image, rest, status, said] => {
+            let text = input_of(alloc, image, rest)?;
+            let input = source_of(alloc, &text, 7, 0)?;
+            let answer = reply_of(alloc, line, input)?;
+            Ok(says(&answer, status, &text_of_lines(alloc, said)?))
+        }
+        _ => Err("no case")?,
+    }
+}
 
 #[test]
 fn images_and_then_graphs_and_then_words_are_judged(rt: HostRuntime) -> Result<(), Fail> {
-    for (line, watched, image, rest, said, status) in REPLIES {
-        let words = arguments(rt.alloc(), line)?;
-        let text = format!(in rt.alloc(); "{image}{rest}")?;
-        let answer = answer_of(
-            rt.alloc(),
-            words.as_slice(),
-            watched,
-            4,
-            text.as_bytes(),
-            7,
-            0,
-        )?;
-        assert_eq!(rt; answer.text.as_slice(), said.as_bytes());
-        assert_eq!(rt; answer.status, status);
+    for case in REPLIES.split(';') {
+        assert!(rt; is_replied(rt.alloc(), case)?, "{case}");
     }
     Ok(())
 }
 
+// Whether the fault of a read is said. Of 200 bytes each read takes 50, and the last finds the end.
+fn is_fault_said(alloc: Global, read: u64) -> Result<bool, Fail> {
+    let text = input_of(alloc, "count", "%%~0 1")?;
+    let input = source_of(alloc, &text, 50, read)?;
+    let answer = reply_of(alloc, "exec - - --turns 4 --observe n=4", input)?;
+    Ok(says(&answer, "ReadFault", b"read fault -\n"))
+}
+
 #[test]
 fn a_failed_read_is_said(rt: HostRuntime) -> Result<(), Fail> {
-    let words = arguments(rt.alloc(), "n=4")?;
-    let text = format!(in rt.alloc(); "{COUNT}%%\n0 1\n")?;
-    // of 200 bytes each read takes 50, and the last finds the end
-    for fails in 1..6 {
-        let answer = answer_of(
-            rt.alloc(),
-            words.as_slice(),
-            true,
-            4,
-            text.as_bytes(),
-            50,
-            fails,
-        )?;
-        assert_eq!(rt; answer.text.as_slice(), b"read fault -\n".as_slice());
-        assert_eq!(rt; answer.status, Status::ReadFault);
+    for read in 1..6 {
+        assert!(rt; is_fault_said(rt.alloc(), read)?, "{read}");
     }
     Ok(())
 }
@@ -288,143 +222,111 @@ fn put_file(
     files: &mut Vec<(String, Vec<u8>)>,
     name: &str,
     text: &str,
-) -> Result<(), Fail> {
+) -> Result<(), AllocError> {
     let bytes = Vec::from_slice(alloc, text.as_bytes())?;
     files.push((String::from_str(alloc, name)?, bytes))?;
     Ok(())
 }
 
+// The files `image` and `graph`.
+fn shelf(alloc: Global) -> Result<MemFiles, AllocError> {
+    let mut shelf = Vec::new(alloc);
+    put_file(alloc, &mut shelf, "image", text_of("count"))?;
+    put_file(alloc, &mut shelf, "graph", "0 1\n")?;
+    Ok(MemFiles::new(shelf, Vec::new(alloc)))
+}
+
 // The names of the image and of the graph, what stands on standard input, and what is said.
-const NAMES: [(&str, &str, &str, &str, Status); 7] = [
-    (
-        "image",
-        "graph",
-        "",
-        "return = 4\nsupersteps 0 messages 0 turns 4\n",
-        Status::Done,
-    ),
-    (
-        "-",
-        "graph",
-        COUNT,
-        "return = 4\nsupersteps 0 messages 0 turns 4\n",
-        Status::Done,
-    ),
-    (
-        "image",
-        "-",
-        "0 1\n",
-        "return = 4\nsupersteps 0 messages 0 turns 4\n",
-        Status::Done,
-    ),
-    (
-        "image",
-        "-",
-        "0 x\n",
-        "graph BadLine at line 1\n",
-        Status::BadInput,
-    ),
-    (
-        "graph",
-        "nothing",
-        "",
-        "image BadText at line 1\n",
-        Status::BadInput,
-    ),
-    (
-        "nothing",
-        "graph",
-        "",
-        "absent nothing\n",
-        Status::ReadFault,
-    ),
-    (
-        "image",
-        "nothing",
-        "",
-        "absent nothing\n",
-        Status::ReadFault,
-    ),
-];
+const NAMES: &str = "image|graph|(none)|Done|return = 4~supersteps 0 messages 0 turns 4;\
+    -|graph|count|Done|return = 4~supersteps 0 messages 0 turns 4;\
+    image|-|0 1|Done|return = 4~supersteps 0 messages 0 turns 4;\
+    image|-|0 x|BadInput|graph BadLine at line 1;\
+    graph|nothing|(none)|BadInput|image BadText at line 1;\
+    nothing|graph|(none)|ReadFault|absent nothing;\
+    image|nothing|(none)|ReadFault|absent nothing";
+
+// The answer to the names of an image and a graph, over the files of the shelf and a standard input.
+fn answer_to_names(alloc: Global, names: (&str, &str), text: &[u8]) -> Result<Answer, Fail> {
+    let (words, options) = command(alloc, "exec - - --turns 4 n=4")?;
+    let input = source_of(alloc, text, 9, 0)?;
+    let files = shelf(alloc)?;
+    Ok(answer_to(
+        alloc,
+        names,
+        words.as_slice(),
+        &options,
+        input,
+        files,
+        &mut [],
+    )?)
+}
+
+// Whether a case has its reply.
+fn is_read(alloc: Global, case: &str) -> Result<bool, Fail> {
+    match parts_of(alloc, case)?.as_slice() {
+        [image, graph, input, status, said] => {
+            let text = input_of(alloc, input, "(none)")?;
+            let answer = answer_to_names(alloc, (image, graph), &text)?;
+            Ok(says(&answer, status, &text_of_lines(alloc, said)?))
+        }
+        _ => Err("no case")?,
+    }
+}
 
 #[test]
 fn names_are_read(rt: HostRuntime) -> Result<(), Fail> {
-    let words = arguments(rt.alloc(), "n=4")?;
-    for (image, graph, text, said, status) in NAMES {
-        let mut shelf = Vec::new(rt.alloc());
-        put_file(rt.alloc(), &mut shelf, "image", COUNT)?;
-        put_file(rt.alloc(), &mut shelf, "graph", "0 1\n")?;
-        let mut files = MemFiles::new(shelf, Vec::new(rt.alloc()));
-        let bytes = Vec::from_slice(rt.alloc(), text.as_bytes())?;
-        let mut input = MemSource::new(bytes, 9, Vec::new(rt.alloc()));
-        let mut observers: Vec<Box<dyn Observer>> = Vec::new(rt.alloc());
-        let answer = exec(
-            rt.alloc(),
-            image,
-            graph,
-            words.as_slice(),
-            &options(rt.alloc(), 4, false)?,
-            &mut input,
-            &mut files,
-            &mut observers,
-        )?;
-        assert_eq!(rt; answer.text.as_slice(), said.as_bytes());
-        assert_eq!(rt; answer.status, status);
+    for case in NAMES.split(';') {
+        assert!(rt; is_read(rt.alloc(), case)?, "{case}");
     }
     Ok(())
+}
+
+// One that has no memory for its second note, and behind it one that counts.
+fn forgetful_and_counted(
+    alloc: Global,
+    told: Rc<Cell<u32>>,
+) -> Result<Vec<Box<dyn Observer>>, NoMemory> {
+    let mut observers: Vec<Box<dyn Observer>> = Vec::new(alloc);
+    let notes = Vec::new(alloc);
+    let forgetful: Box<dyn Observer> = Box::new(alloc, Forgetful { notes })?;
+    observers.push(forgetful)?;
+    let notes = Vec::new(alloc);
+    let counted: Box<dyn Observer> = Box::new(alloc, Counted { notes, told })?;
+    observers.push(counted)?;
+    Ok(observers)
+}
+
+// Whether the image `total` is answered.
+fn is_answered(
+    alloc: Global,
+    line: &str,
+    observers: &mut [Box<dyn Observer>],
+) -> Result<bool, Fail> {
+    let (words, options) = command(alloc, line)?;
+    let text = input_of(alloc, "total", "%%~0 1")?;
+    let input = source_of(alloc, &text, 1000, 0)?;
+    let files = MemFiles::new(Vec::new(alloc), Vec::new(alloc));
+    let answer = answer_to(
+        alloc,
+        ("-", "-"),
+        words.as_slice(),
+        &options,
+        input,
+        files,
+        observers,
+    );
+    Ok(answer.is_ok())
 }
 
 #[test]
 fn one_without_memory_stops_the_telling(rt: HostRuntime) -> Result<(), Fail> {
     let told = Rc::new(rt.alloc(), Cell::new(0u32))?;
-    let mut observers: Vec<Box<dyn Observer>> = Vec::new(rt.alloc());
-    let forgetful: Box<dyn Observer> = Box::new(
-        rt.alloc(),
-        Forgetful {
-            notes: Vec::new(rt.alloc()),
-        },
-    )?;
-    observers.push(forgetful).map_err(NoMemory::from)?;
-    let counted: Box<dyn Observer> = Box::new(
-        rt.alloc(),
-        Counted {
-            notes: Vec::new(rt.alloc()),
-            told: Rc::clone(&told)?,
-        },
-    )?;
-    observers.push(counted).map_err(NoMemory::from)?;
-    let text = format!(in rt.alloc(); "{TOTAL}%%\n0 1\n")?;
-    let words = arguments(rt.alloc(), "")?;
-    let mut files = MemFiles::new(Vec::new(rt.alloc()), Vec::new(rt.alloc()));
+    let mut observers = forgetful_and_counted(rt.alloc(), Rc::clone(&told)?)?;
     // where the run is not watched nobody is told
-    let unwatched = Vec::from_slice(rt.alloc(), text.as_bytes())?;
-    let mut input = MemSource::new(unwatched, 1000, Vec::new(rt.alloc()));
-    let alone = exec(
-        rt.alloc(),
-        "-",
-        "-",
-        words.as_slice(),
-        &options(rt.alloc(), 4, false)?,
-        &mut input,
-        &mut files,
-        &mut observers,
-    );
-    assert!(rt; alone.is_ok());
+    assert!(rt; is_answered(rt.alloc(), "exec - - --turns 4", &mut observers)?);
     assert_eq!(rt; told.get(), 0);
     // the first has no memory for its second note, and the one behind it is not told
-    let watched = Vec::from_slice(rt.alloc(), text.as_bytes())?;
-    let mut again = MemSource::new(watched, 1000, Vec::new(rt.alloc()));
-    let stopped = exec(
-        rt.alloc(),
-        "-",
-        "-",
-        words.as_slice(),
-        &options(rt.alloc(), 4, true)?,
-        &mut again,
-        &mut files,
-        &mut observers,
-    );
-    assert!(rt; stopped.is_err());
+    assert!(rt; !is_answered(rt.alloc(), "exec - - --turns 4 --observe", &mut observers)?);
     assert_eq!(rt; told.get(), 1);
     Ok(())
 }

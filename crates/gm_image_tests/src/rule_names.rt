@@ -1,24 +1,38 @@
 //! The names of the rules, as they are printed.
 
 use gm_image::ImageRule;
+use std::alloc::{AllocError, Global};
 use std::test::Fail;
+
+// The rules in order.
+fn rules() -> [ImageRule; 10] {
+    [
+        ImageRule::I1,
+        ImageRule::I2,
+        ImageRule::I3,
+        ImageRule::I4,
+        ImageRule::I5,
+        ImageRule::I6,
+        ImageRule::I7,
+        ImageRule::I8,
+        ImageRule::I9,
+        ImageRule::I10,
+    ]
+}
+
+// The names of some rules, each with a space behind it.
+fn names_of(alloc: Global, rules: &[ImageRule]) -> Result<String, AllocError> {
+    let mut names = String::new(alloc);
+    for rule in rules {
+        let name = format!(in alloc; "{rule} ")?;
+        names.push_str(name.as_str())?;
+    }
+    Ok(names)
+}
 
 #[test]
 fn rules_have_names(rt: HostRuntime) -> Result<(), Fail> {
-    for (rule, want) in [
-        (ImageRule::I1, "I1"),
-        (ImageRule::I2, "I2"),
-        (ImageRule::I3, "I3"),
-        (ImageRule::I4, "I4"),
-        (ImageRule::I5, "I5"),
-        (ImageRule::I6, "I6"),
-        (ImageRule::I7, "I7"),
-        (ImageRule::I8, "I8"),
-        (ImageRule::I9, "I9"),
-        (ImageRule::I10, "I10"),
-    ] {
-        let text = format!(in rt.alloc(); "{rule}")?;
-        assert_eq!(rt; text.as_str(), want);
-    }
+    let names = names_of(rt.alloc(), &rules())?;
+    assert_eq!(rt; names.as_str(), "I1 I2 I3 I4 I5 I6 I7 I8 I9 I10 ");
     Ok(())
 }
