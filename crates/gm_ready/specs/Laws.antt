@@ -1,4 +1,4 @@
--- What holds of a program whose text was accepted.
+-- What holds of a program that breaks no rule of types.
 use Rattle.std.specs.Prelude.{◌≡◌, true}
 use Rattle.gm_ast.specs.Program.{Program}
 use Rattle.gm_ast.specs.Procedures.{IsTyped}

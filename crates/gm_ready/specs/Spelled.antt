@@ -1,4 +1,5 @@
--- What the grammar and the machine's numbers leave of a program, and types do not say.
+-- What types do not say of a program, and passes need: its constants are in range, and only Min and Max keep tuples.
+-- The grammar, and the numbers that a text may spell, are to give it; that they do is not proved here.
 use Rattle.std.specs.Prelude.{Bool, true, ◌&&◌, List, [], ◌∷◌, Option, Some, None}
 use Rattle.gm_value.specs.Numbers.{type_of, number_of, fits}
 use Rattle.gm_value.specs.declared.reductions.Reduce.{Reduce}
@@ -49,6 +50,6 @@ is_spelled_in (InBfsBoth k at s test body back_key back_test back) =
 is_spelled_in (Return k at e) = may_fit e
 is_spelled_in _ = true
 
--- what each program is that comes of a text
+-- whether all constants of a program are in range, and only Min and Max have several targets
 abbrev pub is_spelled : Program → Bool
 is_spelled p = is_spelled_in p.body

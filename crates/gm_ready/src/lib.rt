@@ -1,6 +1,6 @@
-//! What the passes of the compiler may rest on in a program whose text was accepted.
+//! What the passes of the compiler may rest on in a program that breaks no rule of types.
 #![tactic(auto)]
 
 mod laws;
 
-pub use laws::{checked_programs_are_named, checked_programs_have_types};
+pub use laws::{typed_programs_are_named, typed_programs_have_types};
