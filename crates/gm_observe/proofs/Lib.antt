@@ -1,3 +1,3 @@
 mod Reporting
 mod Rows
-mod Telling
+pub mod Telling

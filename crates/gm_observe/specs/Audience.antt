@@ -17,6 +17,19 @@ pub record IsToldToSome (note : Note) (before after : List (List Note)) : Type 0
   pub fewer : count < length before
   pub told : after ≡ told_to_first count note before
 
+-- all of them were told the notes that stand in front of these, and no other
+pub record AreToldUpTo (notes rest : List Note) (before after : List (List Note)) : Type 0 where
+  pub told : List Note
+  pub front : told ++ rest ≡ notes
+  pub all : after ≡ told_to_all told before
+
+-- some notes were told in part, from their front: all were told the first of them; and then no more was told, or the next
+-- note was, to some of them, from the first on
+pub data IsToldInPart (notes : List Note) (before after : List (List Note)) : Type 0 where
+  to_all : (rest : List Note) → AreToldUpTo notes rest before after → IsToldInPart notes before after
+  to_some : (next : Note) (rest : List Note) (between : List (List Note)) → AreToldUpTo notes (next ∷ rest) before between
+      → IsToldToSome next between after → IsToldInPart notes before after
+
 -- the reports one after another: each in its way, of the notes that it holds
 abbrev pub reports : List (List Note → List ℕ) → List (List Note) → List ℕ
 reports [] held = []
