@@ -13,4 +13,4 @@ pub mod Accesses
 pub mod Races
 pub mod Ways
 pub mod Canonical
-pub mod Keyed
+pub mod Keys

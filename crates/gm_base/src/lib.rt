@@ -1,11 +1,13 @@
 //! What all other crates stand on: places in a text, the rules that a text may break, statuses, lists and
-//! texts that contracts see as lists, and the traits through which the program reads and writes.
+//! texts that contracts see as lists, the traits through which the program reads and writes, and the gate that workers
+//! pass.
 #![tactic(auto)]
 
 mod adapters;
 mod counts;
 mod disk_files;
 mod file_sources;
+mod gates;
 mod lists;
 mod memory;
 mod memory_files;
@@ -21,6 +23,7 @@ mod whole_files;
 pub use adapters::{ReadSource, WriteSink};
 pub use disk_files::DiskFiles;
 pub use file_sources::FileSource;
+pub use gates::{Gate, OpenGate};
 pub use lists::{Items, Text};
 pub use memory::{MemSink, MemSource};
 pub use memory_files::MemFiles;

@@ -10,7 +10,7 @@ use Rattle.gm_ast.specs.declared.tree.Sort.{Sort}
 use Rattle.gm_ast.specs.declared.tree.Sort.TheVariants as Sorts
 use Rattle.gm_ast.specs.declared.tree.Target.TheVariants as T
 use Rattle.gm_ast.specs.declared.tree.Variable.{Variable}
-use Rattle.gm_ast.specs.Keyed as K
+use Rattle.gm_ast.specs.Keys as K
 use Rattle.gm_ast.specs.Names.{is, is_node, is_node_type, sort_eq}
 use Rattle.gm_ast.specs.Loops.{is_nodes}
 use Rattle.gm_ast.specs.Program.{Expr, always, Stmt, Skip, Then, Declare, DeclareEdge, Assign, Defer, Combine, Group, Foreach, For, If, While, Do, InBfs, InBfsBoth, Return, Program}

@@ -1,4 +1,5 @@
 pub mod Samples
+pub mod Sharing
 pub mod ByShape
 mod Reading
 mod Rows

@@ -10,7 +10,7 @@ use Rattle.gm_value.proofs.BagLaws.{SameBag-folded}
 use Rattle.gm_value.specs.Faults.{fault_number}
 use Rattle.gm_ast.specs.declared.tree.Stage.{Stage}
 use Rattle.gm_ast.specs.declared.tree.Stage.TheVariants.{Inner, Operator, Total}
-use Rattle.gm_ast.specs.Keyed.{stage_rank}
+use Rattle.gm_ast.specs.Keys.{stage_rank}
 use Rattle.gm_source.specs.declared.faults.Fault.{Fault}
 use Rattle.gm_source.specs.Faults.{rank_of, comes_before, lower, lesser, least}
 

@@ -4,7 +4,7 @@ use Rattle.gm_value.specs.declared.faults.FaultKind.{FaultKind}
 use Rattle.gm_value.specs.declared.faults.FaultKind.TheVariants.{Overflow}
 use Rattle.gm_value.specs.Faults.{fault_number}
 use Rattle.gm_ast.specs.declared.tree.TotalKey.{TotalKey}
-use Rattle.gm_ast.specs.Keyed.{stage_rank}
+use Rattle.gm_ast.specs.Keys.{stage_rank}
 use Rattle.gm_source.specs.declared.faults.Fault.{Fault}
 
 -- the numbers that order faults: statement, stage, place, kind; the place that is shown comes last, so that only equal faults tie

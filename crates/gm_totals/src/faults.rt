@@ -1,7 +1,7 @@
 //! The faults of totals, and the least of faults.
 
 ghost use Rattle.std.specs.Prelude.{◌≡◌, nat_eq, nat_lt, ◌&&◌, ◌||◌, Option};
-ghost use Rattle.gm_ast.specs.Keyed.{stage_rank};
+ghost use Rattle.gm_ast.specs.Keys.{stage_rank};
 ghost use Rattle.gm_source.specs.Faults.{rank_of, comes_before, lower, lesser, total_fault};
 ghost use Rattle.gm_value.specs.Faults.{fault_number};
 

@@ -1,5 +1,5 @@
 -- Programs that procedures stand for, as the definitions of typing compute them.
-use Rattle.std.specs.Prelude.{◌≡◌, ℕ, true, List, [], ◌∷◌, pos, negsuc, Some, None, option_map, refl, codes}
+use Rattle.std.specs.Prelude.{◌≡◌, ℕ, List, [], ◌∷◌, pos, negsuc, Some, None, refl, codes}
 use Rattle.gm_value.specs.declared.operations.Op2.TheVariants.{Add, Sub, Gt}
 use Rattle.gm_value.specs.declared.reductions.Reduce.TheVariants as Reduce
 use Rattle.gm_ast.specs.declared.surface.TypeWord.TheVariants as Word
@@ -25,7 +25,6 @@ use Rattle.gm_ast.specs.declared.tree.Stage.TheVariants.{Inner, Operator, Total}
 use Rattle.gm_ast.specs.declared.tree.Target.TheVariants as Target
 use Rattle.gm_ast.specs.Program as P
 use Rattle.gm_ast.specs.Procedures.{elaborated}
-use Rattle.gm_ast.specs.Keyed.{is_keyed}
 
 -- a row of the table of declarations
 abbrev pub declared : List ℕ → Sort → VType → ℕ → Declaration
@@ -47,9 +46,6 @@ numbers_text = procedure (name (codes "f") 1 11)
     []
     None
     (Then (Assign (target (name (codes "b") 1 42) None) (at 1 44) (Infixed (at 1 48) (Op Add) (Named (name (codes "a") 1 46)) (Number (at 1 50) (pos 1)))) (Then (Assign (target (name (codes "a") 1 53) None) (at 1 55) (Least (at 1 57))) (Then (Assign (target (name (codes "b") 1 63) None) (at 1 65) (Infixed (at 1 69) (Op Sub) (Number (at 1 67) (pos 1)) (Number (at 1 71) (pos 3000000000)))) Skip)))
-
-numbers_keyed : option_map is_keyed (elaborated numbers_text).part ≡ Some true
-numbers_keyed = refl
 
 numbers : (elaborated numbers_text).part ≡ Some (record {
   name = codes "f";
@@ -80,9 +76,6 @@ sequential_text = procedure (name (codes "f") 1 11)
     []
     None
     (Then (DeclareAs (Plain (at 2 3) Word.Int None) (name (codes "k") 2 7) (at 2 9) (Reduction (at 2 11) Fold.Sum (head (name (codes "n") 2 15) (name (codes "G") 2 18) Range.Nodes) (Infixed (at 2 32) (Op Gt) (Member (name (codes "n") 2 28) (name (codes "v") 2 30)) (Number (at 2 34) (pos 1))) (Member (name (codes "n") 2 38) (name (codes "v") 2 40)) (at 2 41))) (Then (Increment (target (name (codes "k") 3 3) None) (at 3 4)) Skip))
-
-sequential_keyed : option_map is_keyed (elaborated sequential_text).part ≡ Some true
-sequential_keyed = refl
 
 sequential : (elaborated sequential_text).part ≡ Some (record {
   name = codes "f";
@@ -122,9 +115,6 @@ parallel_text = procedure (name (codes "f") 1 11)
     ((group ((name (codes "p") 1 36) ∷ []) (Property (at 1 39) Bearer.Nodes (Plain (at 1 43) Word.Int None) None)) ∷ [])
     None
     (Then (Loop (at 2 3) Loop.Foreach (head (name (codes "n") 2 12) (name (codes "G") 2 15) Range.Nodes) Always (Then (Combine ((target (name (codes "n") 3 5) (Some (name (codes "p") 3 7))) ∷ []) Reduce.Sum (at 3 9) ((Reduction (at 3 12) Fold.Max (head (name (codes "m") 3 16) (name (codes "n") 3 19) Range.InNbrs) Always (Member (name (codes "m") 3 30) (name (codes "p") 3 32)) (at 3 33)) ∷ []) None) (Then (Loop (at 4 5) Loop.Foreach (head (name (codes "m") 4 14) (name (codes "n") 4 17) Range.Nbrs) Always (Then (DeclareAs (Plain (at 5 7) Word.Edge None) (name (codes "e") 5 12) (at 5 14) (Method (name (codes "m") 5 16) (name (codes "ToEdge") 5 18))) (Then (Combine ((target (name (codes "m") 6 7) (Some (name (codes "p") 6 9))) ∷ []) Reduce.Min (at 6 11) ((Member (name (codes "e") 6 16) (name (codes "w") 6 18)) ∷ []) None) Skip))) Skip))) Skip)
-
-parallel_keyed : option_map is_keyed (elaborated parallel_text).part ≡ Some true
-parallel_keyed = refl
 
 parallel : (elaborated parallel_text).part ≡ Some (record {
   name = codes "f";
