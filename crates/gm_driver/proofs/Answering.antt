@@ -15,12 +15,14 @@ use Rattle.gm_value.specs.declared.values.Value.{Value}
 use Rattle.gm_graph.specs.declared.builds.Shape.{Shape}
 use Rattle.gm_run.specs.Answers.{Ran}
 use Rattle.gm_run.specs.Programs.{shape_of, inputs_of}
-use Rattle.gm_input.specs.Answers.{GraphFormat, Saying, IsGraphAnswer, bad_argument, ran as graph_ran, IsTextAnswer, bad_graph, good_graph, format_of}
+use Rattle.gm_input.specs.Answers.{GraphFormat, Saying, IsGraphAnswer, bad_argument, ran as graph_ran, IsTextAnswer, bad_graph, good_graph, edge_list, format_of}
 use Rattle.gm_input.specs.Outside.{Outside, KeepsFiles, IsText, on_input, in_file, IsUnread, input_fault, file_fault, file_absent}
 use Rattle.gm_input.specs.Roads.{Road, IsReply, no_code, bad_code, no_graph, over, IsCode, in_front, alone, AreTexts, parted, apart}
 use Rattle.gm_driver.specs.Fronts.{most_program}
 use Rattle.gm_driver.specs.Checks.{IsVerdict, accepted, refused, IsCheckReply, unread, judged}
 use Rattle.gm_driver.specs.Runs.{SaysRefused, program_road, IsRunReply}
+use Rattle.gm_demo.specs.Texts.{demo_text}
+use Rattle.gm_driver.specs.Demos.{IsDemoAnswer, refused as demo_refused, told, listed, demo_words, usual_turns}
 use Rattle.gm_observe.specs.declared.notes.Note.{Note}
 use Rattle.gm_image.specs.Program.{Program as ImageProgram}
 use Rattle.gm_machine.specs.Machine.{machine}
@@ -66,6 +68,12 @@ image_answers p turns watched s g args text status r = status_given status (stat
 verdict_status : (program text : List ℕ) (status : Status) → IsVerdict program text status → IsAnswerStatus status
 verdict_status program text status (accepted p stands says) = status_given status DoneStatus says.1 tt
 verdict_status program text status (refused said) = status_given status RefusedStatus said.says.1 tt
+
+demo_status : (n : ℕ) (text : List ℕ) (status : Status) → IsDemoAnswer n text status → IsAnswerStatus status
+demo_status n text status (demo_refused said) = status_given status RefusedStatus said.says.1 tt
+demo_status n text status (told p stands run ended) = status_given status DoneStatus ended tt
+demo_status n text status (listed p stands none said) =
+    text_status edge_list (shape_of p) (inputs_of p) demo_words (Ran p usual_turns) (demo_text n) text status (program_answers p usual_turns) said
 
 -- ---- the counts
 
@@ -134,7 +142,7 @@ job_ends asked ways held b a text status (usage is input files says) = answers (
 job_ends asked ways held b a text status (checked prog is r) = check_ends prog b a text status r
 job_ends asked ways held b a text status (ran prog graph args options is r) = run_ends prog graph args options b a text status r
 job_ends asked ways held b a text status (executed image graph args options held_then is r) = exec_ends image graph args options (audience ways held held_then) b a text status r
-job_ends asked ways held b a text status (shown n options is input files d) = answers (status_given status DoneStatus d.ended tt) (none_missed b a input.quiet files)
+job_ends asked ways held b a text status (shown n options is input files d) = answers (demo_status n text status d) (none_missed b a input.quiet files)
 
 -- ---- what follows for the whole call
 

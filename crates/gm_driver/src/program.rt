@@ -94,7 +94,7 @@ fn demo_job(alloc: Global, nodes: u32, options: Options) -> Result<Answer, NoMem
     requires few { nodes ≤ 1000000 }
     ensures { IfOk result (λ a. (ways : List (List Note → List ℕ)) → (held : List (List Note)) → (o : Outside) → IsJobReply (Some (job.Demo nodes options)) ways held o o a.text.items a.status) }
 {
-    demo(alloc, nodes)
+    demo(alloc, nodes, options)
 }
 
 // The reply for a job.

@@ -1,44 +1,28 @@
--- What observers hold after one superstep more, and what a run says of them.
-use Rattle.std.proofs.Common.{◌≡◌, ◌∙◌, ◌<◌, ◌≤◌, ◌+◌, ℕ, List, [], ◌∷◌, ◌++◌, length, map, take, get_or, refl, ap, sym, inl, inr, append_assoc, true, false}
+-- What observers hold after a run, and what the run says of them.
+use Rattle.std.proofs.Common.{◌≡◌, ◌∙◌, ℕ, List, [], ◌++◌, refl, ap, sym, inl, inr, true, false}
 use Rattle.std.specs.Prelude.{Result, Ok, Err, IfOk}
-use Rattle.std.proofs.lemmas.List.{map-append, append-nil, take_all, take_more}
+use Rattle.std.proofs.lemmas.List.{append-nil}
 use Rattle.gm_base.specs.declared.statuses.Status.{Status}
 use Rattle.gm_value.specs.declared.values.Value.{Value}
 use Rattle.gm_graph.specs.declared.outcomes.Outcome.{Outcome}
 use Rattle.gm_graph.specs.declared.outcomes.Outcome.TheVariants.{Done, Fault, Cut}
 use Rattle.gm_graph.specs.Graphs.{NumberedGraph}
 use Rattle.gm_image.specs.Program.{Program}
-use Rattle.gm_machine.specs.declared.notes.StepNote.{StepNote}
 use Rattle.gm_machine.specs.Machine.{machine}
+use Rattle.gm_machine.specs.Notes.{noted}
 use Rattle.gm_observe.specs.declared.notes.Note.{Note}
-use Rattle.gm_observe.specs.Audience.{told_to_all, reports}
+use Rattle.gm_observe.specs.Audience.{IsToldInPart, to_all, told_to_all, reports}
+use Rattle.gm_observe.proofs.Telling.{up_to-start}
 use Rattle.gm_listing.specs.Listing.{status_of}
 use Rattle.gm_input.specs.Texts.{Says}
-use Rattle.gm_exec.specs.Runs.{audience, note_told, told_of, end_text, Ran, IsUntold}
+use Rattle.gm_exec.specs.Runs.{audience, end_text, Ran, IsUntold}
 
--- some notes and one more
-told-more : (notes : List Note) (note : Note) (held : List (List Note)) → told_to_all (note ∷ []) (told_to_all notes held) ≡ told_to_all (notes ++ note ∷ []) held
-told-more notes note [] = refl
-told-more notes note (before ∷ held) =
-    ap (λ (x : List Note). x ∷ told_to_all (note ∷ []) (told_to_all notes held)) (append_assoc before notes (note ∷ []))
-    ∙ ap (λ (xs : List (List Note)). (before ++ (notes ++ note ∷ [])) ∷ xs) (told-more notes note held)
+-- nothing of some notes is a part of them, and so are all of them
+pub part-none : (notes : List Note) (held : List (List Note)) → IsToldInPart notes held held
+part-none notes held = to_all notes (up_to-start notes notes held refl)
 
--- no notes
-pub told-none : (held : List (List Note)) → told_to_all [] held ≡ held
-told-none [] = refl
-told-none (before ∷ held) = ap (λ (x : List Note). x ∷ told_to_all [] held) (append-nil before) ∙ ap (λ (xs : List (List Note)). before ∷ xs) (told-none held)
-
--- the notes of the first supersteps, and of one more
-pub told-step : (notes : List StepNote) (i : ℕ) (d : StepNote) (note : Note) (held : List (List Note)) → note ≡ note_told (get_or notes i d) → i < length notes
-    → told_to_all (note ∷ []) (told_to_all (map note_told (take i notes)) held) ≡ told_to_all (map note_told (take (i + 1) notes)) held
-told-step notes i d note held is below =
-    told-more (map note_told (take i notes)) note held
-    ∙ ap (λ (n : Note). told_to_all (map note_told (take i notes) ++ n ∷ []) held) is
-    ∙ ap (λ (ns : List Note). told_to_all ns held) (sym (map-append note_told (take i notes) (get_or notes i d ∷ [])) ∙ ap (map note_told) (sym (take_more notes i d below)))
-
--- the notes of all supersteps
-pub told-all : (items notes : List StepNote) (i : ℕ) (held : List (List Note)) → length items ≤ i → items ≡ notes → told_to_all (map note_told (take i items)) held ≡ told_to_all (map note_told notes) held
-told-all items notes i held past is = ap (λ (ns : List StepNote). told_to_all (map note_told ns) held) (take_all i items past ∙ is)
+pub part-all : (notes : List Note) (before after : List (List Note)) → after ≡ told_to_all notes before → IsToldInPart notes before after
+part-all notes before after told = to_all [] (record { told = notes; front = append-nil notes; all = told })
 
 -- a run is no bad input and no failed read
 pub ran-told : (o : Outcome) (status : Status) (before after : List (List Note)) → status ≡ status_of o → IsUntold status before after
@@ -61,7 +45,7 @@ ran-alone p turns ways held g args text status says = record { told = refl; says
 
 -- a run that is watched: its listing, and the reports behind it
 pub ran-watched : (p : Program) (turns : ℕ) (ways same : List (List Note → List ℕ)) (before after : List (List Note)) (g : NumberedGraph) (args : List Value) (text listed : List ℕ) (status ending : Status)
-    → after ≡ told_to_all (told_of p g args turns) before → Says listed ending (end_text p g (machine p g args turns)) (status_of (machine p g args turns).outcome)
+    → after ≡ told_to_all (noted p g args turns) before → Says listed ending (end_text p g (machine p g args turns)) (status_of (machine p g args turns).outcome)
     → same ≡ ways → text ≡ listed ++ reports same after → status ≡ ending → Ran p turns true (audience ways before after) g args text status
 ran-watched p turns ways same before after g args text listed status ending told says is written ends = record {
   told = told;

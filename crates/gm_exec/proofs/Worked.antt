@@ -8,12 +8,13 @@ use Rattle.gm_value.specs.declared.values.Value.TheVariants.{I32}
 use Rattle.gm_graph.specs.declared.outcomes.Outcome.TheVariants.{Done}
 use Rattle.gm_graph.specs.Graphs.{NumberedGraph}
 use Rattle.gm_machine.proofs.Samples.{total, graph_of, edge}
+use Rattle.gm_machine.specs.Notes.{noted}
 use Rattle.gm_observe.specs.declared.notes.Note.{Note}
 use Rattle.gm_observe.specs.Notes.{counter_text, table_text}
 use Rattle.gm_listing.specs.declared.outputs.Ending.TheVariants.{Counts}
 use Rattle.gm_listing.specs.Listing.{listing}
 use Rattle.gm_exec.specs.Programs.{inputs_of, property_outputs, scalar_outputs, shape_of}
-use Rattle.gm_exec.specs.Runs.{Ran, audience, told_of}
+use Rattle.gm_exec.specs.Runs.{Ran, audience}
 
 -- the edges 0 1, 0 1 and 1 1, with 5 and 7 at the nodes
 abbrev two : NumberedGraph
@@ -39,7 +40,7 @@ total-scalars = refl
 pub total-properties : property_outputs total ≡ codes "s" ∷ []
 total-properties = refl
 
-pub total-told : told_of total two [] 0 ≡ notes
+pub total-told : noted total two [] 0 ≡ notes
 total-told = refl
 
 -- watched, it is told to both observers, and they report in their order

@@ -5,7 +5,7 @@ ghost use Rattle.std.specs.Prelude.{◌≡◌, false, IfOk, map};
 ghost use Rattle.gm_words.specs.Jobs.{AllAssign};
 ghost use Rattle.gm_input.specs.Halts.{IfSaid};
 ghost use Rattle.gm_input.specs.Outside.{outside};
-ghost use Rattle.gm_exec.specs.Replies.{IsExecReply};
+ghost use Rattle.gm_exec.specs.Replies.{AreTold, IsExecReply};
 ghost use Rattle.gm_exec.specs.Runs.{IsUntold, audience};
 
 use crate::images::image_of;
@@ -36,6 +36,8 @@ fn exec_steps<S: Source, F: Files>(
         (outside S.Source F.Files input.old files.old) (outside S.Source F.Files input.new files.new) a.text.items a.status) }
     ensures untold { IfSaid result (λ a. IsUntold a.status (map (λ o. seen o) observers.old) (map (λ o. seen o) observers.new)) }
     ensures unwatched { options.now.observe ≡ false → map (λ o. seen o) observers.new ≡ map (λ o. seen o) observers.old }
+    ensures part { AreTold image.now graph.now words.now options.now
+        (outside S.Source F.Files input.old files.old) (outside S.Source F.Files input.new files.new) (map (λ o. seen o) observers.old) (map (λ o. seen o) observers.new) }
     ensures same_ways { map (λ o. says_of o) observers.new ≡ map (λ o. says_of o) observers.old }
     ensures kept { F.told files.new ≡ F.told files.old }
 {
@@ -52,7 +54,8 @@ fn exec_steps<S: Source, F: Files>(
 ///
 /// The image is read and judged first: `image TooLong`, `image BadText at line L` or `image RULE at line L` is bad
 /// input, and then nothing is read behind it. Then the graph is read and judged, then the words are, and then the image
-/// runs. Where there is not enough memory some of the observers may have been told of some supersteps.
+/// runs. Where there is not enough memory the observers were told of the first supersteps that were taken, and some of them
+/// may have been told of one more.
 pub fn exec<S: Source, F: Files>(
     alloc: Global,
     image: &str,
@@ -73,6 +76,10 @@ pub fn exec<S: Source, F: Files>(
     // Where nothing ran, and where the run is not watched, they were told nothing.
     ensures untold { IfOk result (λ a. IsUntold a.status (map (λ o. seen o) observers.old) (map (λ o. seen o) observers.new)) }
     ensures unwatched { options.now.observe ≡ false → map (λ o. seen o) observers.new ≡ map (λ o. seen o) observers.old }
+
+    // Whatever came of it, they were told a part of the notes of the run, from their front, or nothing.
+    ensures part { AreTold image.now graph.now words.now options.now
+        (outside S.Source F.Files input.old files.old) (outside S.Source F.Files input.new files.new) (map (λ o. seen o) observers.old) (map (λ o. seen o) observers.new) }
 
     ensures same_ways { map (λ o. says_of o) observers.new ≡ map (λ o. says_of o) observers.old }
     ensures kept { F.told files.new ≡ F.told files.old }

@@ -5,7 +5,7 @@ ghost use Rattle.gm_image.specs.Views.{program};
 ghost use Rattle.gm_words.specs.Jobs.{AllAssign};
 ghost use Rattle.gm_input.specs.Halts.{IfSaid};
 ghost use Rattle.gm_exec.specs.Answers.{IsTextAnswer};
-ghost use Rattle.gm_exec.specs.Runs.{IsUntold, audience};
+ghost use Rattle.gm_exec.specs.Runs.{AreToldOver, IsUntold, audience};
 
 use crate::programs::{inputs_of, shape_of};
 use crate::watches::run_with;
@@ -35,6 +35,7 @@ pub fn run_text(
         (audience (map (λ o. says_of o) observers.old) (map (λ o. seen o) observers.old) (map (λ o. seen o) observers.new)) text.items a.text.items a.status) }
     ensures untold { IfSaid result (λ a. IsUntold a.status (map (λ o. seen o) observers.old) (map (λ o. seen o) observers.new)) }
     ensures unwatched { options.now.observe ≡ false → map (λ o. seen o) observers.new ≡ map (λ o. seen o) observers.old }
+    ensures part { AreToldOver (program image.now) words.now options.now text.items (map (λ o. seen o) observers.old) (map (λ o. seen o) observers.new) }
     ensures same_ways { map (λ o. says_of o) observers.new ≡ map (λ o. says_of o) observers.old }
 {
     let shape = shape_of(alloc, image.image())?;

@@ -7,8 +7,8 @@ ghost use Rattle.gm_listing.specs.Listing.{status_of as status_of_lem};
 ghost use Rattle.gm_machine.specs.Machine.{machine};
 ghost use Rattle.gm_machine.specs.Masters.{FitsGraph};
 ghost use Rattle.gm_machine.specs.Notes.{noted};
-ghost use Rattle.gm_observe.specs.Audience.{reports, told_to_all};
-ghost use Rattle.gm_exec.specs.Runs.{Ran, audience, end_text, note_told as note_told_lem, told_of};
+ghost use Rattle.gm_observe.specs.Audience.{IsToldInPart, reports, told_to_all};
+ghost use Rattle.gm_exec.specs.Runs.{Ran, audience, end_text};
 
 use crate::programs::{property_names, scalar_names};
 use gm_base::NoMemory;
@@ -16,8 +16,8 @@ use gm_graph::{Graph, RunEnd};
 use gm_image::{Image, Sound};
 use gm_input::Answer;
 use gm_listing::{Ending, Outputs, listing, status_of};
-use gm_machine::{StepNote, run_noted, run_one};
-use gm_observe::{Note, Observer, report_all, tell_all};
+use gm_machine::{run_one, run_watched};
+use gm_observe::{Observer, report_all};
 use gm_value::Value;
 use std::alloc::Global;
 
@@ -40,18 +40,6 @@ fn listed(alloc: Global, image: &Image, graph: &Graph, end: &RunEnd) -> Result<A
         text: listing(alloc, &names, graph, &end.outcome, ending)?,
         status: status_of(&end.outcome),
     })
-}
-
-// What observers are told of a superstep.
-fn note_told(note: &StepNote) -> Note
-    ensures { result ≡ note_told_lem note.now }
-{
-    Note {
-        step: note.step,
-        block: note.block,
-        vertices: note.vertices,
-        messages: note.messages,
-    }
 }
 
 // The answer with the reports of all observers behind it.
@@ -80,32 +68,6 @@ fn run_alone(
     listed(alloc, image.image(), graph, &end)
 }
 
-// The answer of an image over a graph, and what is to be told of its supersteps.
-#[derive(Drop)]
-struct Noted {
-    answer: Answer,
-    notes: Vec<StepNote>,
-}
-
-// The answer of an image over a graph, with the notes of its supersteps.
-fn run_noting(
-    alloc: Global,
-    image: &Sound,
-    graph: &Graph,
-    args: &[Value],
-    turns: u64,
-) -> Result<Noted, NoMemory>
-    requires { FitsGraph image.now graph.now }
-    ensures says { IfOk result (λ n. Says n.answer.text.items n.answer.status (end_text (program image.now) graph.now (machine (program image.now) graph.now args.now turns))
-        (status_of_lem (machine (program image.now) graph.now args.now turns).outcome)) }
-    ensures notes { IfOk result (λ n. n.notes.items ≡ noted (program image.now) graph.now args.now turns) }
-{
-    let mut notes = Vec::new(alloc);
-    let end = run_noted(alloc, image, graph, args, turns, &mut notes)?;
-    let answer = listed(alloc, image.image(), graph, &end)?;
-    Ok(Noted { answer, notes })
-}
-
 // The answer of an image over a graph, of whose supersteps all observers are told, in their order.
 fn run_told(
     alloc: Global,
@@ -118,18 +80,16 @@ fn run_told(
     requires { FitsGraph image.now graph.now }
     ensures says { IfOk result (λ a. Says a.text.items a.status (end_text (program image.now) graph.now (machine (program image.now) graph.now args.now turns))
         (status_of_lem (machine (program image.now) graph.now args.now turns).outcome)) }
-    ensures told { IfOk result (λ _. map (λ o. seen o) observers.new ≡ told_to_all (told_of (program image.now) graph.now args.now turns) (map (λ o. seen o) observers.old)) }
+    ensures told { IfOk result (λ _. map (λ o. seen o) observers.new ≡ told_to_all (noted (program image.now) graph.now args.now turns) (map (λ o. seen o) observers.old)) }
+    ensures part { IsToldInPart (noted (program image.now) graph.now args.now turns) (map (λ o. seen o) observers.old) (map (λ o. seen o) observers.new) }
     ensures same_ways { map (λ o. says_of o) observers.new ≡ map (λ o. says_of o) observers.old }
 {
-    let noted = run_noting(alloc, image, graph, args, turns)?;
-    for note in &noted.notes {
-        tell_all(observers, note_told(note))?;
-    }
-    Ok(noted.answer)
+    let end = run_watched(alloc, image, graph, args, turns, observers)?;
+    listed(alloc, image.image(), graph, &end)
 }
 
 // The answer of an image over a graph, of whose supersteps all observers are told, with their reports behind it.
-fn run_watched(
+fn run_reported(
     alloc: Global,
     image: &Sound,
     graph: &Graph,
@@ -140,6 +100,7 @@ fn run_watched(
     requires { FitsGraph image.now graph.now }
     ensures ran { IfOk result (λ a. Ran (program image.now) turns true
         (audience (map (λ o. says_of o) observers.old) (map (λ o. seen o) observers.old) (map (λ o. seen o) observers.new)) graph.now args.now a.text.items a.status) }
+    ensures part { IsToldInPart (noted (program image.now) graph.now args.now turns) (map (λ o. seen o) observers.old) (map (λ o. seen o) observers.new) }
     ensures same_ways { map (λ o. says_of o) observers.new ≡ map (λ o. says_of o) observers.old }
 {
     let answer = run_told(alloc, image, graph, args, turns, observers)?;
@@ -148,7 +109,8 @@ fn run_watched(
 
 /// The answer of an image over a graph, with these arguments: the listing of what the image does. Where it is watched,
 /// all observers are told of its supersteps, and their reports stand behind the listing; where it is not, they are told
-/// nothing. Where there is not enough memory some of them may have been told of some supersteps.
+/// nothing. Where there is not enough memory they were told of the first supersteps, and some of them may have been told of
+/// one more.
 pub fn run_with(
     alloc: Global,
     image: &Sound,
@@ -162,10 +124,11 @@ pub fn run_with(
     ensures ran { IfOk result (λ a. Ran (program image.now) turns watched
         (audience (map (λ o. says_of o) observers.old) (map (λ o. seen o) observers.old) (map (λ o. seen o) observers.new)) graph.now args.now a.text.items a.status) }
     ensures unwatched { watched ≡ false → map (λ o. seen o) observers.new ≡ map (λ o. seen o) observers.old }
+    ensures part { IsToldInPart (noted (program image.now) graph.now args.now turns) (map (λ o. seen o) observers.old) (map (λ o. seen o) observers.new) }
     ensures same_ways { map (λ o. says_of o) observers.new ≡ map (λ o. says_of o) observers.old }
 {
     if watched {
-        run_watched(alloc, image, graph, args, turns, observers)
+        run_reported(alloc, image, graph, args, turns, observers)
     } else {
         run_alone(alloc, image, graph, args, turns)
     }

@@ -70,8 +70,3 @@ fn lines_of_runs(rt: HostRuntime) -> Result<(), Fail> {
 fn the_program(rt: HostRuntime) {
     assert_eq!(rt; demo_program().len(), 448);
 }
-
-#[test]
-fn rows_are_worked() {
-    demo_rows_are_worked();
-}

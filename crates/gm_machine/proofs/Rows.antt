@@ -9,7 +9,7 @@ use Rattle.gm_graph.specs.declared.outcomes.Outcome.{Outcome}
 use Rattle.gm_graph.specs.declared.outcomes.Outcome.TheVariants.{Done, Fault, Cut}
 use Rattle.gm_graph.specs.declared.outcomes.RunEnd.{RunEnd}
 use Rattle.gm_graph.specs.Graphs.{NumberedGraph}
-use Rattle.gm_machine.specs.declared.notes.StepNote.{StepNote}
+use Rattle.gm_observe.specs.declared.notes.Note.{Note}
 use Rattle.gm_machine.specs.Notes.{noted}
 use Rattle.gm_machine.specs.Taking.{Contribution, settled}
 use Rattle.gm_machine.specs.Vertex.{Message}
@@ -85,7 +85,7 @@ spin_is_bounded : most_supersteps (spin_to 6) 5 ≡ 0
 spin_is_bounded = refl
 
 -- both steps are noted, and so is one that faults
-abbrev note : ℕ → ℕ → ℕ → ℕ → StepNote
+abbrev note : ℕ → ℕ → ℕ → ℕ → Note
 note step block vertices messages = record { step = step; block = block; vertices = vertices; messages = messages }
 
 total_is_noted : noted total two_nodes [] 1000000 ≡ note 1 0 2 3 ∷ note 2 1 2 0 ∷ []

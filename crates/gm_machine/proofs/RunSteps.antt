@@ -1,14 +1,17 @@
 -- A run goes from superstep to superstep.
-use Rattle.std.proofs.Common.{◌≡◌, ℕ, Bool, true, false, Option, Some, None, List, [], ◌∷◌, ◌++◌, refl, sym, ap, ◌∙◌, append_assoc}
+use Rattle.std.proofs.Common.{◌≡◌, ℕ, Option, Some, None, List, [], ◌∷◌, ◌++◌, refl, sym, ap, ◌∙◌, subst, Ok, Err}
+use Rattle.std.specs.Prelude.{Result, OnErr}
 use Rattle.std.proofs.lemmas.List.{append-nil}
 use Rattle.gm_value.specs.declared.values.Value.{Value}
 use Rattle.gm_graph.specs.declared.outcomes.RunEnd.{RunEnd}
 use Rattle.gm_graph.specs.Graphs.{NumberedGraph}
 use Rattle.gm_image.specs.Program.{Program}
+use Rattle.gm_observe.specs.declared.notes.Note.{Note}
+use Rattle.gm_observe.specs.Audience.{told_to_all, IsToldToSome, AreToldUpTo, IsToldInPart, to_some}
+use Rattle.gm_observe.proofs.Telling.{up_to-start, up_to-next, part-behind}
 use Rattle.gm_machine.specs.declared.faults.Fault.{Fault}
-use Rattle.gm_machine.specs.declared.notes.StepNote.{StepNote}
 use Rattle.gm_machine.specs.Machine.{Control, Nodes, Stepped, Stop, Faulted, Stops, Steps, pause, run_from, ends, run_step, superstep, step_ends, start_control, start_nodes}
-use Rattle.gm_machine.specs.Notes.{note_of, noted_step, if_watched}
+use Rattle.gm_machine.specs.Notes.{note_of, noted, noted_step}
 use Rattle.gm_machine.proofs.MasterLemmas.{resume, run_first}
 
 -- A run for any kind of answer that depends on the nodes.
@@ -42,7 +45,7 @@ module _ (p : Program) (g : NumberedGraph) where
   abbrev pub end_from : ℕ → ℕ → Control → Nodes → RunEnd
   end_from left line c s = rest_of p g (ends p) (run_step p g) left line c s
 
-  abbrev pub notes_from : ℕ → ℕ → Control → Nodes → List StepNote
+  abbrev pub notes_from : ℕ → ℕ → Control → Nodes → List Note
   notes_from left line c s = rest_of p g (λ stop t. []) (noted_step p g) left line c s
 
   -- both, after a superstep
@@ -51,7 +54,7 @@ module _ (p : Program) (g : NumberedGraph) where
       let c' : Control = record c { globals = t.globals } in
       step_ends t.fault (λ f. ends p (Faulted f c') t.nodes) (end_from left line c' t.nodes)
 
-  abbrev notes_after : ℕ → ℕ → ℕ → Control → Stepped → List StepNote
+  abbrev notes_after : ℕ → ℕ → ℕ → Control → Stepped → List Note
   notes_after left q line c t =
       let c' : Control = record c { globals = t.globals } in
       note_of g q t.nodes ∷ step_ends t.fault (λ f. []) (notes_from left line c' t.nodes)
@@ -81,35 +84,61 @@ module _ (p : Program) (g : NumberedGraph) where
     notes-end f is stepped some =
         ap (λ e. notes_after left' q line' c' (found e)) (sym some) ∙ ap (notes_after left' q line' c') stepped ∙ rest-steps p g (λ stop t. []) (noted_step p g) left line c s left' q line' c' is
 
-    -- the same where the run may not be watched, behind the notes so far
-    pub noted-goes : (watched : Bool) (old new all : List StepNote) → Steps left' q line' c' ≡ pause p g left line c → record { nodes = s'; globals = globals; fault = fault } ≡ superstep p g q c'.globals s → fault ≡ None →
-        new ≡ old ++ if_watched watched (note_of g q s' ∷ []) → old ++ if_watched watched (notes_from left line c s) ≡ all →
-        new ++ if_watched watched (notes_from left' line' (record c' { globals = globals }) s') ≡ all
-    noted-goes watched old new all is stepped none pushed before =
-        let rest : List StepNote = notes_from left' line' (record c' { globals = globals }) s' in
-        ap (λ ns. ns ++ if_watched watched rest) pushed
-        ∙ append_assoc old (if_watched watched (note_of g q s' ∷ [])) (if_watched watched rest)
-        ∙ ap (λ ns. old ++ ns) (joined watched (note_of g q s') rest ∙ ap (if_watched watched) (notes-go is stepped none))
-        ∙ before
-      where
-        joined : (w : Bool) (n : StepNote) (ns : List StepNote) → if_watched w (n ∷ []) ++ if_watched w ns ≡ if_watched w (n ∷ ns)
-        joined true n ns = refl
-        joined false n ns = refl
+    -- the same of observers, who are told of the superstep
+    pub told-goes : (before held new : List (List Note)) (all : List Note) → Steps left' q line' c' ≡ pause p g left line c
+        → record { nodes = s'; globals = globals; fault = fault } ≡ superstep p g q c'.globals s → fault ≡ None
+        → AreToldUpTo all (notes_from left line c s) before held → new ≡ told_to_all (note_of g q (superstep p g q c'.globals s).nodes ∷ []) held
+        → AreToldUpTo all (notes_from left' line' (record c' { globals = globals }) s') before new
+    told-goes before held new all is stepped none so_far told =
+        let rest : List Note = notes_from left' line' (record c' { globals = globals }) s' in
+        let at : AreToldUpTo all (note_of g q s' ∷ rest) before held = subst (λ (ns : List Note). AreToldUpTo all ns before held) (sym (notes-go is stepped none)) so_far in
+        up_to-next all rest (note_of g q s') before held new at (told ∙ ap (λ t. told_to_all (note_of g q t.nodes ∷ []) held) (sym stepped))
 
-    pub noted-faults : (f : Fault) (watched : Bool) (old new all : List StepNote) → Steps left' q line' c' ≡ pause p g left line c → record { nodes = s'; globals = globals; fault = fault } ≡ superstep p g q c'.globals s → fault ≡ Some f →
-        new ≡ old ++ if_watched watched (note_of g q s' ∷ []) → old ++ if_watched watched (notes_from left line c s) ≡ all →
-        new ≡ all
-    noted-faults f watched old new all is stepped some pushed before =
-        pushed ∙ ap (λ ns. old ++ if_watched watched ns) (notes-end f is stepped some) ∙ before
+    pub told-faults : (f : Fault) (before held new : List (List Note)) (all : List Note) → Steps left' q line' c' ≡ pause p g left line c
+        → record { nodes = s'; globals = globals; fault = fault } ≡ superstep p g q c'.globals s → fault ≡ Some f
+        → AreToldUpTo all (notes_from left line c s) before held → new ≡ told_to_all (note_of g q (superstep p g q c'.globals s).nodes ∷ []) held
+        → AreToldUpTo all [] before new
+    told-faults f before held new all is stepped some so_far told =
+        let at : AreToldUpTo all (note_of g q s' ∷ []) before held = subst (λ (ns : List Note). AreToldUpTo all ns before held) (sym (notes-end f is stepped some)) so_far in
+        up_to-next all [] (note_of g q s') before held new at (told ∙ ap (λ t. told_to_all (note_of g q t.nodes ∷ []) held) (sym stepped))
 
-  pub noted-stops : (left line : ℕ) (c : Control) (s : Nodes) (how : Stop) (watched : Bool) (old all : List StepNote) → Stops how ≡ pause p g left line c →
-      old ++ if_watched watched (notes_from left line c s) ≡ all → old ≡ all
-  noted-stops left line c s how watched old all is before =
-      sym (append-nil old)
-      ∙ ap (λ ns. old ++ ns) (none watched)
-      ∙ ap (λ ns. old ++ if_watched watched ns) (rest-stops p g (λ stop t. []) (noted_step p g) left line c s how is)
-      ∙ before
-    where
-      none : (w : Bool) → [] ≡ if_watched w []
-      none true = refl
-      none false = refl
+  -- where the run stops, nothing more is told
+  pub told-stops : (left line : ℕ) (c : Control) (s : Nodes) (how : Stop) (before held : List (List Note)) (all : List Note) → Stops how ≡ pause p g left line c
+      → AreToldUpTo all (notes_from left line c s) before held → AreToldUpTo all [] before held
+  told-stops left line c s how before held all is so_far =
+      subst (λ (ns : List Note). AreToldUpTo all ns before held) (sym (rest-stops p g (λ stop t. []) (noted_step p g) left line c s how is)) so_far
+
+  -- a superstep of which not all could be told, or that could not be taken
+  pub told-breaks : (left line : ℕ) (c : Control) (s : Nodes) (left' q line' : ℕ) (c' : Control) (before held new : List (List Note)) (all : List Note)
+      → Steps left' q line' c' ≡ pause p g left line c → AreToldUpTo all (notes_from left line c s) before held
+      → IsToldInPart (note_of g q (superstep p g q c'.globals s).nodes ∷ []) held new → IsToldInPart all before new
+  told-breaks left line c s left' q line' c' before held new all is so_far part =
+      let t : Stepped = superstep p g q c'.globals s in
+      let rest : List Note = step_ends t.fault (λ f. []) (notes_from left' line' (record c' { globals = t.globals }) t.nodes) in
+      let at : AreToldUpTo all (note_of g q t.nodes ∷ rest) before held =
+      subst (λ (ns : List Note). AreToldUpTo all ns before held) (sym (rest-steps p g (λ stop u. []) (noted_step p g) left line c s left' q line' c' is)) so_far in
+      part-behind all rest (note_of g q t.nodes) before held new at part
+
+-- all was told
+pub told-all : (all : List Note) (before held : List (List Note)) → AreToldUpTo all [] before held → held ≡ told_to_all all before
+told-all all before held so_far = so_far.all ∙ ap (λ (ns : List Note). told_to_all ns before) (sym (append-nil so_far.told) ∙ so_far.front)
+
+-- of one note, some were told
+pub part-some : (note told : Note) (before after : List (List Note)) → told ≡ note → IsToldToSome told before after → IsToldInPart (note ∷ []) before after
+part-some note told before after is some =
+    to_some note [] before (up_to-start (note ∷ []) (note ∷ []) before refl) (subst (λ (n : Note). IsToldToSome n before after) is some)
+
+-- a fact of an error
+pub part-on_err : {T E : Type 0} (r : Result T E) (notes : List Note) (before after : List (List Note)) → IsToldInPart notes before after → OnErr r (IsToldInPart notes before after)
+part-on_err (Ok x) notes before after part = tt
+part-on_err (Err e) notes before after part = part
+
+-- a part of the notes of a run of the same image
+pub part-of_same : (p q : Program) (g : NumberedGraph) (args : List Value) (turns : ℕ) (before after : List (List Note)) → p ≡ q
+    → IsToldInPart (noted p g args turns) before after → IsToldInPart (noted q g args turns) before after
+part-of_same p q g args turns before after same part = subst (λ (r : Program). IsToldInPart (noted r g args turns) before after) same part
+
+-- all of them
+pub told-of_same : (p q : Program) (g : NumberedGraph) (args : List Value) (turns : ℕ) (before after : List (List Note)) → p ≡ q
+    → after ≡ told_to_all (noted p g args turns) before → after ≡ told_to_all (noted q g args turns) before
+told-of_same p q g args turns before after same told = subst (λ (r : Program). after ≡ told_to_all (noted r g args turns) before) same told

@@ -14,12 +14,12 @@ mod laws;
 mod lines;
 mod masters;
 mod node_lists;
-mod notes;
 mod runs;
 mod settling;
 mod starts;
 mod steps;
 mod supersteps;
+mod tellings;
 
 pub use batches::Batch;
 pub use contributions::{ContributionPart, Contributions};
@@ -29,6 +29,5 @@ pub use laws::{
 };
 pub use masters::{Master, MasterStop, master_run};
 pub use node_lists::{end_of_lists, settle_puts, start_fields};
-pub use notes::StepNote;
-pub use runs::{run_noted, run_one};
+pub use runs::{run_one, run_watched};
 pub use steps::{Sent, vertex_step};

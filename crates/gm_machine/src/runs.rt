@@ -1,69 +1,50 @@
 //! Whole runs on one thread.
 
-ghost use Rattle.std.specs.Prelude.{◌≡◌, ◌≤◌, ◌∷◌, ◌++◌, [], ℕ, IfOk, OnOk};
+ghost use Rattle.std.specs.Prelude.{◌≡◌, ◌≤◌, ℕ, IfOk, OnOk, OnErr, map};
 ghost use Rattle.gm_image.specs.Views.{program};
 ghost use Rattle.gm_machine.specs.Machine.{machine};
 ghost use Rattle.gm_machine.specs.Masters.{FitsGraph};
-ghost use Rattle.gm_machine.specs.Notes.{note_of, noted, if_watched};
+ghost use Rattle.gm_machine.specs.Notes.{noted};
 ghost use Rattle.gm_machine.specs.States.{most_supersteps};
 ghost use Rattle.gm_machine.specs.Steps.{KeepsFields};
-ghost use Rattle.gm_machine.specs.Supersteps.{nodes_of};
+ghost use Rattle.gm_observe.specs.Audience.{IsToldInPart, told_to_all};
 
 use crate::ends::{Stop, end_of};
 use crate::masters::{Master, MasterStop, master_run};
-use crate::notes::StepNote;
 use crate::starts::start;
-use crate::supersteps::{Nodes, superstep};
+use crate::tellings::step_and_tell;
 use gm_base::NoMemory;
 use gm_graph::{Graph, RunEnd};
 use gm_image::{Image, Sound};
+use gm_observe::Observer;
 use gm_value::Value;
 use std::alloc::Global;
 
-// Notes the superstep that left these nodes, where the run is watched.
-fn note(
-    watched: bool,
-    graph: &Graph,
-    block: u32,
-    nodes: &Nodes,
-    notes: &mut Vec<StepNote>,
-) -> Result<(), NoMemory>
-    ensures { OnOk result (notes.new.items ≡ notes.old.items ++ if_watched watched (note_of graph.now block (nodes_of nodes.now) ∷ [])) }
-{
-    if watched {
-        let messages = nodes.sent.messages() as u64;
-        notes.push(StepNote {
-            step: nodes.supersteps,
-            block,
-            vertices: graph.node_count(),
-            messages,
-        })?;
-    }
-    Ok(())
-}
-
-// The whole run of an image whose handlers set no field.
-pub(crate) fn run(
+// The whole run of an image whose handlers set no field. Observers are told of each superstep before the next begins.
+fn run(
     alloc: Global,
     image: &Image,
     graph: &Graph,
     args: &[Value],
     turns: u64,
-    watched: bool,
-    notes: &mut Vec<StepNote>,
+    observers: &mut [Box<dyn Observer>],
 ) -> Result<RunEnd, NoMemory>
     requires columns { FitsGraph image.now graph.now }
     requires keeps { (block : ℕ) → KeepsFields (program image.now) block }
     ensures end { IfOk result (λ end. end ≡ machine (program image.now) graph.now args.now turns) }
-    ensures notes { OnOk result (notes.new.items ≡ notes.old.items ++ if_watched watched (noted (program image.now) graph.now args.now turns)) }
+    ensures told { OnOk result (map (λ o. seen o) observers.new ≡ told_to_all (noted (program image.now) graph.now args.now turns) (map (λ o. seen o) observers.old)) }
+    ensures part { OnErr result (IsToldInPart (noted (program image.now) graph.now args.now turns) (map (λ o. seen o) observers.old) (map (λ o. seen o) observers.new)) }
+    ensures same_ways { map (λ o. says_of o) observers.new ≡ map (λ o. says_of o) observers.old }
 {
     let mut master = Master::start(alloc, image, args, turns)?;
     let mut nodes = start(alloc, image, graph)?;
     'steps: loop {
         match master_run(image, graph, &mut master) {
             MasterStop::Step(block) => {
-                let fault = superstep(alloc, image, graph, block, &mut master.globals, &mut nodes)?;
-                note(watched, graph, block, &nodes, notes)?;
+                let globals = &mut master.globals;
+                let fault = step_and_tell(
+                    alloc, image, graph, block, globals, &mut nodes, observers,
+                )?;
                 if let Some(fault) = fault {
                     let end = end_of(alloc, image, Stop::Faulted(fault), &master, &nodes)?;
                     return Ok(end);
@@ -100,26 +81,29 @@ pub fn run_one(
     ensures end { IfOk result (λ end. end ≡ machine (program image.now) graph.now args.now turns) }
     ensures bounded { IfOk result (λ end. end.supersteps ≤ most_supersteps (program image.now) turns) }
 {
-    let mut notes = Vec::new(alloc);
-    let end = run(alloc, image.image(), graph, args, turns, false, &mut notes)?;
+    let mut nobody: Vec<Box<dyn Observer>> = Vec::new(alloc);
+    let end = run(alloc, image.image(), graph, args, turns, &mut nobody)?;
     Ok(end)
 }
 
-/// The same run, which adds a note of each of its supersteps, in order, behind those that `notes` holds. A superstep
-/// that ends in a fault is noted too. Where there is not enough memory the notes of some supersteps may stand there.
-pub fn run_noted(
+/// The same run, which observers watch: each of them is told of each superstep as soon as all nodes are done with it, in
+/// the order of the supersteps, also of one that ends in a fault. Where there is not enough memory they were told of the
+/// first supersteps, and some of them may have been told of one more.
+pub fn run_watched(
     alloc: Global,
     image: &Sound,
     graph: &Graph,
     args: &[Value],
     turns: u64,
-    notes: &mut Vec<StepNote>,
+    observers: &mut [Box<dyn Observer>],
 ) -> Result<RunEnd, NoMemory>
     requires { FitsGraph image.now graph.now }
     ensures end { IfOk result (λ end. end ≡ machine (program image.now) graph.now args.now turns) }
     ensures bounded { IfOk result (λ end. end.supersteps ≤ most_supersteps (program image.now) turns) }
-    ensures notes { OnOk result (notes.new.items ≡ notes.old.items ++ noted (program image.now) graph.now args.now turns) }
+    ensures told { OnOk result (map (λ o. seen o) observers.new ≡ told_to_all (noted (program image.now) graph.now args.now turns) (map (λ o. seen o) observers.old)) }
+    ensures part { OnErr result (IsToldInPart (noted (program image.now) graph.now args.now turns) (map (λ o. seen o) observers.old) (map (λ o. seen o) observers.new)) }
+    ensures same_ways { map (λ o. says_of o) observers.new ≡ map (λ o. says_of o) observers.old }
 {
-    let end = run(alloc, image.image(), graph, args, turns, true, notes)?;
+    let end = run(alloc, image.image(), graph, args, turns, observers)?;
     Ok(end)
 }

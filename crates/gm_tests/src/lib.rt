@@ -43,4 +43,6 @@ mod totals;
 #[cfg(test)]
 mod values;
 #[cfg(test)]
+mod watching;
+#[cfg(test)]
 mod words;

@@ -1,5 +1,4 @@
 use Rattle.std.proofs.Common.{◌≡◌, ◌≤◌, ◌<◌, ◌∙◌, List, [], ◌∷◌, length, get_or, ap, sym, arith}
-use Rattle.std.proofs.lemmas.Result.{IfOk-weaker}
 use Rattle.gm_value.specs.declared.values.Value.{Value}
 use Rattle.gm_graph.specs.declared.outcomes.Outcome.TheVariants.{Done}
 use Rattle.gm_driver.proofs.demos.outcome_line.Goals as goal
@@ -10,15 +9,14 @@ one_item [] v some few is = absurd (omega (arith, some))
 one_item (x ∷ []) v some few is = ap (λ y. y ∷ []) (sym is)
 one_item (x ∷ (y ∷ ys)) v some few is = absurd (omega (arith, few))
 
-pub returns : goal.returns
-returns c =
+pub returns-clause-line : goal.returns-clause-line
+returns-clause-line c =
     let one = one_item c.as_slice.result.now c.values-item.result c.in-len1.len_at_least c.in-len1.len_below c.values-item.is in
-    IfOk-weaker c.demo_line.result _ _
-    (λ line is. record {
+    record {
       scalars = c.in-Done.scalars;
       result = c.in-Done.result;
       values = c.values-item.result;
       turns = c.in-Done.turns;
       ended = c.in-Done.is ∙ ap (λ (ps : List (List Value)). Done c.in-Done.scalars c.in-Done.result ps c.in-Done.turns) (sym c.as_slice.ensures ∙ one);
-      says = is;
-    }) c.demo_line.ensures
+      says = c.in_ok-demo_line.ensures;
+    }

@@ -4,9 +4,10 @@ use Rattle.gm_input.specs.Outside.{outside}
 use Rattle.gm_input.specs.Roads.{no_code}
 use Rattle.gm_input.proofs.Answering.{said_on, said_weaker, weaker}
 use Rattle.gm_input.proofs.Roading.{all_replied, bad_replied, unread_replied}
-use Rattle.gm_exec.specs.Replies.{IsExecReply, image_road}
+use Rattle.gm_exec.specs.Replies.{IsExecReply, image_road, untold}
 use Rattle.gm_exec.specs.Runs.{IsUntold}
 use Rattle.gm_exec.proofs.Fronts.{image_right}
+use Rattle.gm_exec.proofs.TellingParts.{told-read}
 use Rattle.gm_exec.proofs.replies.exec_steps.Goals as goal
 
 pub returns-in_err-front-clause-reply : goal.returns-in_err-front-clause-reply
@@ -61,3 +62,20 @@ returns-clause-reply g c =
     (λ s said. all_replied (image_road c.args.words.now c.args.options.now _) c.args.image.now c.args.graph.now b m a c.in_ok-front.front.program.items c.in_ok-front.front.ahead.items c.in_ok-front.front.ended
     c.in_ok-text.text.items (program c.in_ok-sound.sound) s.text.items s.status (image_right c.args.words.now c.args.options.now _) c.in_ok-front.ensures.read c.in_ok-sound.ensures.stands c.in_ok-text.ensures.read said)
     c.run_text.ensures.answer
+
+pub returns-in_err-front-clause-part : goal.returns-in_err-front-clause-part
+returns-in_err-front-clause-part g c = untold refl
+
+pub returns-in_err-sound-clause-part : goal.returns-in_err-sound-clause-part
+returns-in_err-sound-clause-part g c = untold refl
+
+pub returns-in_err-text-clause-part : goal.returns-in_err-text-clause-part
+returns-in_err-text-clause-part g c = untold refl
+
+pub returns-clause-part : goal.returns-clause-part
+returns-clause-part g c =
+    let b = outside g.S.Source g.F.Files c.args.input.now c.args.files.now in
+    let m = outside g.S.Source g.F.Files c.read_code.new.input c.read_code.new.files in
+    let a = outside g.S.Source g.F.Files c.read_graph.new.input c.read_graph.new.files in
+    told-read c.args.words.now c.args.options.now c.args.image.now c.args.graph.now b m a c.in_ok-front.front.program.items c.in_ok-front.front.ahead.items c.in_ok-front.front.ended
+    c.in_ok-text.text.items (program c.in_ok-sound.sound) _ _ c.in_ok-front.ensures.read c.in_ok-sound.ensures.stands c.in_ok-text.ensures.read c.run_text.ensures.part

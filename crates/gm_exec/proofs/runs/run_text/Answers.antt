@@ -7,7 +7,7 @@ use Rattle.gm_machine.specs.Machine.{machine}
 use Rattle.gm_input.specs.Answers.{IsGraphOf, bad_argument, bad_graph, format_of, good_graph, ran}
 use Rattle.gm_input.proofs.Answering.{said_on, weaker}
 use Rattle.gm_exec.specs.Answers.{IsTextAnswer}
-use Rattle.gm_exec.specs.Runs.{IsUntold}
+use Rattle.gm_exec.specs.Runs.{IsUntold, untold, in_part}
 use Rattle.gm_exec.specs.Programs.{inputs_of, shape_of}
 use Rattle.gm_exec.proofs.Telling.{ran-told}
 use Rattle.gm_exec.proofs.runs.run_text.Goals as goal
@@ -49,3 +49,29 @@ returns-clause-answer g c =
     let values : values_bound (inputs_of (program c.args.image.now)) c.args.words.now c.in_ok-graph.graph.numbers ≡ Ok c.in_ok-args.args.items =
     rw (c.deref.ensures.value, c.in_ok-inputs.ensures, c.image-2.ensures.same) at c.in_ok-args.ensures.values in
     good_graph c.in_ok-graph.graph graph (ran c.in_ok-args.args.items values (rw c.deref-2.ensures.value at c.in_ok-run_with.ensures.ran))
+
+pub returns-in_err-shape-clause-part : goal.returns-in_err-shape-clause-part
+returns-in_err-shape-clause-part g c = untold refl
+
+pub returns-in_err-graph-clause-part : goal.returns-in_err-graph-clause-part
+returns-in_err-graph-clause-part g c = untold refl
+
+pub returns-in_err-inputs-clause-part : goal.returns-in_err-inputs-clause-part
+returns-in_err-inputs-clause-part g c = untold refl
+
+pub returns-in_err-args-clause-part : goal.returns-in_err-args-clause-part
+returns-in_err-args-clause-part g c = untold refl
+
+pub returns-clause-part : goal.returns-clause-part
+returns-clause-part g c =
+    let graph : IsGraphOf (format_of c.args.options.now.format) (shape_of (program c.args.image.now)) c.args.text.items c.in_ok-graph.graph = rw (c.in_ok-shape.ensures, c.image.ensures.same) at c.in_ok-graph.ensures.graph in
+    let values : values_bound (inputs_of (program c.args.image.now)) c.args.words.now c.in_ok-graph.graph.numbers ≡ Ok c.in_ok-args.args.items =
+    rw (c.deref.ensures.value, c.in_ok-inputs.ensures, c.image-2.ensures.same) at c.in_ok-args.ensures.values in
+    in_part c.in_ok-graph.graph graph c.in_ok-args.args.items values (rw c.deref-2.ensures.value at c.in_ok-run_with.ensures.part)
+
+pub returns-in_err-run_with-clause-part : goal.returns-in_err-run_with-clause-part
+returns-in_err-run_with-clause-part g c =
+    let graph : IsGraphOf (format_of c.args.options.now.format) (shape_of (program c.args.image.now)) c.args.text.items c.in_ok-graph.graph = rw (c.in_ok-shape.ensures, c.image.ensures.same) at c.in_ok-graph.ensures.graph in
+    let values : values_bound (inputs_of (program c.args.image.now)) c.args.words.now c.in_ok-graph.graph.numbers ≡ Ok c.in_ok-args.args.items =
+    rw (c.deref.ensures.value, c.in_ok-inputs.ensures, c.image-2.ensures.same) at c.in_ok-args.ensures.values in
+    in_part c.in_ok-graph.graph graph c.in_ok-args.args.items values (rw c.deref-2.ensures.value at c.run_with.ensures.part)

@@ -1,6 +1,6 @@
 use Rattle.gm_image.specs.Views.{program}
 use Rattle.gm_exec.proofs.Telling.{both, ran-watched}
-use Rattle.gm_exec.proofs.watches.run_watched.Goals as goal
+use Rattle.gm_exec.proofs.watches.run_reported.Goals as goal
 
 pub returns-clause-ran : goal.returns-clause-ran
 returns-clause-ran g c =
