@@ -12,7 +12,7 @@ ghost use Rattle.gm_canon.specs.Around.{around_of, Notes};
 use crate::loops::{Code, is_directly_parallel};
 use crate::walks::{Walker, target_place};
 use gm_ast::tree::{Expr, Head, Stmt};
-use gm_ways::ways_in_loop;
+use gm_push_pull::ways_in_loop;
 use std::alloc::{AllocError, Global};
 
 impl<'a> Walker<'a> {

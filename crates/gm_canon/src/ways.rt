@@ -7,7 +7,7 @@ ghost use Rattle.gm_ast.specs.Tree.{stmt_of};
 
 use gm_ast::tree::Stmt;
 use gm_ast::ways::Way;
-use gm_ways::ways_in_loop;
+use gm_push_pull::ways_in_loop;
 use std::alloc::{AllocError, Global};
 
 // Adds the ways in the inner loops of the statements of a block that is directly in an outermost loop.

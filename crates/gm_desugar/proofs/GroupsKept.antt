@@ -14,7 +14,7 @@ use Rattle.gm_ast.specs.Keys as K
 use Rattle.gm_ast.specs.Names.{is, is_node, is_node_type, sort_eq}
 use Rattle.gm_ast.specs.Loops.{is_nodes}
 use Rattle.gm_ast.specs.Program.{Expr, always, Stmt, Skip, Then, Declare, DeclareEdge, Assign, Defer, Combine, Group, Foreach, For, If, While, Do, InBfs, InBfsBoth, Return, Program}
-use Rattle.gm_source.specs.Statements.{variable_at}
+use Rattle.gm_semantics.specs.Statements.{variable_at}
 use Rattle.gm_forms.specs.Uses.{Role, Iterates, Owner, NodeValue, Anything, Use, has_role, suits, use_as, uses_in, uses_of_head, uses_of, is_named}
 use Rattle.gm_forms.specs.Order.{lie_before, faults_of, in_order, hoisted_in, loops_in_order, folds_in_order}
 use Rattle.gm_forms.specs.Sharing.{loops_share}

@@ -3,12 +3,12 @@ use Rattle.std.proofs.Common.{◌≡◌, suc, List, [], ◌∷◌, map, refl, ap
 use Rattle.gm_value.specs.declared.values.Value.TheVariants.{At}
 use Rattle.gm_value.specs.Operations.{is_true}
 use Rattle.gm_ast.specs.Program.{Stmt, Then, Group, If, While, Do, For, Program, sequence}
-use Rattle.gm_source.specs.declared.slots.Slot.TheVariants.{Scalar}
-use Rattle.gm_source.specs.Levels.{nodes}
-use Rattle.gm_source.specs.Stores.{write}
-use Rattle.gm_source.specs.Expressions.{value}
-use Rattle.gm_source.specs.Statements.{Run, State, Goes, view_of, sequential}
-use Rattle.gm_source.specs.Outcomes.{outcome_of, first_store}
+use Rattle.gm_semantics.specs.declared.slots.Slot.TheVariants.{Scalar}
+use Rattle.gm_semantics.specs.Levels.{nodes}
+use Rattle.gm_semantics.specs.Stores.{write}
+use Rattle.gm_semantics.specs.Expressions.{value}
+use Rattle.gm_semantics.specs.Statements.{Run, State, Goes, view_of, sequential}
+use Rattle.gm_semantics.specs.Outcomes.{outcome_of, first_store}
 use Rattle.gm_forms.specs.Meanings.{SameMeaning}
 use Rattle.gm_desugar.specs.Groups.{ungrouped, without_groups}
 use Rattle.gm_forms.proofs.Courses.{then_do-both, with_value-each, either_way-each, begin_turn-each, repeated-each, in_turns-each}

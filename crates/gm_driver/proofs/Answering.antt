@@ -7,7 +7,7 @@ use Rattle.gm_graph.specs.declared.outcomes.Outcome.{Outcome}
 use Rattle.gm_graph.specs.declared.outcomes.Outcome.TheVariants.{Done, Fault, Cut}
 use Rattle.gm_listing.specs.Listing.{status_of}
 use Rattle.gm_ast.specs.Program.{Program}
-use Rattle.gm_source.specs.Outcomes.{mean}
+use Rattle.gm_semantics.specs.Outcomes.{mean}
 use Rattle.gm_words.specs.declared.jobs.Job.{Job}
 use Rattle.gm_words.specs.declared.jobs.Options.{Options}
 use Rattle.gm_words.specs.declared.arguments.Input.{Input}

@@ -12,7 +12,7 @@ use Rattle.gm_graph.specs.Graphs.{NumberedGraph}
 use Rattle.gm_loader.specs.declared.faults.GraphFault.{GraphFault}
 use Rattle.gm_loader.specs.GraphText as graphs
 use Rattle.gm_ast.specs.Program.{Program}
-use Rattle.gm_source.specs.Outcomes.{mean}
+use Rattle.gm_semantics.specs.Outcomes.{mean}
 use Rattle.gm_canon.specs.Verdict.{StandsFor}
 use Rattle.gm_input.specs.Texts.{graph_limits}
 use Rattle.gm_input.specs.Answers.{IsTextAnswer, edge_list}

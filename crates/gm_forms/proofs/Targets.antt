@@ -1,10 +1,10 @@
 -- Slots of targets, each by its own.
 use Rattle.std.proofs.Common.{◌≡◌, Bool, true, false, List, [], ◌∷◌, refl, sym, subst}
 use Rattle.std.specs.Prelude.{◌||◌}
-use Rattle.gm_source.specs.declared.slots.Slot.{Slot}
-use Rattle.gm_source.specs.Stores.{slot_eq, has_slot}
-use Rattle.gm_source.proofs.ContributionLaws.{slot_eq-true}
-use Rattle.gm_source.proofs.TargetLaws.{never}
+use Rattle.gm_semantics.specs.declared.slots.Slot.{Slot}
+use Rattle.gm_semantics.specs.Stores.{slot_eq, has_slot}
+use Rattle.gm_semantics.proofs.ContributionLaws.{slot_eq-true}
+use Rattle.gm_semantics.proofs.TargetLaws.{never}
 use Rattle.gm_forms.specs.Doing.{EachSlot}
 
 -- what is true of each slot, read by the test

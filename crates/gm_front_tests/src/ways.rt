@@ -3,8 +3,8 @@
 use gm_ast::tree::{Domain, Expr, Head, Key, Stage, Stmt, Target, TotalKey};
 use gm_ast::ways::Way;
 use gm_base::{Place, Refusal, Rule};
+use gm_push_pull::{LoopWays, ways_in_loop};
 use gm_value::Reduce;
-use gm_ways::{LoopWays, ways_in_loop};
 use std::alloc::{AllocError, Global};
 use std::test::Fail;
 

@@ -8,7 +8,7 @@ use Rattle.std.proofs.lemmas.List.Elements.{All-from_get_or, All-nil, All-cons}
 use Rattle.std.proofs.lemmas.List.Sums.{sum_by-set, count_by-le-length}
 use Rattle.gm_value.specs.Bag.{IsIn}
 use Rattle.gm_graph.specs.Graphs.{NumberedGraph, Edge, Step, IsGraph, HasNode, node_count, nodes_of, out_steps}
-use Rattle.gm_source.specs.Levels.{is_among}
+use Rattle.gm_semantics.specs.Levels.{is_among}
 use Rattle.gm_levels.specs.Views.{level_in}
 use Rattle.gm_levels.specs.Walks.{Walk, start, onward, edge}
 use Rattle.gm_levels.specs.Searches.{AreMarked, AreReached, cell_at, is_open, open_count, targets_of}

@@ -1,6 +1,6 @@
 -- The rows in which levels are kept.
 use Rattle.std.specs.Prelude.{◌<◌, ◌≤◌, ◌+◌, ◌-◌, ℕ, List, map, length, slice_index, slice_range}
-use Rattle.gm_source.specs.Levels.{numbers_from}
+use Rattle.gm_semantics.specs.Levels.{numbers_from}
 use Rattle.gm_levels.specs.Views.{NodeLevels, level_in}
 use Rattle.gm_levels.specs.declared.levels.Levels.TheInside.{Inside}
 

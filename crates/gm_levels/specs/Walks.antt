@@ -2,7 +2,7 @@
 use Rattle.std.specs.Prelude.{◌≡◌, ◌<◌, ℕ, zero, suc, Some, None}
 use Rattle.gm_value.specs.Bag.{IsIn}
 use Rattle.gm_graph.specs.Graphs.{NumberedGraph, Edge, IsGraph, HasNode}
-use Rattle.gm_source.specs.Levels.{level_of}
+use Rattle.gm_semantics.specs.Levels.{level_of}
 
 -- an edge by its ends
 abbrev pub edge : ℕ → ℕ → Edge

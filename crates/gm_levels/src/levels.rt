@@ -2,7 +2,7 @@
 
 ghost use Rattle.std.specs.Prelude.{◌≡◌, ◌<◌, ◌≤◌, ◌+◌, ℕ, IfOk, Some, None, length, slice_get, slice_index, slice_index_or};
 ghost use Rattle.gm_graph.specs.Graphs.{HasNode};
-ghost use Rattle.gm_source.specs.Levels.{level_of, levels};
+ghost use Rattle.gm_semantics.specs.Levels.{level_of, levels};
 ghost use Rattle.gm_levels.specs.Rows.{part_of};
 
 use crate::groups::grouped;

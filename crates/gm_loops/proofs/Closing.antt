@@ -6,14 +6,14 @@ use Rattle.gm_value.specs.declared.values.Value.TheVariants.{At}
 use Rattle.gm_value.specs.Operations.{is_true}
 use Rattle.gm_ast.specs.declared.tree.Key.{Key}
 use Rattle.gm_ast.specs.Program as P
-use Rattle.gm_source.specs.declared.faults.Fault.{Fault}
-use Rattle.gm_source.specs.declared.slots.Slot.TheVariants.{Scalar}
-use Rattle.gm_source.specs.declared.slots.Write.{Write}
-use Rattle.gm_source.specs.Contributions.{Contribution, settled_store, total_faults}
-use Rattle.gm_source.specs.Expressions.{View, Answer, value}
-use Rattle.gm_source.specs.Faults.{least}
-use Rattle.gm_source.specs.Iterations.{Iteration, Mode, Outermost, AtEdge, as_it_is, begun, edge_of, failed, inner_done, one_way, turn_at, view_in, with_ok, wrote}
-use Rattle.gm_source.specs.Stores.{Store, write}
+use Rattle.gm_semantics.specs.declared.faults.Fault.{Fault}
+use Rattle.gm_semantics.specs.declared.slots.Slot.TheVariants.{Scalar}
+use Rattle.gm_semantics.specs.declared.slots.Write.{Write}
+use Rattle.gm_semantics.specs.Contributions.{Contribution, settled_store, total_faults}
+use Rattle.gm_semantics.specs.Expressions.{View, Answer, value}
+use Rattle.gm_semantics.specs.Faults.{least}
+use Rattle.gm_semantics.specs.Iterations.{Iteration, Mode, Outermost, AtEdge, as_it_is, begun, edge_of, failed, inner_done, one_way, turn_at, view_in, with_ok, wrote}
+use Rattle.gm_semantics.specs.Stores.{Store, write}
 use Rattle.gm_store.specs.Held.{Held, Shape, HasSlot, shape_of, store_of}
 use Rattle.gm_store.proofs.Reversing.{Reversible-refl, Reversible-trans}
 use Rattle.gm_totals.specs.declared.totals.Totals.{Totals}

@@ -10,13 +10,13 @@ use Rattle.gm_value.specs.declared.values.Value.TheVariants.{At}
 use Rattle.gm_value.specs.Operations.{is_true}
 use Rattle.gm_ast.specs.declared.tree.Key.{Key}
 use Rattle.gm_ast.specs.Program.{Expr, Stmt}
-use Rattle.gm_source.specs.declared.slots.Slot.{Slot}
-use Rattle.gm_source.specs.declared.slots.Slot.TheVariants.{Scalar, Node}
-use Rattle.gm_source.specs.declared.slots.Write.{Write}
-use Rattle.gm_source.specs.Expressions.{evaluated, plain, settled, value}
-use Rattle.gm_source.specs.Iterations.{Iteration, Loop, Mode, as_it_is, begun, does, edge_of, one_way, turn_at, view_in, with_ok}
-use Rattle.gm_source.specs.Loops.{left_at, own_left}
-use Rattle.gm_source.specs.Stores.{Store, overlaid, write}
+use Rattle.gm_semantics.specs.declared.slots.Slot.{Slot}
+use Rattle.gm_semantics.specs.declared.slots.Slot.TheVariants.{Scalar, Node}
+use Rattle.gm_semantics.specs.declared.slots.Write.{Write}
+use Rattle.gm_semantics.specs.Expressions.{evaluated, plain, settled, value}
+use Rattle.gm_semantics.specs.Iterations.{Iteration, Loop, Mode, as_it_is, begun, does, edge_of, one_way, turn_at, view_in, with_ok}
+use Rattle.gm_semantics.specs.Loops.{left_at, own_left}
+use Rattle.gm_semantics.specs.Stores.{Store, overlaid, write}
 use Rattle.gm_store.specs.Held.{Held, Shape, HasSlot, scalar_of, store_of}
 use Rattle.gm_loops.specs.declared.around.Around.{Around}
 use Rattle.gm_loops.specs.declared.scopes.Scope.{Scope}

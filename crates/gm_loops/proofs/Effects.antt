@@ -3,21 +3,21 @@ use Rattle.std.proofs.Common.{zero, suc, nat_eq, Bor, Bool, false, Ok, Err, ifâ—
 use Rattle.std.specs.Prelude.{All, option_map}
 use Rattle.std.proofs.lemmas.List.{append-nil, append_assoc}
 use Rattle.std.proofs.lemmas.List.Elements.{All-nil, All-push}
-use Rattle.gm_source.specs.Contributions.{Contribution}
-use Rattle.gm_source.specs.declared.faults.Fault.{Fault}
-use Rattle.gm_source.specs.declared.slots.Write.{Write}
-use Rattle.gm_source.specs.Stores.{Store, write}
+use Rattle.gm_semantics.specs.Contributions.{Contribution}
+use Rattle.gm_semantics.specs.declared.faults.Fault.{Fault}
+use Rattle.gm_semantics.specs.declared.slots.Write.{Write}
+use Rattle.gm_semantics.specs.Stores.{Store, write}
 use Rattle.gm_graph.specs.Graphs.{node_count}
 use Rattle.gm_ast.specs.declared.tree.Key.{Key}
 use Rattle.gm_value.specs.declared.values.Value.{Value}
 use Rattle.gm_value.specs.declared.values.Value.TheVariants.{At}
-use Rattle.gm_source.specs.declared.slots.Slot.{Slot}
-use Rattle.gm_source.specs.declared.slots.Slot.TheVariants.{Scalar, Node}
+use Rattle.gm_semantics.specs.declared.slots.Slot.{Slot}
+use Rattle.gm_semantics.specs.declared.slots.Slot.TheVariants.{Scalar, Node}
 use Rattle.gm_ast.specs.declared.tree.Target.{Target}
 use Rattle.gm_ast.specs.declared.tree.Target.TheVariants as T
-use Rattle.gm_source.specs.Faults.{then_with}
-use Rattle.gm_source.specs.Expressions.{View, Answer}
-use Rattle.gm_source.specs.Iterations.{Ends, AtOnce, later, alone, wrote_all, Loop, WithInner, WithOutermost, scalar_ends, own_ends, ends_of, with_ok, edge_of, view_in, Iteration, Mode, Outermost, AtEdge, failed, wrote, gave_inner, gave_outermost}
+use Rattle.gm_semantics.specs.Faults.{then_with}
+use Rattle.gm_semantics.specs.Expressions.{View, Answer}
+use Rattle.gm_semantics.specs.Iterations.{Ends, AtOnce, later, alone, wrote_all, Loop, WithInner, WithOutermost, scalar_ends, own_ends, ends_of, with_ok, edge_of, view_in, Iteration, Mode, Outermost, AtEdge, failed, wrote, gave_inner, gave_outermost}
 use Rattle.gm_store.specs.Held.{Held, Shape, HasSlot, Reversible, shape_of, store_of}
 use Rattle.gm_store.specs.Laws.{IsLogged}
 use Rattle.gm_totals.specs.declared.totals.Totals.{Totals}

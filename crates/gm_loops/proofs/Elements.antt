@@ -6,9 +6,9 @@ use Rattle.gm_value.specs.Operations.{is_true}
 use Rattle.gm_ast.specs.declared.surface.ReductionWord.{ReductionWord}
 use Rattle.gm_ast.specs.declared.surface.ReductionWord.TheVariants.{Sum, Product, Min, Max, Count, Exist, All}
 use Rattle.gm_ast.specs.declared.tree.Fold.{Fold}
-use Rattle.gm_source.specs.declared.faults.Fault.{Fault}
-use Rattle.gm_source.specs.Faults.{least, errs, oks, joined, unless_fault}
-use Rattle.gm_source.specs.Expressions.{Answer, closed, element, members_of, reduction}
+use Rattle.gm_semantics.specs.declared.faults.Fault.{Fault}
+use Rattle.gm_semantics.specs.Faults.{least, errs, oks, joined, unless_fault}
+use Rattle.gm_semantics.specs.Expressions.{Answer, closed, element, members_of, reduction}
 use Rattle.gm_loops.specs.Runnings.{listed, passes}
 
 -- what stands in the braces does not count where the filter does not pass

@@ -13,10 +13,10 @@ use Rattle.gm_value.specs.Operations.{result1, result2}
 use Rattle.gm_graph.specs.Graphs.{node_count}
 use Rattle.gm_graph.specs.Cells.{node_in as cell_node}
 use Rattle.gm_ast.specs.Program.{Expr, Var, Property, Unary, Binary}
-use Rattle.gm_source.specs.declared.faults.Fault.{Fault}
-use Rattle.gm_source.specs.Faults.{then_with}
-use Rattle.gm_source.specs.Levels.{node_in, numbers_from}
-use Rattle.gm_source.specs.Expressions.{Evaluated, View, at_node, evaluated, located, node_held, node_of, node_read, one_of, plain, two_of}
+use Rattle.gm_semantics.specs.declared.faults.Fault.{Fault}
+use Rattle.gm_semantics.specs.Faults.{then_with}
+use Rattle.gm_semantics.specs.Levels.{node_in, numbers_from}
+use Rattle.gm_semantics.specs.Expressions.{Evaluated, View, at_node, evaluated, located, node_held, node_of, node_read, one_of, plain, two_of}
 use Rattle.gm_store.specs.declared.cells.Cells.{Cells}
 use Rattle.gm_store.specs.Cells.{values_of}
 use Rattle.gm_loops.specs.Columns.{here, Applies1, Applies2, Each, IsColumn}

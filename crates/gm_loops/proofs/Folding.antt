@@ -19,10 +19,10 @@ use Rattle.gm_ast.specs.declared.tree.Domain.{Domain}
 use Rattle.gm_ast.specs.declared.tree.Fold.{Fold}
 use Rattle.gm_ast.specs.declared.tree.Head.{Head}
 use Rattle.gm_ast.specs.Program.{Expr, Folded}
-use Rattle.gm_source.specs.declared.faults.Fault.{Fault}
-use Rattle.gm_source.specs.Expressions.{Evaluated, View, closed, early, element, entered, evaluated, members_of, plain, reduction, settled, steps_of}
-use Rattle.gm_source.specs.Faults.{errs, joined, least, oks, unless_fault}
-use Rattle.gm_source.specs.Levels.{node_in, nodes, numbers_from}
+use Rattle.gm_semantics.specs.declared.faults.Fault.{Fault}
+use Rattle.gm_semantics.specs.Expressions.{Evaluated, View, closed, early, element, entered, evaluated, members_of, plain, reduction, settled, steps_of}
+use Rattle.gm_semantics.specs.Faults.{errs, joined, least, oks, unless_fault}
+use Rattle.gm_semantics.specs.Levels.{node_in, nodes, numbers_from}
 use Rattle.gm_store.specs.declared.cells.Cells.{Cells}
 use Rattle.gm_store.specs.Cells.{values_of}
 use Rattle.gm_loops.specs.Columns.{IsColumn}

@@ -6,13 +6,13 @@ use Rattle.std.proofs.lemmas.Bool.{eqb-true}
 use Rattle.std.proofs.lemmas.Bool.Decides.{nat_tests}
 use Rattle.std.proofs.lemmas.List.{append-nil}
 use Rattle.gm_value.specs.declared.values.Value.{Value}
-use Rattle.gm_source.specs.declared.slots.Slot.{Slot}
-use Rattle.gm_source.specs.declared.slots.Slot.TheVariants.{Scalar, Node}
-use Rattle.gm_source.specs.declared.slots.Write.{Write}
-use Rattle.gm_source.specs.Iterations.{Iteration}
-use Rattle.gm_source.specs.Loops.{left_at, own_left}
-use Rattle.gm_source.specs.Contributions.{settled_store}
-use Rattle.gm_source.specs.Stores.{Store, slot_eq, write, overlaid}
+use Rattle.gm_semantics.specs.declared.slots.Slot.{Slot}
+use Rattle.gm_semantics.specs.declared.slots.Slot.TheVariants.{Scalar, Node}
+use Rattle.gm_semantics.specs.declared.slots.Write.{Write}
+use Rattle.gm_semantics.specs.Iterations.{Iteration}
+use Rattle.gm_semantics.specs.Loops.{left_at, own_left}
+use Rattle.gm_semantics.specs.Contributions.{settled_store}
+use Rattle.gm_semantics.specs.Stores.{Store, slot_eq, write, overlaid}
 use Rattle.gm_store.specs.Held.{Held, held_at, shape_of, store_of, undone}
 use Rattle.gm_loops.specs.Own.{is_at, kept, Sets}
 use Rattle.gm_loops.specs.Turns.{KeepsOwn}

@@ -1,14 +1,14 @@
 -- Outermost loops: their nodes, their iterations and their end.
 use Rattle.std.proofs.Common.{◌≡◌, ◌∙◌, ◌<◌, ◌+◌, ℕ, zero, suc, List, [], ◌++◌, length, map, get_or, Option, Some, None, Ok, refl, ap, sym, subst, arith}
 use Rattle.std.specs.Prelude.{All}
-use Rattle.gm_source.specs.declared.faults.Fault.{Fault}
-use Rattle.gm_source.specs.declared.slots.Write.{Write}
-use Rattle.gm_source.specs.Contributions.{Contribution, settled_store, total_faults}
-use Rattle.gm_source.specs.Faults.{least, unless_fault}
-use Rattle.gm_source.specs.Iterations.{Iteration, Outermost}
-use Rattle.gm_source.specs.Levels.{numbers_from}
-use Rattle.gm_source.specs.Loops.{loop_done, own_left}
-use Rattle.gm_source.specs.Stores.{Store, overlaid}
+use Rattle.gm_semantics.specs.declared.faults.Fault.{Fault}
+use Rattle.gm_semantics.specs.declared.slots.Write.{Write}
+use Rattle.gm_semantics.specs.Contributions.{Contribution, settled_store, total_faults}
+use Rattle.gm_semantics.specs.Faults.{least, unless_fault}
+use Rattle.gm_semantics.specs.Iterations.{Iteration, Outermost}
+use Rattle.gm_semantics.specs.Levels.{numbers_from}
+use Rattle.gm_semantics.specs.Loops.{loop_done, own_left}
+use Rattle.gm_semantics.specs.Stores.{Store, overlaid}
 use Rattle.gm_store.specs.Held.{Shape, HasSlot, shape_of}
 use Rattle.gm_totals.specs.declared.totals.Totals.{Totals}
 use Rattle.gm_totals.specs.declared.totals.Closed.{Closed}

@@ -1,9 +1,9 @@
 -- The parts of iterations in order, and the least of their faults.
 use Rattle.std.proofs.Common.{◌≡◌, ◌∙◌, List, [], ◌∷◌, ◌++◌, map, Option, Some, None, refl, ap, sym, append_assoc}
 use Rattle.std.proofs.lemmas.List.{append-nil}
-use Rattle.gm_source.specs.declared.faults.Fault.{Fault}
-use Rattle.gm_source.specs.Faults.{lower, lesser, least, somes, joined}
-use Rattle.gm_source.proofs.LeastLaws.{lower-exchange, lower_comm}
+use Rattle.gm_semantics.specs.declared.faults.Fault.{Fault}
+use Rattle.gm_semantics.specs.Faults.{lower, lesser, least, somes, joined}
+use Rattle.gm_semantics.proofs.LeastLaws.{lower-exchange, lower_comm}
 use Rattle.gm_loops.specs.Parts.{sooner}
 
 -- of three faults it does not matter which two are compared first

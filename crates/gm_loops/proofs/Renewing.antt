@@ -9,16 +9,16 @@ use Rattle.gm_graph.specs.Graphs.{node_count}
 use Rattle.gm_ast.specs.declared.tree.Key.{Key}
 use Rattle.gm_ast.specs.declared.tree.Target.TheVariants as T
 use Rattle.gm_ast.specs.Program.{Expr, Stmt}
-use Rattle.gm_source.specs.declared.faults.Fault.{Fault}
-use Rattle.gm_source.specs.declared.slots.Slot.TheVariants.{Scalar, Node}
-use Rattle.gm_source.specs.declared.slots.Write.{Write}
-use Rattle.gm_source.specs.Contributions.{Contribution, settled_store, total_faults}
-use Rattle.gm_source.specs.Faults.{joined, least, somes, then_with, unless_fault}
-use Rattle.gm_source.specs.Expressions.{Evaluated, View, settled}
-use Rattle.gm_source.specs.Iterations.{Iteration, Loop, Outermost, as_it_is, assigned, begun, does, one_way, view_in, with_ok, wrote}
-use Rattle.gm_source.specs.Levels.{numbers_from}
-use Rattle.gm_source.specs.Loops.{iteration, left_at, loop_done, own_left, parallel}
-use Rattle.gm_source.specs.Stores.{Store, overlaid, write}
+use Rattle.gm_semantics.specs.declared.faults.Fault.{Fault}
+use Rattle.gm_semantics.specs.declared.slots.Slot.TheVariants.{Scalar, Node}
+use Rattle.gm_semantics.specs.declared.slots.Write.{Write}
+use Rattle.gm_semantics.specs.Contributions.{Contribution, settled_store, total_faults}
+use Rattle.gm_semantics.specs.Faults.{joined, least, somes, then_with, unless_fault}
+use Rattle.gm_semantics.specs.Expressions.{Evaluated, View, settled}
+use Rattle.gm_semantics.specs.Iterations.{Iteration, Loop, Outermost, as_it_is, assigned, begun, does, one_way, view_in, with_ok, wrote}
+use Rattle.gm_semantics.specs.Levels.{numbers_from}
+use Rattle.gm_semantics.specs.Loops.{iteration, left_at, loop_done, own_left, parallel}
+use Rattle.gm_semantics.specs.Stores.{Store, overlaid, write}
 use Rattle.gm_store.specs.Cells.{values_of}
 use Rattle.gm_store.specs.Held.{replaced, shape_of}
 use Rattle.gm_totals.specs.declared.totals.Totals.{Totals}

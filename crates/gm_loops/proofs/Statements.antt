@@ -16,9 +16,9 @@ use Rattle.gm_ast.specs.declared.tree.Expr as E
 use Rattle.gm_ast.specs.declared.tree.Stmt as S
 use Rattle.gm_ast.specs.Tree.{stmt_of}
 use Rattle.gm_ast.specs.Program as P
-use Rattle.gm_source.specs.declared.faults.Fault.{Fault}
-use Rattle.gm_source.specs.Expressions.{Answer, value}
-use Rattle.gm_source.specs.Iterations.{Iteration, Loop, Mode, does, edge_of, failed, one_way, with_ok}
+use Rattle.gm_semantics.specs.declared.faults.Fault.{Fault}
+use Rattle.gm_semantics.specs.Expressions.{Answer, value}
+use Rattle.gm_semantics.specs.Iterations.{Iteration, Loop, Mode, does, edge_of, failed, one_way, with_ok}
 use Rattle.gm_store.specs.Held.{Held, store_of}
 use Rattle.gm_loops.specs.declared.around.Around.{Around}
 use Rattle.gm_loops.specs.Around.{loop_of}

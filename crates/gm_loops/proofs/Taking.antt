@@ -2,12 +2,12 @@
 use Rattle.std.proofs.Common.{◌≡◌, ◌∙◌, List, [], ◌∷◌, ◌++◌, Option, None, ap, subst, sym, refl}
 use Rattle.std.proofs.lemmas.List.{append-nil}
 use Rattle.std.specs.Prelude.{All}
-use Rattle.gm_source.specs.Contributions.{Contribution}
-use Rattle.gm_source.specs.declared.faults.Fault.{Fault}
-use Rattle.gm_source.specs.declared.slots.Write.{Write}
-use Rattle.gm_source.specs.Faults.{least, somes}
-use Rattle.gm_source.specs.Iterations.{Iteration, Mode, Outermost, AtEdge, begun}
-use Rattle.gm_source.specs.Stores.{Store}
+use Rattle.gm_semantics.specs.Contributions.{Contribution}
+use Rattle.gm_semantics.specs.declared.faults.Fault.{Fault}
+use Rattle.gm_semantics.specs.declared.slots.Write.{Write}
+use Rattle.gm_semantics.specs.Faults.{least, somes}
+use Rattle.gm_semantics.specs.Iterations.{Iteration, Mode, Outermost, AtEdge, begun}
+use Rattle.gm_semantics.specs.Stores.{Store}
 use Rattle.gm_store.specs.Held.{Held, HasSlot, shape_of, store_of}
 use Rattle.gm_totals.specs.declared.totals.Totals.{Totals}
 use Rattle.gm_totals.specs.declared.contributions.Contribution.{Contribution as Gift}

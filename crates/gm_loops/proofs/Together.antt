@@ -7,14 +7,14 @@ use Rattle.gm_base.specs.declared.places.Place.{Place}
 use Rattle.gm_value.specs.declared.reductions.Reduce.{Reduce}
 use Rattle.gm_ast.specs.declared.tree.Target.{Target}
 use Rattle.gm_ast.specs.Program.{Expr}
-use Rattle.gm_source.specs.declared.faults.Fault.{Fault}
-use Rattle.gm_source.specs.declared.slots.Slot.{Slot}
-use Rattle.gm_source.specs.declared.slots.Slot.TheVariants.{Scalar, Node}
-use Rattle.gm_source.specs.Faults.{first, then_with}
-use Rattle.gm_source.specs.Expressions as E
-use Rattle.gm_source.specs.Expressions.{View}
-use Rattle.gm_source.specs.Iterations.{Ends, AtOnce, WithInner, WithOutermost, Iteration, Loop, Mode, Outermost, later, ends_of, ends_of_all, slot_of, slots_of, wrote, wrote_all, at_once, together}
-use Rattle.gm_source.specs.Stores.{Store, write, write_all}
+use Rattle.gm_semantics.specs.declared.faults.Fault.{Fault}
+use Rattle.gm_semantics.specs.declared.slots.Slot.{Slot}
+use Rattle.gm_semantics.specs.declared.slots.Slot.TheVariants.{Scalar, Node}
+use Rattle.gm_semantics.specs.Faults.{first, then_with}
+use Rattle.gm_semantics.specs.Expressions as E
+use Rattle.gm_semantics.specs.Expressions.{View}
+use Rattle.gm_semantics.specs.Iterations.{Ends, AtOnce, WithInner, WithOutermost, Iteration, Loop, Mode, Outermost, later, ends_of, ends_of_all, slot_of, slots_of, wrote, wrote_all, at_once, together}
+use Rattle.gm_semantics.specs.Stores.{Store, write, write_all}
 use Rattle.gm_store.specs.Held.{HasSlot}
 use Rattle.gm_loops.specs.Bounds.{target_bound, targets_bound}
 use Rattle.gm_loops.specs.Targets.{and_next, followed, rest_and_one, room, AreSeveral}

@@ -3,12 +3,12 @@ use Rattle.std.proofs.Common.{◌≡◌, ◌∙◌, ◌<◌, ◌+◌, ℕ, get_o
 use Rattle.std.proofs.lemmas.List.{append-nil, take_more}
 use Rattle.std.specs.Prelude.{All}
 use Rattle.std.specs.Option.{is_some}
-use Rattle.gm_source.specs.Contributions.{Contribution}
-use Rattle.gm_source.specs.declared.faults.Fault.{Fault}
-use Rattle.gm_source.specs.declared.slots.Write.{Write}
-use Rattle.gm_source.specs.Faults.{least, joined}
-use Rattle.gm_source.specs.Iterations.{Iteration, Mode, Outermost, AtEdge, begun, go_on, unless_failed}
-use Rattle.gm_source.specs.Stores.{Store, overlaid, write}
+use Rattle.gm_semantics.specs.Contributions.{Contribution}
+use Rattle.gm_semantics.specs.declared.faults.Fault.{Fault}
+use Rattle.gm_semantics.specs.declared.slots.Write.{Write}
+use Rattle.gm_semantics.specs.Faults.{least, joined}
+use Rattle.gm_semantics.specs.Iterations.{Iteration, Mode, Outermost, AtEdge, begun, go_on, unless_failed}
+use Rattle.gm_semantics.specs.Stores.{Store, overlaid, write}
 use Rattle.gm_store.specs.Held.{Held, Shape, HasSlot, Restored, shape_of, store_of}
 use Rattle.gm_store.specs.Laws.{IsLogged, IsRolledBack}
 use Rattle.gm_store.proofs.Reversing.{Reversible-refl, Reversible-trans, Reversible-write, Restored-rolled_back}

@@ -3,10 +3,10 @@ use Rattle.std.specs.Prelude.{option_map}
 use Rattle.gm_ast.specs.Program as P
 use Rattle.gm_ast.specs.Program.{Stmt}
 use Rattle.gm_ast.specs.Tree.{expr_of, stmt_of}
-use Rattle.gm_source.specs.Iterations as I
-use Rattle.gm_source.specs.Iterations.{Loop}
-use Rattle.gm_source.specs.Loops.{pushes}
-use Rattle.gm_source.specs.Statements.{variable_at}
+use Rattle.gm_semantics.specs.Iterations as I
+use Rattle.gm_semantics.specs.Iterations.{Loop}
+use Rattle.gm_semantics.specs.Loops.{pushes}
+use Rattle.gm_semantics.specs.Statements.{variable_at}
 use Rattle.gm_loops.specs.declared.around.Around.{Around}
 use Rattle.gm_loops.specs.declared.around.Body.{Body}
 use Rattle.gm_loops.specs.declared.around.Body.TheVariants.{Statement, Assignment}

@@ -7,9 +7,9 @@ use Rattle.gm_value.specs.declared.operations.Op2.{Op2}
 use Rattle.gm_value.specs.Operations.{result1, result2}
 use Rattle.gm_graph.specs.Graphs.{node_count}
 use Rattle.gm_ast.specs.Program.{Expr}
-use Rattle.gm_source.specs.declared.slots.Slot.TheVariants.{Scalar}
-use Rattle.gm_source.specs.Expressions.{View, evaluated, plain}
-use Rattle.gm_source.specs.Stores.{write}
+use Rattle.gm_semantics.specs.declared.slots.Slot.TheVariants.{Scalar}
+use Rattle.gm_semantics.specs.Expressions.{View, evaluated, plain}
+use Rattle.gm_semantics.specs.Stores.{write}
 use Rattle.gm_store.specs.declared.cells.Cells.{Cells}
 use Rattle.gm_store.specs.Cells.{values_of}
 use Rattle.gm_loops.specs.declared.columns.Operand.{Operand}

@@ -4,9 +4,9 @@ use Rattle.gm_value.specs.declared.values.Value.{Value}
 use Rattle.gm_value.specs.Operations.{is_true}
 use Rattle.gm_ast.specs.declared.tree.Key.{Key}
 use Rattle.gm_ast.specs.Program.{Expr}
-use Rattle.gm_source.specs.Expressions.{View, evaluated, plain}
-use Rattle.gm_source.specs.Iterations.{Outermost, begun, view_in}
-use Rattle.gm_source.specs.Stores.{Store}
+use Rattle.gm_semantics.specs.Expressions.{View, evaluated, plain}
+use Rattle.gm_semantics.specs.Iterations.{Outermost, begun, view_in}
+use Rattle.gm_semantics.specs.Stores.{Store}
 use Rattle.gm_store.specs.declared.cells.Cells.{Cells}
 use Rattle.gm_loops.specs.declared.around.Around.{Around}
 use Rattle.gm_loops.specs.Around.{loop_of}

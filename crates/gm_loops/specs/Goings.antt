@@ -1,9 +1,9 @@
 -- What the code has of a loop's iterations, against the source meaning's iteration.
 use Rattle.std.specs.Prelude.{◌≡◌, ℕ, List, [], ◌++◌, All}
 use Rattle.gm_value.specs.declared.values.Value.{Value}
-use Rattle.gm_source.specs.declared.slots.Write.{Write}
-use Rattle.gm_source.specs.Contributions.{Contribution}
-use Rattle.gm_source.specs.Iterations.{Iteration, Mode, Outermost, AtEdge}
+use Rattle.gm_semantics.specs.declared.slots.Write.{Write}
+use Rattle.gm_semantics.specs.Contributions.{Contribution}
+use Rattle.gm_semantics.specs.Iterations.{Iteration, Mode, Outermost, AtEdge}
 use Rattle.gm_store.specs.Held.{HasSlot, Reversible, shape_of, store_of}
 use Rattle.gm_totals.specs.declared.totals.Totals.{Totals}
 use Rattle.gm_totals.specs.Standing.{StandsFor, Within}

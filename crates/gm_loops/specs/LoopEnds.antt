@@ -1,11 +1,11 @@
 -- Where a parallel loop begins and ends.
 use Rattle.std.specs.Prelude.{◌≡◌, ℕ, List, [], Option, Some, None, Result, Ok, Err}
-use Rattle.gm_source.specs.declared.faults.Fault.{Fault}
+use Rattle.gm_semantics.specs.declared.faults.Fault.{Fault}
 use Rattle.gm_value.specs.declared.values.Value.{Value}
-use Rattle.gm_source.specs.Levels.{numbers_from}
-use Rattle.gm_source.specs.Contributions.{Contribution, settled_store, total_faults}
-use Rattle.gm_source.specs.Faults.{least}
-use Rattle.gm_source.specs.Stores.{Store, overlaid}
+use Rattle.gm_semantics.specs.Levels.{numbers_from}
+use Rattle.gm_semantics.specs.Contributions.{Contribution, settled_store, total_faults}
+use Rattle.gm_semantics.specs.Faults.{least}
+use Rattle.gm_semantics.specs.Stores.{Store, overlaid}
 use Rattle.gm_store.specs.Held.{Shape, shape_of, store_of}
 use Rattle.gm_totals.specs.Standing.{StandsFor, Within}
 use Rattle.gm_loops.specs.declared.goings.Going.{Going}

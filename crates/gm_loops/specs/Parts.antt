@@ -7,10 +7,10 @@ use Rattle.gm_value.specs.declared.reductions.Reduce.{Reduce}
 use Rattle.gm_value.specs.declared.reductions.Reduce.TheVariants.{And, Or}
 use Rattle.gm_value.specs.Reductions.{close}
 use Rattle.gm_ast.specs.declared.tree.Key.{Key}
-use Rattle.gm_source.specs.declared.faults.Fault.{Fault}
-use Rattle.gm_source.specs.Faults.{lesser}
-use Rattle.gm_source.specs.Expressions as E
-use Rattle.gm_source.specs.Expressions.{Answer, plain, early, both, either, two_of}
+use Rattle.gm_semantics.specs.declared.faults.Fault.{Fault}
+use Rattle.gm_semantics.specs.Faults.{lesser}
+use Rattle.gm_semantics.specs.Expressions as E
+use Rattle.gm_semantics.specs.Expressions.{Answer, plain, early, both, either, two_of}
 use Rattle.gm_loops.specs.declared.parts.Evaluated.{Evaluated}
 
 -- the two parts

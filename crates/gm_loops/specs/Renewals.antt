@@ -6,10 +6,10 @@ use Rattle.gm_value.specs.Operations.{is_true}
 use Rattle.gm_ast.specs.declared.tree.Key.{Key}
 use Rattle.gm_ast.specs.declared.tree.Target.TheVariants as T
 use Rattle.gm_ast.specs.Program.{Expr, Stmt, Assign}
-use Rattle.gm_source.specs.Expressions.{View, evaluated, plain}
-use Rattle.gm_source.specs.Iterations.{Iteration, Loop, Outermost, begun, does, view_in}
-use Rattle.gm_source.specs.Levels.{nodes}
-use Rattle.gm_source.specs.Stores.{Store}
+use Rattle.gm_semantics.specs.Expressions.{View, evaluated, plain}
+use Rattle.gm_semantics.specs.Iterations.{Iteration, Loop, Outermost, begun, does, view_in}
+use Rattle.gm_semantics.specs.Levels.{nodes}
+use Rattle.gm_semantics.specs.Stores.{Store}
 use Rattle.gm_loops.specs.declared.renewals.Renewal.{Renewal}
 use Rattle.gm_loops.specs.Columns.{IsColumn}
 

@@ -5,13 +5,13 @@ use Rattle.gm_value.specs.declared.values.VType.{VType}
 use Rattle.gm_value.specs.declared.reductions.Reduce.{Reduce}
 use Rattle.gm_value.specs.Operations.{is_true}
 use Rattle.gm_value.specs.Totals.{IsTotal}
-use Rattle.gm_source.specs.declared.faults.Fault.{Fault}
-use Rattle.gm_source.specs.Faults.{least, errs, oks, joined}
+use Rattle.gm_semantics.specs.declared.faults.Fault.{Fault}
+use Rattle.gm_semantics.specs.Faults.{least, errs, oks, joined}
 use Rattle.gm_graph.specs.Graphs.{Step}
 use Rattle.gm_ast.specs.declared.tree.Fold.{Fold}
 use Rattle.gm_ast.specs.declared.tree.Head.{Head}
 use Rattle.gm_ast.specs.Program.{Expr}
-use Rattle.gm_source.specs.Expressions.{View, Answer, evaluated, settled, entered, element}
+use Rattle.gm_semantics.specs.Expressions.{View, Answer, evaluated, settled, entered, element}
 use Rattle.gm_loops.specs.declared.runnings.Running.{Running}
 
 -- the members that the code has of an element

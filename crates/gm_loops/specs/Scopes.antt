@@ -2,7 +2,7 @@
 use Rattle.std.specs.Prelude.{ℕ, nat_eq, if◌then◌else◌, Some}
 use Rattle.gm_value.specs.declared.values.Value.{Value}
 use Rattle.gm_value.specs.declared.values.Value.TheVariants.{At}
-use Rattle.gm_source.specs.Stores.{Store}
+use Rattle.gm_semantics.specs.Stores.{Store}
 use Rattle.gm_loops.specs.declared.scopes.Scope.{Scope, fold-Scope}
 use Rattle.gm_loops.specs.declared.scopes.Scope as S
 use Rattle.gm_loops.specs.declared.scopes.Scope.TheOpen.{Scope-F}

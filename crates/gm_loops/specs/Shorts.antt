@@ -1,7 +1,7 @@
 -- Iterations that do one thing.
 use Rattle.std.specs.Prelude.{◌≡◌, ⊤, ℕ, true, List, [], ◌∷◌}
-use Rattle.gm_source.specs.declared.slots.Write.{Write}
-use Rattle.gm_source.specs.Iterations.{Iteration, gave_outermost, wrote}
+use Rattle.gm_semantics.specs.declared.slots.Write.{Write}
+use Rattle.gm_semantics.specs.Iterations.{Iteration, gave_outermost, wrote}
 use Rattle.gm_store.specs.Held.{Shape, HasSlot}
 use Rattle.gm_totals.specs.Given.{single}
 use Rattle.gm_loops.specs.declared.shorts.Deed.{Deed}

@@ -4,7 +4,7 @@ use Rattle.gm_value.specs.declared.values.Value.{Value}
 use Rattle.gm_value.specs.declared.values.Value.TheVariants.{I32}
 use Rattle.gm_graph.specs.Graphs.{NumberedGraph, node_count}
 use Rattle.gm_levels.specs.Views.{NodeLevels}
-use Rattle.gm_source.specs.Expressions.{View}
+use Rattle.gm_semantics.specs.Expressions.{View}
 use Rattle.gm_store.specs.Held.{Held, store_of}
 use Rattle.gm_loops.specs.declared.sights.EdgeColumn.{EdgeColumn}
 use Rattle.gm_loops.specs.declared.sights.Setting.{Setting}

@@ -9,12 +9,12 @@ use Rattle.gm_value.specs.Tuples.{close_slots}
 use Rattle.gm_ast.specs.declared.tree.Key.{Key}
 use Rattle.gm_ast.specs.declared.tree.Target.{Target}
 use Rattle.gm_value.specs.declared.values.Value.{Value}
-use Rattle.gm_source.specs.declared.faults.Fault.{Fault}
-use Rattle.gm_source.specs.declared.slots.Slot.{Slot}
-use Rattle.gm_source.specs.declared.slots.Write.{Write}
-use Rattle.gm_source.specs.Faults.{first, then_with, unless_fault}
-use Rattle.gm_source.specs.Expressions as E
-use Rattle.gm_source.specs.Expressions.{Answer}
+use Rattle.gm_semantics.specs.declared.faults.Fault.{Fault}
+use Rattle.gm_semantics.specs.declared.slots.Slot.{Slot}
+use Rattle.gm_semantics.specs.declared.slots.Write.{Write}
+use Rattle.gm_semantics.specs.Faults.{first, then_with, unless_fault}
+use Rattle.gm_semantics.specs.Expressions as E
+use Rattle.gm_semantics.specs.Expressions.{Answer}
 use Rattle.gm_store.specs.Held.{Shape}
 use Rattle.gm_loops.specs.declared.tuples.AllEvaluated.{AllEvaluated}
 use Rattle.gm_loops.specs.declared.tuples.Tuple.{Tuple}

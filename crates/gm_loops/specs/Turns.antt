@@ -4,13 +4,13 @@ use Rattle.gm_value.specs.declared.values.Value.{Value}
 use Rattle.gm_ast.specs.declared.tree.Key.{Key}
 use Rattle.gm_ast.specs.Program.{Expr, Stmt}
 use Rattle.gm_graph.specs.Graphs.{Step}
-use Rattle.gm_source.specs.declared.faults.Fault.{Fault}
-use Rattle.gm_source.specs.declared.slots.Write.{Write}
-use Rattle.gm_source.specs.Contributions.{Contribution, settled_store, total_faults}
-use Rattle.gm_source.specs.Faults.{least, somes, joined}
-use Rattle.gm_source.specs.Iterations.{Iteration, Loop, Mode, Outermost, AtEdge, as_it_is, does, one_way, turn_at}
-use Rattle.gm_source.specs.Loops.{own_left}
-use Rattle.gm_source.specs.Stores.{Store, overlaid}
+use Rattle.gm_semantics.specs.declared.faults.Fault.{Fault}
+use Rattle.gm_semantics.specs.declared.slots.Write.{Write}
+use Rattle.gm_semantics.specs.Contributions.{Contribution, settled_store, total_faults}
+use Rattle.gm_semantics.specs.Faults.{least, somes, joined}
+use Rattle.gm_semantics.specs.Iterations.{Iteration, Loop, Mode, Outermost, AtEdge, as_it_is, does, one_way, turn_at}
+use Rattle.gm_semantics.specs.Loops.{own_left}
+use Rattle.gm_semantics.specs.Stores.{Store, overlaid}
 use Rattle.gm_store.specs.Held.{Held, Reversible, Restored, store_of}
 use Rattle.gm_totals.specs.Standing.{StandsFor}
 use Rattle.gm_loops.specs.declared.goings.Going.{Going}

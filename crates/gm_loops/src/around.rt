@@ -4,9 +4,9 @@ ghost use Rattle.std.specs.Prelude.{◌≡◌, true, map};
 ghost use Rattle.std.specs.List.{list_any};
 ghost use Rattle.gm_ast.specs.Program.{sequence};
 ghost use Rattle.gm_ast.specs.Tree.{stmt_of};
-ghost use Rattle.gm_source.specs.Iterations.{ends_of, ends_of_all, later, edge_of, own_ends, scalar_ends};
-ghost use Rattle.gm_source.specs.Loops.{is_elsewhere, pushes};
-ghost use Rattle.gm_source.specs.Statements.{variable_at};
+ghost use Rattle.gm_semantics.specs.Iterations.{ends_of, ends_of_all, later, edge_of, own_ends, scalar_ends};
+ghost use Rattle.gm_semantics.specs.Loops.{is_elsewhere, pushes};
+ghost use Rattle.gm_semantics.specs.Statements.{variable_at};
 ghost use Rattle.gm_loops.specs.Around.{body_of, ends_as, loop_of, mode_of};
 
 use crate::sights::{Setting, Sight};

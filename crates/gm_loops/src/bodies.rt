@@ -5,9 +5,9 @@ ghost use Rattle.gm_base.specs.declared.places.Place.{Place};
 ghost use Rattle.gm_ast.specs.declared.tree.Key.{Key};
 ghost use Rattle.gm_ast.specs.Program as program;
 ghost use Rattle.gm_ast.specs.Tree.{expr_of, stmt_of};
-ghost use Rattle.gm_source.specs.Expressions.{steps_in};
-ghost use Rattle.gm_source.specs.Iterations as iterations;
-ghost use Rattle.gm_source.specs.Iterations.{does, view_in, begun};
+ghost use Rattle.gm_semantics.specs.Expressions.{steps_in};
+ghost use Rattle.gm_semantics.specs.Iterations as iterations;
+ghost use Rattle.gm_semantics.specs.Iterations.{does, view_in, begun};
 ghost use Rattle.gm_loops.specs.Around.{loop_of, mode_of};
 ghost use Rattle.gm_loops.specs.Bounds.{bound_of};
 ghost use Rattle.gm_loops.specs.Goings.{Does, IsReady};
@@ -21,7 +21,7 @@ use crate::ranges::Hop;
 use crate::turns::keep_least;
 use gm_ast::tree::{Expr, Head, Key, Stmt};
 use gm_base::NoMemory;
-use gm_source::faults::Fault;
+use gm_semantics::faults::Fault;
 
 impl Going {
     // What the statements of a block do, until one faults.

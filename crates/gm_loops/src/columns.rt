@@ -7,7 +7,7 @@ ghost use Rattle.gm_value.specs.Operations.{result2};
 ghost use Rattle.gm_graph.specs.Graphs.{node_count};
 ghost use Rattle.gm_ast.specs.Program as program;
 ghost use Rattle.gm_ast.specs.Tree.{expr_of};
-ghost use Rattle.gm_source.specs.Levels.{numbers_from};
+ghost use Rattle.gm_semantics.specs.Levels.{numbers_from};
 ghost use Rattle.gm_store.specs.Cells.{values_of};
 ghost use Rattle.gm_loops.specs.Columns.{cells_of, Applies1, Applies2, IsColumn};
 ghost use Rattle.gm_loops.specs.Sights.{view_of, Fits};

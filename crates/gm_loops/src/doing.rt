@@ -4,10 +4,10 @@ ghost use Rattle.std.specs.Prelude.{◌≡◌, ◌≤◌, ◌<◌, ◌∷◌, []
 ghost use Rattle.gm_ast.specs.declared.tree.Key.{Key};
 ghost use Rattle.gm_ast.specs.Program as program;
 ghost use Rattle.gm_ast.specs.Tree.{expr_of};
-ghost use Rattle.gm_source.specs.declared.slots.Slot.TheVariants.{Scalar};
-ghost use Rattle.gm_source.specs.Faults.{then_with};
-ghost use Rattle.gm_source.specs.Iterations as iterations;
-ghost use Rattle.gm_source.specs.Iterations.{does};
+ghost use Rattle.gm_semantics.specs.declared.slots.Slot.TheVariants.{Scalar};
+ghost use Rattle.gm_semantics.specs.Faults.{then_with};
+ghost use Rattle.gm_semantics.specs.Iterations as iterations;
+ghost use Rattle.gm_semantics.specs.Iterations.{does};
 ghost use Rattle.gm_loops.specs.Around.{loop_of, mode_of};
 ghost use Rattle.gm_loops.specs.Bounds.{target_bound, targets_bound};
 ghost use Rattle.gm_loops.specs.Goings.{Does, IsReady};
@@ -18,8 +18,8 @@ use crate::goings::Going;
 use crate::parts::Answer;
 use gm_ast::tree::{Expr, Key, Target, TotalKey};
 use gm_base::NoMemory;
-use gm_source::faults::Fault;
-use gm_source::slots::{Slot, Write};
+use gm_semantics::faults::Fault;
+use gm_semantics::slots::{Slot, Write};
 use gm_value::Reduce;
 
 impl Going {

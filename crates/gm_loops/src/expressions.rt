@@ -2,7 +2,7 @@
 
 ghost use Rattle.std.specs.Prelude.{◌≡◌};
 ghost use Rattle.gm_ast.specs.Tree.{expr_of};
-ghost use Rattle.gm_source.specs.Expressions.{evaluated};
+ghost use Rattle.gm_semantics.specs.Expressions.{evaluated};
 ghost use Rattle.gm_loops.specs.Sights.{view_of, Fits};
 ghost use Rattle.gm_loops.specs.Parts.{parts};
 

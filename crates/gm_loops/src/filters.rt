@@ -4,11 +4,11 @@ ghost use Rattle.std.specs.Prelude.{◌≡◌, ◌≤◌, IsTrue, IfOk, IfSome, 
 ghost use Rattle.gm_value.specs.declared.values.Value.TheVariants.{At};
 ghost use Rattle.gm_ast.specs.Program as program;
 ghost use Rattle.gm_ast.specs.Tree.{expr_of};
-ghost use Rattle.gm_source.specs.declared.slots.Slot.TheVariants.{Scalar};
-ghost use Rattle.gm_source.specs.Expressions.{View};
-ghost use Rattle.gm_source.specs.Iterations as iterations;
-ghost use Rattle.gm_source.specs.Iterations.{begun, does, turn_at};
-ghost use Rattle.gm_source.specs.Stores.{write};
+ghost use Rattle.gm_semantics.specs.declared.slots.Slot.TheVariants.{Scalar};
+ghost use Rattle.gm_semantics.specs.Expressions.{View};
+ghost use Rattle.gm_semantics.specs.Iterations as iterations;
+ghost use Rattle.gm_semantics.specs.Iterations.{begun, does, turn_at};
+ghost use Rattle.gm_semantics.specs.Stores.{write};
 ghost use Rattle.gm_store.specs.Held.{shape_of};
 ghost use Rattle.gm_loops.specs.Around.{body_of, loop_of};
 ghost use Rattle.gm_loops.specs.Bounds.{bound_of};

@@ -7,8 +7,8 @@ ghost use Rattle.gm_value.specs.declared.values.Value.TheVariants.{Flag};
 ghost use Rattle.gm_value.specs.Totals.{HasRoom, IsTotal};
 ghost use Rattle.gm_ast.specs.Program as program;
 ghost use Rattle.gm_ast.specs.Tree.{expr_of};
-ghost use Rattle.gm_source.specs.Expressions.{evaluated, members_of, plain, reduce_of};
-ghost use Rattle.gm_source.specs.Faults.{joined};
+ghost use Rattle.gm_semantics.specs.Expressions.{evaluated, members_of, plain, reduce_of};
+ghost use Rattle.gm_semantics.specs.Faults.{joined};
 ghost use Rattle.gm_store.specs.Cells.{values_of};
 ghost use Rattle.gm_loops.specs.Sights.{view_of, Fits};
 

@@ -1,8 +1,8 @@
 //! A loop's iterations so far, and the effects of statements on them.
 
 ghost use Rattle.std.specs.Prelude.{◌≡◌, ◌∷◌, [], All, IfOk, OnOk, ℕ};
-ghost use Rattle.gm_source.specs.Iterations as iterations;
-ghost use Rattle.gm_source.specs.Iterations.{alone, failed, wrote, wrote_all, with_ok, gave_inner, gave_outermost, deferred_to, contribution};
+ghost use Rattle.gm_semantics.specs.Iterations as iterations;
+ghost use Rattle.gm_semantics.specs.Iterations.{alone, failed, wrote, wrote_all, with_ok, gave_inner, gave_outermost, deferred_to, contribution};
 ghost use Rattle.gm_totals.specs.Given.{single};
 ghost use Rattle.gm_store.specs.Held.{HasSlot, shape_of};
 ghost use Rattle.gm_loops.specs.declared.sights.Setting.{Setting};
@@ -13,8 +13,8 @@ use crate::ranges::Hop;
 use crate::tuples::Tuple;
 use gm_ast::tree::TotalKey;
 use gm_base::NoMemory;
-use gm_source::faults::Fault;
-use gm_source::slots::{Slot, Write};
+use gm_semantics::faults::Fault;
+use gm_semantics::slots::{Slot, Write};
 use gm_store::{Store, logged_writes_are_reversible};
 use gm_totals::{Contribution, Totals};
 use gm_value::{Reduce, Value};

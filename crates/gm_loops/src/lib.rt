@@ -1,7 +1,7 @@
 //! Expressions and parallel loops of a program, evaluated: an interpreter with fast paths for whole columns.
 //!
 //! A loop goes over nodes, with a filter and a body, on a store. [`Going::parallel`] leaves the store after the
-//! loop, or its least fault, exactly as `gm_source` defines it (`parallel`), for every body, filter and list of
+//! loop, or its least fault, exactly as `gm_semantics` defines it (`parallel`), for every body, filter and list of
 //! nodes. Nothing is asked of types.
 //!
 //! The general path runs one iteration after another. Each sees the store as it was when the loop began and its own

@@ -5,7 +5,7 @@ ghost use Rattle.gm_store.specs.Held.{shape_of, HasSlot};
 ghost use Rattle.gm_loops.specs.Own.{is_at, kept, Sets};
 
 use gm_base::NoMemory;
-use gm_source::slots::{Slot, Write};
+use gm_semantics::slots::{Slot, Write};
 use gm_store::Store;
 
 // Whether a slot is at a node.

@@ -3,13 +3,13 @@
 ghost use Rattle.std.specs.Prelude.{◌≡◌, ◌∷◌, []};
 ghost use Rattle.gm_value.specs.Reductions.{close};
 ghost use Rattle.gm_value.specs.Operations.{is_true, result1, result2};
-ghost use Rattle.gm_source.specs.Faults.{first};
-ghost use Rattle.gm_source.specs.Expressions.{plain, early, settled, one_of, two_of, both, either, choice};
+ghost use Rattle.gm_semantics.specs.Faults.{first};
+ghost use Rattle.gm_semantics.specs.Expressions.{plain, early, settled, one_of, two_of, both, either, choice};
 ghost use Rattle.gm_loops.specs.Parts.{parts, combined_by, located_by, read_by};
 
 use gm_ast::tree::Key;
 use gm_base::Place;
-use gm_source::faults::Fault;
+use gm_semantics::faults::Fault;
 use gm_value::{
     FaultKind, Op1, Op2, Reduce, Value, apply1, apply2, total_add, total_close, total_unit,
     totals_have_room,

@@ -2,8 +2,8 @@
 
 ghost use Rattle.std.specs.Prelude.{◌≡◌, ◌<◌, ◌≤◌, ◌+◌, Some, IfSome, OnOk, length, map, slice_get};
 ghost use Rattle.gm_graph.specs.Graphs.{node_count};
-ghost use Rattle.gm_source.specs.Levels.{is_next};
-ghost use Rattle.gm_source.specs.Expressions.{View, steps_of, steps_in};
+ghost use Rattle.gm_semantics.specs.Levels.{is_next};
+ghost use Rattle.gm_semantics.specs.Expressions.{View, steps_of, steps_in};
 ghost use Rattle.gm_loops.specs.Sights.{levels_of, view_of, Fits};
 ghost use Rattle.gm_loops.specs.Ranges.{all_steps, levels_by, step_of, steps_at, takes, with_hop, HasStart};
 

@@ -3,8 +3,8 @@
 ghost use Rattle.std.specs.Prelude.{◌≡◌, ◌<◌, ◌≤◌, false, IsTrue, IfOk, IfSome, Ok};
 ghost use Rattle.gm_ast.specs.Tree.{expr_of};
 ghost use Rattle.gm_ast.specs.declared.tree.Key.{Key};
-ghost use Rattle.gm_source.specs.Levels.{nodes};
-ghost use Rattle.gm_source.specs.Loops.{parallel};
+ghost use Rattle.gm_semantics.specs.Levels.{nodes};
+ghost use Rattle.gm_semantics.specs.Loops.{parallel};
 ghost use Rattle.gm_loops.specs.Around.{body_of, loop_of};
 ghost use Rattle.gm_loops.specs.Bounds.{bound_of};
 ghost use Rattle.gm_loops.specs.LoopEnds.{nodes_in, AtRest};

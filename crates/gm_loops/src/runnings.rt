@@ -4,15 +4,15 @@ ghost use Rattle.std.specs.Prelude.{◌≡◌, ◌∷◌, ◌++◌, [], IfOk, Li
 ghost use Rattle.gm_value.specs.declared.values.Value.{Value};
 ghost use Rattle.gm_value.specs.declared.values.VType.{VType};
 ghost use Rattle.gm_value.specs.Totals.{HasRoom, IsTotal};
-ghost use Rattle.gm_source.specs.declared.faults.Fault.{Fault};
-ghost use Rattle.gm_source.specs.Faults.{then_with};
-ghost use Rattle.gm_source.specs.Expressions.{Answer as SomeAnswer, reduce_of, members_of, closed, element, reduction};
+ghost use Rattle.gm_semantics.specs.declared.faults.Fault.{Fault};
+ghost use Rattle.gm_semantics.specs.Faults.{then_with};
+ghost use Rattle.gm_semantics.specs.Expressions.{Answer as SomeAnswer, reduce_of, members_of, closed, element, reduction};
 ghost use Rattle.gm_loops.specs.Runnings.{listed, passes, Runs};
 
 use crate::parts::{Answer, is_true};
 use gm_ast::surface::ReductionWord;
 use gm_ast::tree::Fold;
-use gm_source::faults::Fault;
+use gm_semantics::faults::Fault;
 use gm_totals::{lesser, total_fault};
 use gm_value::{Reduce, Total, VType, Value, total_add, total_close, total_unit, unit};
 

@@ -4,10 +4,10 @@ ghost use Rattle.std.specs.Prelude.{◌≡◌, ◌≤◌, ◌<◌, ◌∷◌, �
 ghost use Rattle.gm_value.specs.declared.values.Value.TheVariants.{At};
 ghost use Rattle.gm_ast.specs.Tree.{expr_of, stmt_of};
 ghost use Rattle.gm_ast.specs.Program as program;
-ghost use Rattle.gm_source.specs.declared.slots.Slot.TheVariants.{Scalar};
-ghost use Rattle.gm_source.specs.Stores.{Store as Stored, write};
-ghost use Rattle.gm_source.specs.Iterations as iterations;
-ghost use Rattle.gm_source.specs.Iterations.{Iteration, Loop, begun, does, turn_at};
+ghost use Rattle.gm_semantics.specs.declared.slots.Slot.TheVariants.{Scalar};
+ghost use Rattle.gm_semantics.specs.Stores.{Store as Stored, write};
+ghost use Rattle.gm_semantics.specs.Iterations as iterations;
+ghost use Rattle.gm_semantics.specs.Iterations.{Iteration, Loop, begun, does, turn_at};
 ghost use Rattle.gm_store.specs.Held.{shape_of, store_of, HasSlot};
 ghost use Rattle.gm_loops.specs.declared.sights.Setting.{Setting};
 ghost use Rattle.gm_loops.specs.Around.{body_of, loop_of, mode_of};
@@ -25,7 +25,7 @@ use crate::parts::is_true;
 use crate::scopes::Scope;
 use gm_ast::tree::{Expr, Key, Stmt, Target, TotalKey};
 use gm_base::NoMemory;
-use gm_source::slots::Write;
+use gm_semantics::slots::Write;
 use gm_totals::Contribution;
 use gm_value::Reduce;
 

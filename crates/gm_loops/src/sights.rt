@@ -3,8 +3,8 @@
 ghost use Rattle.std.specs.Prelude.{◌≡◌, ◌<◌, true, All, IfOk, slice_index_or};
 ghost use Rattle.gm_value.specs.declared.values.Value.TheVariants.{At};
 ghost use Rattle.gm_graph.specs.Graphs.{node_count};
-ghost use Rattle.gm_source.specs.Levels.{node_in};
-ghost use Rattle.gm_source.specs.Expressions.{View, node_of, at_node, degree_of};
+ghost use Rattle.gm_semantics.specs.Levels.{node_in};
+ghost use Rattle.gm_semantics.specs.Expressions.{View, node_of, at_node, degree_of};
 ghost use Rattle.gm_store.specs.Held.{scalar_of, node_of as held_node};
 ghost use Rattle.gm_loops.specs.Scopes.{scalar_in};
 ghost use Rattle.gm_loops.specs.Sights.{edges_in, values_in, view_of, HasColumn, Fits};
@@ -15,7 +15,7 @@ use gm_ast::tree::{Declaration, Direction, Key};
 use gm_base::Place;
 use gm_graph::Graph;
 use gm_levels::Levels;
-use gm_source::faults::Fault;
+use gm_semantics::faults::Fault;
 use gm_store::Store;
 use gm_value::{FaultKind, Value};
 

@@ -2,8 +2,8 @@
 
 ghost use Rattle.std.specs.Prelude.{◌≡◌, ◌<◌, All, IfOk, OnOk, map};
 ghost use Rattle.gm_ast.specs.Tree.{expr_of};
-ghost use Rattle.gm_source.specs.Expressions.{steps_in};
-ghost use Rattle.gm_source.specs.Iterations.{Outermost, begun, turn_at, view_in};
+ghost use Rattle.gm_semantics.specs.Expressions.{steps_in};
+ghost use Rattle.gm_semantics.specs.Iterations.{Outermost, begun, turn_at, view_in};
 ghost use Rattle.gm_store.specs.Held.{HasSlot, shape_of};
 ghost use Rattle.gm_totals.specs.Standing.{Within};
 ghost use Rattle.gm_loops.specs.declared.sights.Setting.{Setting};
@@ -20,8 +20,8 @@ use crate::ranges::Hop;
 use crate::scopes::Scope;
 use gm_ast::tree::{Expr, Head, Key};
 use gm_base::NoMemory;
-use gm_source::faults::Fault;
-use gm_source::slots::{Slot, Write};
+use gm_semantics::faults::Fault;
+use gm_semantics::slots::{Slot, Write};
 use gm_store::Store;
 use gm_totals::lesser;
 use gm_value::Value;

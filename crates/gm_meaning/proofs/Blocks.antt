@@ -4,9 +4,9 @@ use Rattle.std.specs.Prelude.{max, nat_lt, slice_get, reverse}
 use Rattle.gm_ast.specs.declared.tree.Stmt.{Stmt}
 use Rattle.gm_ast.specs.Program.{sequence}
 use Rattle.gm_ast.specs.Tree.{stmt_of}
-use Rattle.gm_source.specs.Levels.{numbers_from}
-use Rattle.gm_source.specs.Statements as S
-use Rattle.gm_source.specs.Statements.{State, then_do, sequential, in_turns}
+use Rattle.gm_semantics.specs.Levels.{numbers_from}
+use Rattle.gm_semantics.specs.Statements as S
+use Rattle.gm_semantics.specs.Statements.{State, then_do, sequential, in_turns}
 use Rattle.gm_loops.specs.declared.sights.Setting.{Setting}
 use Rattle.gm_loops.specs.Bounds.{bound_of}
 use Rattle.gm_loops.proofs.Steps.{drop-got}

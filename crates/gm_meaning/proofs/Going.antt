@@ -6,13 +6,13 @@ use Rattle.gm_value.specs.declared.values.Value.{Value}
 use Rattle.gm_ast.specs.declared.tree.Key.{Key}
 use Rattle.gm_ast.specs.declared.tree.Sort.{Sort}
 use Rattle.gm_ast.specs.declared.tree.Sort.TheVariants as Sorts
-use Rattle.gm_source.specs.declared.faults.Fault.{Fault}
-use Rattle.gm_source.specs.declared.slots.Write.{Write}
-use Rattle.gm_source.specs.Stores.{Store}
-use Rattle.gm_source.specs.Levels.{no_levels}
-use Rattle.gm_source.specs.Expressions.{View}
-use Rattle.gm_source.specs.Statements as S
-use Rattle.gm_source.specs.Statements.{Run, State, with_value, with_store, then_do, declared}
+use Rattle.gm_semantics.specs.declared.faults.Fault.{Fault}
+use Rattle.gm_semantics.specs.declared.slots.Write.{Write}
+use Rattle.gm_semantics.specs.Stores.{Store}
+use Rattle.gm_semantics.specs.Levels.{no_levels}
+use Rattle.gm_semantics.specs.Expressions.{View}
+use Rattle.gm_semantics.specs.Statements as S
+use Rattle.gm_semantics.specs.Statements.{Run, State, with_value, with_store, then_do, declared}
 use Rattle.gm_store.specs.Held.{Held, Shape, HasSlot, shape_of, store_of}
 use Rattle.gm_totals.specs.Standing.{Within}
 use Rattle.gm_loops.specs.declared.goings.Going.{Going}

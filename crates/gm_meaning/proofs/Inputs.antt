@@ -14,10 +14,10 @@ use Rattle.gm_ast.specs.declared.tree.Declaration.{Declaration}
 use Rattle.gm_ast.specs.declared.tree.Sort.{Sort}
 use Rattle.gm_ast.specs.declared.tree.Sort.TheVariants as Sorts
 use Rattle.gm_ast.specs.Program.{Program}
-use Rattle.gm_source.specs.Levels.{numbers_from}
-use Rattle.gm_source.specs.Stores.{Store}
-use Rattle.gm_source.specs.Statements.{variable_at, variable_or}
-use Rattle.gm_source.specs.Outcomes.{is_of, count_before, input_value, column_value, first_store}
+use Rattle.gm_semantics.specs.Levels.{numbers_from}
+use Rattle.gm_semantics.specs.Stores.{Store}
+use Rattle.gm_semantics.specs.Statements.{variable_at, variable_or}
+use Rattle.gm_semantics.specs.Outcomes.{is_of, count_before, input_value, column_value, first_store}
 use Rattle.gm_store.specs.Held.{Held, Shape, shape_of, scalar_of, node_of, value_in, no_row, store_of}
 use Rattle.gm_loops.specs.Sights.{edges_of, edge_value, values_in, HasColumn}
 use Rattle.gm_meaning.specs.Inputs.{first_scalars, first_columns, edge_column, column_in, IsRoomFor}

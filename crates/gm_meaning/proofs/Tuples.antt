@@ -8,12 +8,12 @@ use Rattle.gm_graph.specs.Graphs.{node_count}
 use Rattle.gm_ast.specs.declared.tree.Expr as E
 use Rattle.gm_ast.specs.declared.tree.Target.{Target}
 use Rattle.gm_ast.specs.Tree.{expr_of}
-use Rattle.gm_source.specs.declared.faults.Fault.{Fault}
-use Rattle.gm_source.specs.declared.slots.Slot.{Slot}
-use Rattle.gm_source.specs.Stores.{Store, write, write_all}
-use Rattle.gm_source.specs.Expressions.{View}
-use Rattle.gm_source.specs.Iterations.{alone, at_once, together}
-use Rattle.gm_source.specs.Statements.{State, writes, writes_all}
+use Rattle.gm_semantics.specs.declared.faults.Fault.{Fault}
+use Rattle.gm_semantics.specs.declared.slots.Slot.{Slot}
+use Rattle.gm_semantics.specs.Stores.{Store, write, write_all}
+use Rattle.gm_semantics.specs.Expressions.{View}
+use Rattle.gm_semantics.specs.Iterations.{alone, at_once, together}
+use Rattle.gm_semantics.specs.Statements.{State, writes, writes_all}
 use Rattle.gm_store.specs.Held.{Held, HasSlot, shape_of}
 use Rattle.gm_loops.specs.declared.sights.Setting.{Setting}
 use Rattle.gm_loops.specs.Sights.{Fits}

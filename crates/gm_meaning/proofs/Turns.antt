@@ -5,10 +5,10 @@ use Rattle.std.proofs.lemmas.Option.{slice_get_read}
 use Rattle.gm_loops.proofs.Steps.{drop-got}
 use Rattle.gm_value.specs.declared.values.Value.{Value}
 use Rattle.gm_value.specs.Operations.{is_true}
-use Rattle.gm_source.specs.declared.faults.Fault.{Fault}
-use Rattle.gm_source.specs.Expressions.{Answer}
-use Rattle.gm_source.specs.Statements as S
-use Rattle.gm_source.specs.Statements.{Run, State, with_value, either_way, then_do, stopped, repeated, in_turns}
+use Rattle.gm_semantics.specs.declared.faults.Fault.{Fault}
+use Rattle.gm_semantics.specs.Expressions.{Answer}
+use Rattle.gm_semantics.specs.Statements as S
+use Rattle.gm_semantics.specs.Statements.{Run, State, with_value, either_way, then_do, stopped, repeated, in_turns}
 use Rattle.gm_loops.specs.declared.goings.Going.{Going}
 use Rattle.gm_loops.specs.declared.sights.Setting.{Setting}
 use Rattle.gm_loops.specs.LoopEnds.{AtRest}

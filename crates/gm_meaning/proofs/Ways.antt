@@ -7,12 +7,12 @@ use Rattle.gm_value.specs.Operations.{is_true}
 use Rattle.gm_base.specs.declared.places.Place.{Place}
 use Rattle.gm_ast.specs.declared.tree.Key.{Key}
 use Rattle.gm_ast.specs.Program as P
-use Rattle.gm_source.specs.declared.faults.Fault.{Fault}
-use Rattle.gm_source.specs.declared.slots.Slot.TheVariants.{Scalar}
-use Rattle.gm_source.specs.Stores.{Store, write}
-use Rattle.gm_source.specs.Expressions.{Answer}
-use Rattle.gm_source.specs.Statements as S
-use Rattle.gm_source.specs.Statements.{State, with_value, either_way, then_do, repeated, sequential}
+use Rattle.gm_semantics.specs.declared.faults.Fault.{Fault}
+use Rattle.gm_semantics.specs.declared.slots.Slot.TheVariants.{Scalar}
+use Rattle.gm_semantics.specs.Stores.{Store, write}
+use Rattle.gm_semantics.specs.Expressions.{Answer}
+use Rattle.gm_semantics.specs.Statements as S
+use Rattle.gm_semantics.specs.Statements.{State, with_value, either_way, then_do, repeated, sequential}
 use Rattle.gm_store.specs.Held.{Held, store_of}
 use Rattle.gm_loops.specs.declared.sights.Setting.{Setting}
 use Rattle.gm_loops.specs.Sights.{edges_in}

@@ -5,9 +5,9 @@ use Rattle.gm_value.specs.declared.values.Value.{Value}
 use Rattle.gm_graph.specs.Graphs.{NumberedGraph, node_count}
 use Rattle.gm_ast.specs.declared.tree.Declaration.{Declaration}
 use Rattle.gm_ast.specs.Program.{Program}
-use Rattle.gm_source.specs.Outcomes.{first_store, mean, outcome_of}
-use Rattle.gm_source.specs.Statements as S
-use Rattle.gm_source.specs.Statements.{Run, State, sequential}
+use Rattle.gm_semantics.specs.Outcomes.{first_store, mean, outcome_of}
+use Rattle.gm_semantics.specs.Statements as S
+use Rattle.gm_semantics.specs.Statements.{Run, State, sequential}
 use Rattle.gm_store.specs.Held.{Held, Shape, shape_of, store_of}
 use Rattle.gm_loops.specs.declared.sights.EdgeColumn.{EdgeColumn}
 use Rattle.gm_loops.specs.declared.sights.Setting.{Setting}

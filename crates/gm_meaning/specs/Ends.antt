@@ -1,7 +1,7 @@
 -- What a run leaves behind, as the code has it.
 use Rattle.std.specs.Prelude.{ℕ, List, map}
 use Rattle.gm_value.specs.declared.values.Value.{Value}
-use Rattle.gm_source.specs.Levels.{numbers_from}
+use Rattle.gm_semantics.specs.Levels.{numbers_from}
 use Rattle.gm_store.specs.Held.{Held, node_of}
 
 -- the values of a property at all nodes below a count

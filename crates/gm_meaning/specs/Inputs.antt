@@ -5,9 +5,9 @@ use Rattle.gm_value.specs.Numbers.{zero_of}
 use Rattle.gm_graph.specs.Graphs.{NumberedGraph}
 use Rattle.gm_ast.specs.declared.tree.Sort.TheVariants as Sorts
 use Rattle.gm_ast.specs.Program.{Program}
-use Rattle.gm_source.specs.Levels.{numbers_from}
-use Rattle.gm_source.specs.Statements.{variable_at}
-use Rattle.gm_source.specs.Outcomes.{count_before, input_value}
+use Rattle.gm_semantics.specs.Levels.{numbers_from}
+use Rattle.gm_semantics.specs.Statements.{variable_at}
+use Rattle.gm_semantics.specs.Outcomes.{count_before, input_value}
 use Rattle.gm_loops.specs.Bounds.{bound_of}
 use Rattle.gm_loops.specs.declared.sights.EdgeColumn.{EdgeColumn}
 

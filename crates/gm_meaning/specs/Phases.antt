@@ -4,11 +4,11 @@ use Rattle.gm_value.specs.declared.values.Value.TheVariants.{At}
 use Rattle.gm_value.specs.Operations.{is_true}
 use Rattle.gm_ast.specs.declared.tree.Key.{Key}
 use Rattle.gm_ast.specs.Program.{Expr, Stmt}
-use Rattle.gm_source.specs.declared.slots.Slot.TheVariants.{Scalar}
-use Rattle.gm_source.specs.Stores.{write}
-use Rattle.gm_source.specs.Expressions.{View, Answer, value}
-use Rattle.gm_source.specs.Statements as S
-use Rattle.gm_source.specs.Statements.{Run, State, with_value, either_way, sequential}
+use Rattle.gm_semantics.specs.declared.slots.Slot.TheVariants.{Scalar}
+use Rattle.gm_semantics.specs.Stores.{write}
+use Rattle.gm_semantics.specs.Expressions.{View, Answer, value}
+use Rattle.gm_semantics.specs.Statements as S
+use Rattle.gm_semantics.specs.Statements.{Run, State, with_value, either_way, sequential}
 use Rattle.gm_store.specs.Held.{Held, store_of}
 use Rattle.gm_loops.specs.declared.sights.Setting.{Setting}
 use Rattle.gm_loops.specs.LoopEnds.{AtRest}

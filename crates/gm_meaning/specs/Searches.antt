@@ -2,7 +2,7 @@
 use Rattle.std.specs.Prelude.{◌≡◌, ◌<◌, ℕ, All, List, Some}
 use Rattle.gm_graph.specs.Graphs.{NumberedGraph, node_count}
 use Rattle.gm_levels.specs.Views.{NodeLevels}
-use Rattle.gm_source.specs.Levels.{level_of, levels}
+use Rattle.gm_semantics.specs.Levels.{level_of, levels}
 use Rattle.gm_loops.specs.Sights.{level_in}
 
 -- nodes of a graph

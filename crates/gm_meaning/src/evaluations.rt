@@ -2,7 +2,7 @@
 
 ghost use Rattle.std.specs.Prelude.{◌≡◌, IfOk};
 ghost use Rattle.gm_ast.specs.Tree.{program_of};
-ghost use Rattle.gm_source.specs.Outcomes.{mean};
+ghost use Rattle.gm_semantics.specs.Outcomes.{mean};
 
 use crate::first_stores::{edge_columns, first_store, variable_count};
 use crate::outcomes::outcome;

@@ -4,9 +4,9 @@ ghost use Rattle.std.specs.Prelude.{◌≡◌, ◌<◌, ◌≤◌, ℕ, suc, ◌
 ghost use Rattle.gm_graph.specs.Graphs.{node_count};
 ghost use Rattle.gm_ast.specs.Program as program;
 ghost use Rattle.gm_ast.specs.Tree.{expr_of, stmt_of};
-ghost use Rattle.gm_source.specs.Expressions.{value};
-ghost use Rattle.gm_source.specs.Statements.{sequential, declared, loops, writes, writes_all};
-ghost use Rattle.gm_source.specs.Stores.{write_all};
+ghost use Rattle.gm_semantics.specs.Expressions.{value};
+ghost use Rattle.gm_semantics.specs.Statements.{sequential, declared, loops, writes, writes_all};
+ghost use Rattle.gm_semantics.specs.Stores.{write_all};
 ghost use Rattle.gm_store.specs.Held.{Held, HasSlot, shape_of, store_of};
 ghost use Rattle.gm_loops.specs.Around.{body_of};
 ghost use Rattle.gm_loops.specs.Bounds.{bound_of, target_bound, targets_bound};
@@ -19,8 +19,8 @@ ghost use Rattle.gm_meaning.specs.Phases.{run_of, state_in, state_of, seen_by, R
 use gm_ast::tree::{Expr, Head, Key, Sort, Stmt, Target, TotalKey, Variable};
 use gm_base::{NoMemory, Place};
 use gm_loops::{Answer, Around, Body, Going, LoopNodes, Setting, Sight, Tuple};
-use gm_source::faults::Fault;
-use gm_source::slots::{Slot, Write};
+use gm_semantics::faults::Fault;
+use gm_semantics::slots::{Slot, Write};
 use gm_store::Store;
 use gm_value::{Reduce, Value};
 

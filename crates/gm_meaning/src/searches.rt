@@ -4,8 +4,8 @@ ghost use Rattle.std.specs.Prelude.{◌≡◌, ◌<◌, ◌≤◌, Some, IfOk, A
 ghost use Rattle.gm_graph.specs.Graphs.{HasNode};
 ghost use Rattle.gm_ast.specs.Program as program;
 ghost use Rattle.gm_ast.specs.Tree.{expr_of, stmt_of};
-ghost use Rattle.gm_source.specs.Expressions.{node_of};
-ghost use Rattle.gm_source.specs.Statements.{sequential, loops, in_turns, then_do};
+ghost use Rattle.gm_semantics.specs.Expressions.{node_of};
+ghost use Rattle.gm_semantics.specs.Statements.{sequential, loops, in_turns, then_do};
 ghost use Rattle.gm_loops.specs.Bounds.{bound_of};
 ghost use Rattle.gm_loops.specs.LoopEnds.{AtRest};
 ghost use Rattle.gm_loops.specs.Sights.{level_in, Fits};
@@ -18,7 +18,7 @@ use gm_base::{NoMemory, Place};
 use gm_graph::Graph;
 use gm_levels::{Levels, levels_from};
 use gm_loops::{Around, Body, LoopNodes, Scope, Setting};
-use gm_source::faults::Fault;
+use gm_semantics::faults::Fault;
 use std::alloc::Global;
 
 // The levels of the search from a root.

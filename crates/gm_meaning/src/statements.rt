@@ -4,8 +4,8 @@ ghost use Rattle.std.specs.Prelude.{◌≡◌, ◌<◌, ◌≤◌, suc, map, IfO
 ghost use Rattle.gm_ast.specs.Program as program;
 ghost use Rattle.gm_ast.specs.Program.{sequence};
 ghost use Rattle.gm_ast.specs.Tree.{expr_of, stmt_of};
-ghost use Rattle.gm_source.specs.Levels.{nodes};
-ghost use Rattle.gm_source.specs.Statements.{sequential, repeated, in_turns};
+ghost use Rattle.gm_semantics.specs.Levels.{nodes};
+ghost use Rattle.gm_semantics.specs.Statements.{sequential, repeated, in_turns};
 ghost use Rattle.gm_loops.specs.Bounds.{bound_of};
 ghost use Rattle.gm_loops.specs.LoopEnds.{AtRest};
 ghost use Rattle.gm_meaning.specs.Phases.{run_of, asked, turn_of, Runs};

@@ -11,7 +11,7 @@ use Rattle.gm_ast.specs.declared.tree.Variable.{Variable}
 use Rattle.gm_ast.specs.declared.kinds.Binding.{Binding}
 use Rattle.gm_ast.specs.declared.tree.Sort.TheVariants.{Graph, Iterator}
 use Rattle.gm_ast.specs.Names.{is, is_node_type, Known, known_as, known_with}
-use Rattle.gm_source.specs.Statements.{variable_at, variable_or}
+use Rattle.gm_semantics.specs.Statements.{variable_at, variable_or}
 use Rattle.gm_forms.specs.Uses.{Role, Use, use_as, has_role, suits}
 
 -- a variable that iterates, or the graph, has nodes as its values

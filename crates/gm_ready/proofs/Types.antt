@@ -39,7 +39,7 @@ use Rattle.gm_ast.specs.Names.{Env, is, is_node, is_node_type, sort_eq, used, bo
 use Rattle.gm_ast.specs.Kinds.{Part, part_of, narrowed, as_int, as_long, int_of, taken, joint, settled, settled_as, default_of, is_empty, is_number, is_number_type, is_flag, is_flag_type, accepts, fitted}
 use Rattle.gm_ast.specs.Typing as Typing
 use Rattle.gm_ast.specs.Typing.{typed, condition, start_of, ranged, range_rule, domain_of, head_with, named_as, member_part, method_part, query_of, stands_for_node, cast_part, prefix_part, paired, paired_after, with_first, large_of, compares_any, is_arithmetic, is_value, compared_as, operation, operation_by, infix_part, choice_by, choice_part, fold_of, folded, of_numbers_as, of_numbers, of_conditions, reduction_part, reduction_rule, reducer_at, fold_numbers}
-use Rattle.gm_source.specs.Expressions.{reduce_of}
+use Rattle.gm_semantics.specs.Expressions.{reduce_of}
 use Rattle.gm_forms.proofs.Named.{both-true}
 use Rattle.gm_forms.specs.Typing.{type_at, type_if, by_one, is_type, takes, type_in}
 use Rattle.gm_ready.specs.Spelled.{constants_fit}

@@ -8,7 +8,7 @@ use Rattle.gm_words.specs.declared.jobs.Options.{Options}
 use Rattle.gm_listing.specs.declared.outputs.Ending.TheVariants.{Turns}
 use Rattle.gm_listing.specs.Listing.{listing, status_of}
 use Rattle.gm_ast.specs.Program.{Program}
-use Rattle.gm_source.specs.Outcomes.{mean}
+use Rattle.gm_semantics.specs.Outcomes.{mean}
 use Rattle.gm_input.specs.Texts.{Says}
 use Rattle.gm_input.specs.Answers as input
 use Rattle.gm_input.specs.Answers.{format_of}

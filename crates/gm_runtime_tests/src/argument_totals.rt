@@ -6,7 +6,7 @@ ghost use Rattle.gm_totals.specs.Standing.{Within};
 
 use gm_ast::tree::{Key, Stage, TotalKey};
 use gm_base::{NoMemory, Place};
-use gm_source::slots::{Slot, Write};
+use gm_semantics::slots::{Slot, Write};
 use gm_store::Store;
 use gm_totals::{Closed, Contribution, Totals};
 use gm_value::{FaultKind, Reduce, Value};

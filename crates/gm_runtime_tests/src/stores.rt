@@ -4,7 +4,7 @@ ghost use Rattle.std.specs.Prelude.{◌≡◌, IfOk};
 ghost use Rattle.gm_store.specs.Held.{shape_of};
 
 use gm_base::NoMemory;
-use gm_source::slots::{Slot, Write};
+use gm_semantics::slots::{Slot, Write};
 use gm_store::Store;
 use gm_value::Value;
 use std::alloc::Global;

@@ -6,8 +6,8 @@ use Rattle.std.proofs.lemmas.Bool.Decides.{nat_tests}
 use Rattle.std.proofs.lemmas.Grind.{common_steps}
 use Rattle.gm_value.specs.declared.values.Value.{Value}
 use Rattle.gm_value.specs.declared.values.Value.TheVariants.{I32}
-use Rattle.gm_source.specs.declared.slots.Slot.TheVariants.{Scalar, Node}
-use Rattle.gm_source.specs.Stores as S
+use Rattle.gm_semantics.specs.declared.slots.Slot.TheVariants.{Scalar, Node}
+use Rattle.gm_semantics.specs.Stores as S
 use Rattle.gm_store.specs.Held.{Row, Held, uniform_row, value_in, with_value, no_row, scalar_of, node_of, store_of, put, replaced}
 
 -- an element after a write, by whether it is the one that was written

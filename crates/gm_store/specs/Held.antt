@@ -2,10 +2,10 @@
 use Rattle.std.specs.Prelude.{◌≡◌, ◌<◌, ◌≤◌, ℕ, nat_eq, if◌then◌else◌, pos, List, [], ◌∷◌, ◌++◌, All, length, replicate, slice_index_or, slice_set}
 use Rattle.gm_value.specs.declared.values.Value.{Value}
 use Rattle.gm_value.specs.declared.values.Value.TheVariants.{I32}
-use Rattle.gm_source.specs.declared.slots.Slot.{Slot}
-use Rattle.gm_source.specs.declared.slots.Slot.TheVariants.{Scalar, Node}
-use Rattle.gm_source.specs.declared.slots.Write.{Write}
-use Rattle.gm_source.specs.Stores as S
+use Rattle.gm_semantics.specs.declared.slots.Slot.{Slot}
+use Rattle.gm_semantics.specs.declared.slots.Slot.TheVariants.{Scalar, Node}
+use Rattle.gm_semantics.specs.declared.slots.Write.{Write}
+use Rattle.gm_semantics.specs.Stores as S
 
 -- a row: a property's values by node, and the value that it has at what is no node
 pub record Row : Type 0 where

@@ -1,9 +1,9 @@
 -- The laws of writes that are taken back.
 use Rattle.std.specs.Prelude.{◌≡◌, ℕ, List, ◌∷◌, [], ◌++◌, length, take, drop}
 use Rattle.gm_value.specs.declared.values.Value.{Value}
-use Rattle.gm_source.specs.declared.slots.Slot.{Slot}
-use Rattle.gm_source.specs.declared.slots.Write.{Write}
-use Rattle.gm_source.specs.Stores.{Store, read, write}
+use Rattle.gm_semantics.specs.declared.slots.Slot.{Slot}
+use Rattle.gm_semantics.specs.declared.slots.Write.{Write}
+use Rattle.gm_semantics.specs.Stores.{Store, read, write}
 use Rattle.gm_store.specs.Held.{Held, held_at, store_of, shape_of, undone, Reversible, Restored}
 
 -- writing back what a slot held gives the store before the write

@@ -3,7 +3,7 @@
 //! A property is a row of plain numbers of its type, or one value while all nodes have the same. A row can be seen
 //! and replaced as a whole ([`Cells`]). A write is logged while a mark is set, and [`Store`] takes the writes since
 //! the mark back in reverse order, each exactly. A read or a write takes constant time, and taking back is linear
-//! in the writes. What the store holds is the store of `gm_source`.
+//! in the writes. What the store holds is the store of `gm_semantics`.
 #![tactic(auto)]
 
 mod cells;

@@ -6,12 +6,12 @@ use Rattle.std.proofs.lemmas.Bool.{cases_Bool}
 use Rattle.std.proofs.lemmas.List.Elements.{All-nil}
 use Rattle.gm_value.specs.declared.values.Value.{Value}
 use Rattle.gm_value.specs.Bag.{IsIn}
-use Rattle.gm_source.specs.declared.faults.Fault.{Fault}
-use Rattle.gm_source.specs.declared.slots.Slot.{Slot}
-use Rattle.gm_source.specs.declared.slots.Write.{Write}
-use Rattle.gm_source.specs.Stores.{Store, slots_eq, has_slot, read, reads, overlaid}
-use Rattle.gm_source.specs.Faults.{least, somes, fault_of}
-use Rattle.gm_source.specs.Contributions.{Contribution, to_target, target_fault, target_taken, values_or, value_among, settled_store}
+use Rattle.gm_semantics.specs.declared.faults.Fault.{Fault}
+use Rattle.gm_semantics.specs.declared.slots.Slot.{Slot}
+use Rattle.gm_semantics.specs.declared.slots.Write.{Write}
+use Rattle.gm_semantics.specs.Stores.{Store, slots_eq, has_slot, read, reads, overlaid}
+use Rattle.gm_semantics.specs.Faults.{least, somes, fault_of}
+use Rattle.gm_semantics.specs.Contributions.{Contribution, to_target, target_fault, target_taken, values_or, value_among, settled_store}
 use Rattle.gm_store.specs.Held.{Held, HasSlot, held_at, store_of, shape_of}
 use Rattle.gm_totals.specs.declared.pots.Pot.{Pot}
 use Rattle.gm_totals.specs.declared.totals.Totals.{Totals}

@@ -4,7 +4,7 @@ use Rattle.std.specs.Prelude.{nat_eq, nat_lt, if◌then◌else◌, insert}
 use Rattle.std.specs.List.Sorted.{IsPartitionedBy}
 use Rattle.std.proofs.lemmas.Bool.{eqb-true, ne_eqb, ltb-true, lt-ltb}
 use Rattle.gm_value.specs.declared.reductions.Reduce.{Reduce}
-use Rattle.gm_source.specs.Contributions.{Contribution, statement_of}
+use Rattle.gm_semantics.specs.Contributions.{Contribution, statement_of}
 use Rattle.gm_totals.specs.declared.entries.Entry.{Entry}
 use Rattle.gm_totals.specs.Pots.{TotalStands, RankStands, Joins, AreFrom, entry_at, with_own, Gains}
 

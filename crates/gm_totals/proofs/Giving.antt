@@ -3,9 +3,9 @@ use Rattle.std.proofs.Common.{◌≡◌, ℕ, zero, suc, ◌<◌, Bool, true, fa
 use Rattle.std.specs.Prelude.{◌⊎◌, All}
 use Rattle.std.specs.Map.{lookup, keys_of}
 use Rattle.gm_value.specs.Bag.{IsIn}
-use Rattle.gm_source.specs.declared.slots.Slot.{Slot}
-use Rattle.gm_source.specs.Stores.{slots_eq}
-use Rattle.gm_source.specs.Contributions.{Contribution}
+use Rattle.gm_semantics.specs.declared.slots.Slot.{Slot}
+use Rattle.gm_semantics.specs.Stores.{slots_eq}
+use Rattle.gm_semantics.specs.Contributions.{Contribution}
 use Rattle.gm_store.specs.Held.{Shape, HasSlot}
 use Rattle.gm_totals.specs.declared.pots.Pot.{Pot}
 use Rattle.gm_totals.specs.declared.totals.Totals.{Totals}

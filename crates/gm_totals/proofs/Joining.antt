@@ -17,9 +17,9 @@ use Rattle.gm_value.proofs.BagLaws.{SameBag-map, SameBag-last}
 use Rattle.gm_value.proofs.MonoidLaws.{combined_comm, combined_exchange, total-permuted}
 use Rattle.gm_value.proofs.TupleLaws.{best-permuted, kept-parts}
 use Rattle.gm_ast.specs.declared.tree.TotalKey.{TotalKey}
-use Rattle.gm_source.specs.Contributions.{Contribution, statement_of, close_by}
-use Rattle.gm_source.specs.Faults.{least, lower, lesser, total_fault}
-use Rattle.gm_source.proofs.LeastLaws.{least-same, lower_comm}
+use Rattle.gm_semantics.specs.Contributions.{Contribution, statement_of, close_by}
+use Rattle.gm_semantics.specs.Faults.{least, lower, lesser, total_fault}
+use Rattle.gm_semantics.proofs.LeastLaws.{least-same, lower_comm}
 use Rattle.gm_totals.specs.declared.entries.Accumulator.TheVariants.{One, Several}
 use Rattle.gm_totals.specs.declared.entries.Entry.{Entry}
 use Rattle.gm_totals.specs.Pots.{values_of, CountsAs, CountsAlone, KeptAs, Counts, CountsMore, TotalStands, Joins}

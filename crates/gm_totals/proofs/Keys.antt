@@ -3,14 +3,14 @@ use Rattle.std.proofs.Common.{◌≡◌, ℕ, ◌+◌, zero, suc, ◌<◌, ◌�
 use Rattle.std.specs.Prelude.{nat_eq, ◌&&◌}
 use Rattle.std.specs.Map.{lookup, keys_of}
 use Rattle.std.proofs.lemmas.Bool.{cases_Bool, cases_eq, eq-eqb, ne_eqb}
-use Rattle.gm_source.specs.declared.slots.Slot.{Slot}
-use Rattle.gm_source.specs.declared.slots.Slot.TheVariants.{Scalar, Node}
-use Rattle.gm_source.specs.contracts.slots.SlotPartialEq.TheImpl as slots
-use Rattle.gm_source.specs.Stores.{slot_eq, slots_eq}
+use Rattle.gm_semantics.specs.declared.slots.Slot.{Slot}
+use Rattle.gm_semantics.specs.declared.slots.Slot.TheVariants.{Scalar, Node}
+use Rattle.gm_semantics.specs.contracts.slots.SlotPartialEq.TheImpl as slots
+use Rattle.gm_semantics.specs.Stores.{slot_eq, slots_eq}
 use Rattle.gm_totals.specs.Given.{is_several}
 use Rattle.gm_totals.specs.Places.{head_of}
 use Rattle.gm_totals.proofs.Tuples.{drop-here, drop-past}
-use Rattle.gm_source.proofs.ContributionLaws.{slot_eq-true}
+use Rattle.gm_semantics.proofs.ContributionLaws.{slot_eq-true}
 
 -- the code's test of slots is the definition's
 pub eq-slot : (a b : Slot) → slots.eq-value.it a b ≡ slot_eq a b

@@ -3,9 +3,9 @@ use Rattle.std.proofs.Common.{◌≡◌, Bool, true, false, cond, List, [], ◌�
 use Rattle.std.proofs.lemmas.Bool.{cases_Bool}
 use Rattle.gm_value.specs.Bag.{IsIn, SameBag, same_cons, same_trans}
 use Rattle.gm_value.proofs.BagLaws.{SameBag-refl, SameBag-sym, SameBag-middle, SameBag-last}
-use Rattle.gm_source.specs.declared.faults.Fault.{Fault}
-use Rattle.gm_source.specs.Faults.{rank_of, comes_before, lower, lesser, least, somes}
-use Rattle.gm_source.proofs.LeastLaws.{lower-second, lower-first, lesser-exchange, least-same}
+use Rattle.gm_semantics.specs.declared.faults.Fault.{Fault}
+use Rattle.gm_semantics.specs.Faults.{rank_of, comes_before, lower, lesser, least, somes}
+use Rattle.gm_semantics.proofs.LeastLaws.{lower-second, lower-first, lesser-exchange, least-same}
 
 lower_itself : (f : Fault) → lower f f ≡ f
 lower_itself f = by (comes_before (rank_of f) (rank_of f))

@@ -4,9 +4,9 @@ use Rattle.std.specs.Prelude.{◌||◌}
 use Rattle.std.proofs.lemmas.Bool.{cases_Bool}
 use Rattle.gm_value.specs.declared.values.Value.{Value}
 use Rattle.gm_value.specs.Bag.{IsIn}
-use Rattle.gm_source.specs.declared.slots.Slot.{Slot}
-use Rattle.gm_source.specs.Stores.{Store, slots_eq, has_slot, read, reads}
-use Rattle.gm_source.specs.Contributions.{Contribution, to_target, target_of, target_taken, taken_onto, values_or, value_among, value_after}
+use Rattle.gm_semantics.specs.declared.slots.Slot.{Slot}
+use Rattle.gm_semantics.specs.Stores.{Store, slots_eq, has_slot, read, reads}
+use Rattle.gm_semantics.specs.Contributions.{Contribution, to_target, target_of, target_taken, taken_onto, values_or, value_among, value_after}
 use Rattle.gm_totals.specs.Standing.{first_with}
 use Rattle.gm_totals.proofs.Keys.{slot_eq-itself, slots_eq-same}
 

@@ -3,9 +3,9 @@ use Rattle.std.proofs.Common.{◌≡◌, ℕ, ◌+◌, ◌<◌, ◌≤◌, true,
 use Rattle.std.specs.Map.{keys_of}
 use Rattle.std.proofs.lemmas.Bool.{cases_Bool, cases_lt}
 use Rattle.std.proofs.lemmas.List.{get_or_append_left, get_or-map, length-map}
-use Rattle.gm_source.specs.declared.slots.Slot.{Slot}
-use Rattle.gm_source.specs.Stores.{slot_eq, slots_eq}
-use Rattle.gm_source.proofs.ContributionLaws.{slot_eq-true}
+use Rattle.gm_semantics.specs.declared.slots.Slot.{Slot}
+use Rattle.gm_semantics.specs.Stores.{slot_eq, slots_eq}
+use Rattle.gm_semantics.proofs.ContributionLaws.{slot_eq-true}
 use Rattle.gm_totals.specs.declared.pots.Pot.{Pot}
 use Rattle.gm_totals.specs.declared.slots.Slots.{Slots}
 use Rattle.gm_totals.specs.declared.totals.Totals.{Totals}

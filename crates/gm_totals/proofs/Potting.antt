@@ -4,9 +4,9 @@ use Rattle.std.specs.Prelude.{nat_eq, if◌then◌else◌}
 use Rattle.std.proofs.lemmas.List.Elements.{filter-append}
 use Rattle.gm_value.specs.declared.reductions.Reduce.{Reduce}
 use Rattle.gm_value.specs.Taking.{of_rank}
-use Rattle.gm_source.specs.declared.slots.Slot.{Slot}
-use Rattle.gm_source.specs.Stores.{slots_eq}
-use Rattle.gm_source.specs.Contributions.{Contribution, statement_of, to_target}
+use Rattle.gm_semantics.specs.declared.slots.Slot.{Slot}
+use Rattle.gm_semantics.specs.Stores.{slots_eq}
+use Rattle.gm_semantics.specs.Contributions.{Contribution, statement_of, to_target}
 use Rattle.gm_totals.specs.declared.pots.Pot.{Pot}
 use Rattle.gm_totals.specs.Pots.{RankStands, Joins, AreFrom, entry_at, with_own, Gains, entries_of, BeginBy, PotStands, TargetStands, PotGains}
 use Rattle.gm_totals.specs.Given.{is_several}

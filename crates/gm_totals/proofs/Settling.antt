@@ -11,13 +11,13 @@ use Rattle.gm_value.specs.Bag.{IsIn}
 use Rattle.gm_value.specs.Numbers.{type_of}
 use Rattle.gm_value.specs.Taking.{of_rank, then_take, at_rank, taken_bag, taken}
 use Rattle.gm_value.proofs.TupleLaws.{slots-typed}
-use Rattle.gm_source.specs.declared.faults.Fault.{Fault}
-use Rattle.gm_source.specs.declared.slots.Slot.{Slot}
-use Rattle.gm_source.specs.declared.slots.Slot.TheVariants.{Scalar, Node}
-use Rattle.gm_source.specs.declared.slots.Write.{Write}
-use Rattle.gm_source.specs.Stores.{Store, slot_eq, slots_eq, has_slot, read, reads, write, overlaid}
-use Rattle.gm_source.specs.Faults.{least, somes}
-use Rattle.gm_source.specs.Contributions.{Contribution, statement_of, statement_bound, close_by, to_target, taken_onto, values_or, fault_in, value_among, value_after, target_taken, target_fault, settled_store, total_faults}
+use Rattle.gm_semantics.specs.declared.faults.Fault.{Fault}
+use Rattle.gm_semantics.specs.declared.slots.Slot.{Slot}
+use Rattle.gm_semantics.specs.declared.slots.Slot.TheVariants.{Scalar, Node}
+use Rattle.gm_semantics.specs.declared.slots.Write.{Write}
+use Rattle.gm_semantics.specs.Stores.{Store, slot_eq, slots_eq, has_slot, read, reads, write, overlaid}
+use Rattle.gm_semantics.specs.Faults.{least, somes}
+use Rattle.gm_semantics.specs.Contributions.{Contribution, statement_of, statement_bound, close_by, to_target, taken_onto, values_or, fault_in, value_among, value_after, target_taken, target_fault, settled_store, total_faults}
 use Rattle.gm_store.specs.Held.{Held, Shape, HasSlot, held_at, store_of}
 use Rattle.gm_totals.specs.Standing.{Sets}
 use Rattle.gm_totals.proofs.Keys.{slot_eq-sym, slots_eq-itself, slots_eq-same}

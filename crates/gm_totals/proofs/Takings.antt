@@ -7,9 +7,9 @@ use Rattle.gm_value.specs.declared.values.Value.{Value}
 use Rattle.gm_value.specs.declared.reductions.Reduce.{Reduce}
 use Rattle.gm_value.specs.Taking.{of_rank, then_take, at_rank, taken_bag, taken}
 use Rattle.gm_value.proofs.TakingLaws.{then_take-ok}
-use Rattle.gm_source.specs.declared.faults.Fault.{Fault}
-use Rattle.gm_source.specs.Contributions.{Contribution, statement_of, close_by, statement_bound, taken_onto, values_or, fault_in}
-use Rattle.gm_source.specs.Faults.{least, total_fault}
+use Rattle.gm_semantics.specs.declared.faults.Fault.{Fault}
+use Rattle.gm_semantics.specs.Contributions.{Contribution, statement_of, close_by, statement_bound, taken_onto, values_or, fault_in}
+use Rattle.gm_semantics.specs.Faults.{least, total_fault}
 use Rattle.gm_totals.specs.declared.entries.Entry.{Entry}
 use Rattle.gm_totals.specs.declared.pots.Pot.{Pot}
 use Rattle.gm_totals.specs.Pots.{TotalStands, RankStands, AreFrom, entry_at, entries_of, BeginBy, PotStands, IsTaking}

@@ -3,8 +3,8 @@ use Rattle.std.specs.Prelude.{Bool, true, false, List, [], ◌∷◌}
 use Rattle.gm_value.specs.declared.values.Value.{Value}
 use Rattle.gm_value.specs.declared.reductions.Reduce.{Reduce}
 use Rattle.gm_ast.specs.declared.tree.TotalKey.{TotalKey}
-use Rattle.gm_source.specs.declared.slots.Slot.{Slot}
-use Rattle.gm_source.specs.Contributions as S
+use Rattle.gm_semantics.specs.declared.slots.Slot.{Slot}
+use Rattle.gm_semantics.specs.Contributions as S
 use Rattle.gm_totals.specs.declared.contributions.Contribution.{Contribution}
 use Rattle.gm_totals.specs.declared.slots.Slots.{Slots}
 use Rattle.gm_totals.specs.declared.slots.Slots.TheVariants.{One, Several}

@@ -1,8 +1,8 @@
 -- Where the pots of slots stand: each slot has a cell, and the cells of a row are places.
 use Rattle.std.specs.Prelude.{◌≡◌, ℕ, suc, List, [], ◌∷◌, map, if◌then◌else◌, slice_index_or}
-use Rattle.gm_source.specs.declared.slots.Slot.{Slot}
-use Rattle.gm_source.specs.declared.slots.Slot.TheVariants.{Scalar, Node}
-use Rattle.gm_source.specs.Stores.{slot_eq}
+use Rattle.gm_semantics.specs.declared.slots.Slot.{Slot}
+use Rattle.gm_semantics.specs.declared.slots.Slot.TheVariants.{Scalar, Node}
+use Rattle.gm_semantics.specs.Stores.{slot_eq}
 use Rattle.gm_totals.specs.declared.places.Places.{Places}
 
 -- the row of a slot: the first is that of scalars, and each property has the next one

@@ -10,9 +10,9 @@ use Rattle.gm_value.specs.Reductions.{combined, total}
 use Rattle.gm_value.specs.Taking.{of_rank}
 use Rattle.gm_value.specs.Totals.{Shows}
 use Rattle.gm_value.specs.Tuples.{first_or, kept, best}
-use Rattle.gm_source.specs.declared.faults.Fault.{Fault}
-use Rattle.gm_source.specs.Contributions.{Contribution, statement_of, taken_onto, values_or, fault_in}
-use Rattle.gm_source.specs.Faults.{least, total_fault, fault_of}
+use Rattle.gm_semantics.specs.declared.faults.Fault.{Fault}
+use Rattle.gm_semantics.specs.Contributions.{Contribution, statement_of, taken_onto, values_or, fault_in}
+use Rattle.gm_semantics.specs.Faults.{least, total_fault, fault_of}
 use Rattle.gm_totals.specs.declared.entries.Accumulator.{Accumulator}
 use Rattle.gm_totals.specs.declared.entries.Accumulator.TheVariants.{One, Several}
 use Rattle.gm_totals.specs.declared.entries.Entry.{Entry}

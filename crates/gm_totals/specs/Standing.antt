@@ -2,12 +2,12 @@
 use Rattle.std.specs.Prelude.{◌≡◌, ◌<◌, ℕ, List, [], ◌∷◌, map, Option, Some, None, All, if◌then◌else◌, length, slice_index_or}
 use Rattle.std.specs.Map.{lookup, keys_of}
 use Rattle.gm_value.specs.declared.values.Value.{Value}
-use Rattle.gm_source.specs.declared.faults.Fault.{Fault}
-use Rattle.gm_source.specs.declared.slots.Slot.{Slot}
-use Rattle.gm_source.specs.declared.slots.Write.{Write}
-use Rattle.gm_source.specs.Stores.{Store, slots_eq, has_slot, read, reads, overlaid}
-use Rattle.gm_source.specs.Faults.{lesser, least}
-use Rattle.gm_source.specs.Contributions.{Contribution, to_target, target_taken, values_or, value_among, target_fault, settled_store, total_faults}
+use Rattle.gm_semantics.specs.declared.faults.Fault.{Fault}
+use Rattle.gm_semantics.specs.declared.slots.Slot.{Slot}
+use Rattle.gm_semantics.specs.declared.slots.Write.{Write}
+use Rattle.gm_semantics.specs.Stores.{Store, slots_eq, has_slot, read, reads, overlaid}
+use Rattle.gm_semantics.specs.Faults.{lesser, least}
+use Rattle.gm_semantics.specs.Contributions.{Contribution, to_target, target_taken, values_or, value_among, target_fault, settled_store, total_faults}
 use Rattle.gm_store.specs.Held.{Held, Shape, HasSlot, store_of}
 use Rattle.gm_totals.specs.declared.pots.Pot.{Pot}
 use Rattle.gm_totals.specs.declared.totals.Totals.{Totals}

@@ -1,7 +1,7 @@
 //! What a reduction assignment to one target gives.
 
 use gm_ast::tree::TotalKey;
-use gm_source::slots::Slot;
+use gm_semantics::slots::Slot;
 use gm_value::{Reduce, Value};
 
 /// What a reduction assignment gives to its one slot when a loop ends, with the key of the total to which it belongs.

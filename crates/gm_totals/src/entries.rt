@@ -7,8 +7,8 @@ ghost use Rattle.gm_value.specs.Numbers.{number_of};
 ghost use Rattle.gm_value.specs.Totals.{ShowsMore};
 ghost use Rattle.gm_value.specs.Tuples.{close_slots, values_at, first_or, kept};
 ghost use Rattle.gm_value.specs.Reductions.{close};
-ghost use Rattle.gm_source.specs.declared.slots.Slot.{Slot};
-ghost use Rattle.gm_source.specs.Contributions.{Contribution, close_by};
+ghost use Rattle.gm_semantics.specs.declared.slots.Slot.{Slot};
+ghost use Rattle.gm_semantics.specs.Contributions.{Contribution, close_by};
 ghost use Rattle.gm_totals.specs.Given.{given};
 ghost use Rattle.gm_totals.specs.Pots.{CountsAlone, Counts, CountsMore, TotalStands, Joins, values_of, before, listed, items_in};
 

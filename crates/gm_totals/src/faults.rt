@@ -2,11 +2,11 @@
 
 ghost use Rattle.std.specs.Prelude.{◌≡◌, nat_eq, nat_lt, ◌&&◌, ◌||◌, Option};
 ghost use Rattle.gm_ast.specs.Keys.{stage_rank};
-ghost use Rattle.gm_source.specs.Faults.{rank_of, comes_before, lower, lesser, total_fault};
+ghost use Rattle.gm_semantics.specs.Faults.{rank_of, comes_before, lower, lesser, total_fault};
 ghost use Rattle.gm_value.specs.Faults.{fault_number};
 
 use gm_ast::tree::{Stage, TotalKey};
-use gm_source::faults::Fault;
+use gm_semantics::faults::Fault;
 use gm_value::FaultKind;
 
 // A stage's number in the order of faults of one statement.

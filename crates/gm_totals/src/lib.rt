@@ -15,7 +15,7 @@
 //! slot, which checked programs never have in one loop); closing goes once over all totals. Of two targets that have
 //! the same slot the slot belongs to the one that was given first: it is written last.
 //!
-//! They meet the definition of taking contributions in `gm_source`: a total stands exactly for the bag of what was
+//! They meet the definition of taking contributions in `gm_semantics`: a total stands exactly for the bag of what was
 //! given (`specs/Standing.antt`).
 #![tactic(auto)]
 

@@ -1,11 +1,11 @@
 //! Where the totals of slots stand.
 
 ghost use Rattle.std.specs.Prelude.{◌≡◌, ◌<◌, ℕ, if◌then◌else◌, nat_eq, length, OnOk};
-ghost use Rattle.gm_source.specs.declared.slots.Slot.{Slot};
+ghost use Rattle.gm_semantics.specs.declared.slots.Slot.{Slot};
 ghost use Rattle.gm_totals.specs.Places.{place_in, place_at, row_of, column_of, HasOneMore};
 
 use gm_base::NoMemory;
-use gm_source::slots::Slot;
+use gm_semantics::slots::Slot;
 use std::alloc::Global;
 
 // A place for each slot, 0 where none was kept: in one row those of scalars, and in one row for each property those of

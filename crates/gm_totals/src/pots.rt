@@ -2,8 +2,8 @@
 
 ghost use Rattle.std.specs.Prelude.{◌≡◌, ◌≢◌, ◌≤◌, ◌∷◌, [], false, true, ℕ, List, Some, None, IfOk, OnOk, length};
 ghost use Rattle.gm_value.specs.declared.reductions.Reduce.{Reduce as By};
-ghost use Rattle.gm_source.specs.declared.slots.Slot.{Slot};
-ghost use Rattle.gm_source.specs.Contributions.{Contribution};
+ghost use Rattle.gm_semantics.specs.declared.slots.Slot.{Slot};
+ghost use Rattle.gm_semantics.specs.Contributions.{Contribution};
 ghost use Rattle.gm_totals.specs.Given.{given};
 ghost use Rattle.gm_totals.specs.Pots.{AreFrom, IsPlace, Gains, PotGains, PotStands, IsTaking, answer_of_one, answer_of_several};
 
@@ -11,7 +11,7 @@ use crate::entries::Entry;
 use crate::faults::total_fault;
 use gm_ast::tree::TotalKey;
 use gm_base::NoMemory;
-use gm_source::faults::Fault;
+use gm_semantics::faults::Fault;
 use gm_value::{Reduce, Value};
 use std::alloc::Global;
 use std::mem::replace;

@@ -1,12 +1,12 @@
 //! The slots of one target.
 
 ghost use Rattle.std.specs.Prelude.{◌≡◌, IfOk, length};
-ghost use Rattle.gm_source.specs.Stores.{slot_eq, slots_eq};
+ghost use Rattle.gm_semantics.specs.Stores.{slot_eq, slots_eq};
 ghost use Rattle.gm_totals.specs.Places.{head_of};
 ghost use Rattle.gm_totals.specs.Given.{is_several, slots_in};
 
 use gm_base::NoMemory;
-use gm_source::slots::Slot;
+use gm_semantics::slots::Slot;
 use std::alloc::Global;
 use std::slice::from_ref;
 

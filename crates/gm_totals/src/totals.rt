@@ -1,8 +1,8 @@
 //! The running totals of all targets.
 
 ghost use Rattle.std.specs.Prelude.{◌≡◌, ◌↔◌, ◌∷◌, ◌++◌, [], ◌<◌, List, All, None, IsTrue, IfOk, IfSome, OnOk, length, map, slice_index_or};
-ghost use Rattle.gm_source.specs.Contributions.{Contribution as Given};
-ghost use Rattle.gm_source.specs.declared.slots.Slot.{Slot as At};
+ghost use Rattle.gm_semantics.specs.Contributions.{Contribution as Given};
+ghost use Rattle.gm_semantics.specs.declared.slots.Slot.{Slot as At};
 ghost use Rattle.gm_store.specs.Held.{Shape, HasSlot, held_at, shape_of};
 ghost use Rattle.gm_totals.specs.Given.{given, single, slots_in, is_several};
 ghost use Rattle.gm_totals.specs.Standing.{pot_at, targets_of, ArePlaced, IsPotOf, StandsFor, Within, ClosesTarget, Sets, WritesWithin, Settles};
@@ -14,8 +14,8 @@ use crate::pots::Pot;
 use crate::slots::{Slots, are_same, are_several, head_of, is_same};
 use gm_ast::tree::TotalKey;
 use gm_base::NoMemory;
-use gm_source::faults::Fault;
-use gm_source::slots::{Slot, Write};
+use gm_semantics::faults::Fault;
+use gm_semantics::slots::{Slot, Write};
 use gm_store::Store;
 use gm_value::{Reduce, Value};
 use std::alloc::Global;

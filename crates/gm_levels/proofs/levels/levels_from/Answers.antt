@@ -1,7 +1,7 @@
 use Rattle.std.proofs.Common.{◌≡◌, ◌∙◌, ℕ, map, ap, None}
 use Rattle.std.specs.Prelude.{slice_index_or}
 use Rattle.std.proofs.lemmas.Result.{IfOk-weaker}
-use Rattle.gm_source.specs.Levels.{level_of, levels}
+use Rattle.gm_semantics.specs.Levels.{level_of, levels}
 use Rattle.gm_levels.specs.Views.{NodeLevels, level_in}
 use Rattle.gm_levels.specs.Groups.{nodes_by_level}
 use Rattle.gm_levels.proofs.Listing.{get_level, lists-are-levels}

@@ -1,7 +1,7 @@
 use Rattle.std.proofs.Common.{◌≡◌, drop, map}
 use Rattle.gm_ast.specs.Program.{sequence}
 use Rattle.gm_ast.specs.Tree.{stmt_of}
-use Rattle.gm_source.specs.Loops.{pushes}
+use Rattle.gm_semantics.specs.Loops.{pushes}
 use Rattle.gm_loops.proofs.around.+pushing.Given as goal
 
 -- what is left of the block decides

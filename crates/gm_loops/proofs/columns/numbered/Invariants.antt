@@ -1,5 +1,5 @@
 use Rattle.std.proofs.Common.{◌≡◌}
-use Rattle.gm_source.specs.Levels.{numbers_from}
+use Rattle.gm_semantics.specs.Levels.{numbers_from}
 use Rattle.gm_loops.proofs.columns.numbered.Given as goal
 
 -- the nodes so far

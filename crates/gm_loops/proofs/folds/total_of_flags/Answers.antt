@@ -4,8 +4,8 @@ use Rattle.gm_value.specs.declared.values.VType.TheVariants as types
 use Rattle.gm_value.specs.declared.values.Value.TheVariants.{Flag}
 use Rattle.gm_value.specs.Totals.{IsTotal}
 use Rattle.gm_ast.specs.declared.surface.ReductionWord.{ReductionWord}
-use Rattle.gm_source.specs.Expressions.{members_of, reduce_of}
-use Rattle.gm_source.specs.Faults.{joined}
+use Rattle.gm_semantics.specs.Expressions.{members_of, reduce_of}
+use Rattle.gm_semantics.specs.Faults.{joined}
 use Rattle.gm_loops.proofs.Folding.{all-is, exist-is}
 use Rattle.gm_loops.proofs.folds.total_of_flags.Goals as goal
 

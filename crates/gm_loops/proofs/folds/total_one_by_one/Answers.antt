@@ -2,8 +2,8 @@ use Rattle.std.proofs.Common.{◌≡◌, ◌∙◌, ◌<◌, ◌-◌, ℕ, suc, 
 use Rattle.std.proofs.Math.Seq.{drop-cons}
 use Rattle.gm_value.specs.declared.values.Value.{Value}
 use Rattle.gm_value.specs.Totals.{IsTotal}
-use Rattle.gm_source.specs.Expressions.{members_of, reduce_of}
-use Rattle.gm_source.specs.Faults.{joined}
+use Rattle.gm_semantics.specs.Expressions.{members_of, reduce_of}
+use Rattle.gm_semantics.specs.Faults.{joined}
 use Rattle.gm_store.specs.Cells.{values_of}
 use Rattle.gm_loops.proofs.Elements.{one-member}
 use Rattle.gm_loops.proofs.Folding.{no-members}

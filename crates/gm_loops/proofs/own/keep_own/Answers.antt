@@ -3,8 +3,8 @@ use Rattle.std.proofs.lemmas.List.{append-nil, take_all, take_more}
 use Rattle.std.specs.Prelude.{All}
 use Rattle.gm_value.specs.declared.values.Value.{Value}
 use Rattle.gm_value.specs.declared.values.Value.TheVariants.{I32}
-use Rattle.gm_source.specs.declared.slots.Slot.TheVariants.{Scalar}
-use Rattle.gm_source.specs.declared.slots.Write.{Write}
+use Rattle.gm_semantics.specs.declared.slots.Slot.TheVariants.{Scalar}
+use Rattle.gm_semantics.specs.declared.slots.Write.{Write}
 use Rattle.gm_store.specs.Held.{HasSlot, held_at, shape_of}
 use Rattle.gm_loops.specs.Own.{is_at, kept}
 use Rattle.gm_loops.proofs.Keeping.{all-push, kept-more, kept-same}

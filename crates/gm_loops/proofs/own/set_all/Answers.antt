@@ -1,6 +1,6 @@
 use Rattle.std.proofs.Common.{List, take, sym, subst}
 use Rattle.std.proofs.lemmas.List.{take_all, take_more}
-use Rattle.gm_source.specs.declared.slots.Write.{Write}
+use Rattle.gm_semantics.specs.declared.slots.Write.{Write}
 use Rattle.gm_loops.specs.Own.{Sets}
 use Rattle.gm_loops.proofs.Keeping.{sets-none, sets-more}
 use Rattle.gm_loops.proofs.own.set_all.Goals as goal

@@ -1,6 +1,6 @@
 use Rattle.std.proofs.Common.{List, take, sym, subst}
 use Rattle.std.proofs.lemmas.List.{take_all, take_more}
-use Rattle.gm_source.specs.declared.slots.Write.{Write}
+use Rattle.gm_semantics.specs.declared.slots.Write.{Write}
 use Rattle.gm_loops.specs.Turns.{Overlays}
 use Rattle.gm_loops.proofs.Turning.{overlays-none, overlays-more}
 use Rattle.gm_loops.proofs.turns.write_all.Goals as goal

@@ -3,9 +3,9 @@ use Rattle.gm_graph.specs.declared.outcomes.Outcome.{Outcome}
 use Rattle.gm_ast.specs.declared.tree.Tree.{Tree}
 use Rattle.gm_ast.specs.Program.{Program}
 use Rattle.gm_ast.specs.Tree.{program_of}
-use Rattle.gm_source.specs.Outcomes.{mean, outcome_of}
-use Rattle.gm_source.specs.Statements as S
-use Rattle.gm_source.specs.Statements.{State}
+use Rattle.gm_semantics.specs.Outcomes.{mean, outcome_of}
+use Rattle.gm_semantics.specs.Statements as S
+use Rattle.gm_semantics.specs.Statements.{State}
 use Rattle.gm_loops.specs.declared.sights.Setting.{Setting}
 use Rattle.gm_meaning.specs.declared.phases.Phase.{Phase}
 use Rattle.gm_meaning.specs.Phases.{course_of, state_of}

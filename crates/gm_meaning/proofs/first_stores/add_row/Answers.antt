@@ -3,7 +3,7 @@ use Rattle.gm_value.specs.declared.values.Value.TheVariants.{I32}
 use Rattle.gm_value.specs.Numbers.{zero_of}
 use Rattle.gm_ast.specs.declared.tree.Variable.{Variable}
 use Rattle.gm_ast.specs.Tree.{program_of}
-use Rattle.gm_source.specs.Stores.{Store}
+use Rattle.gm_semantics.specs.Stores.{Store}
 use Rattle.gm_store.specs.Held.{node_of}
 use Rattle.gm_meaning.proofs.Inputs.{row-first}
 use Rattle.gm_meaning.proofs.first_stores.add_row.Goals as goal

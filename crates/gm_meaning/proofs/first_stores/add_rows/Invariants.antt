@@ -1,7 +1,7 @@
 use Rattle.std.proofs.Common.{◌≡◌, ◌<◌, ℕ}
 use Rattle.gm_ast.specs.Tree.{program_of}
 use Rattle.gm_ast.specs.declared.tree.Sort.TheVariants as Sorts
-use Rattle.gm_source.specs.Outcomes.{count_before, column_value}
+use Rattle.gm_semantics.specs.Outcomes.{count_before, column_value}
 use Rattle.gm_store.specs.Held.{node_of, shape_of}
 use Rattle.gm_meaning.proofs.first_stores.add_rows.Given as goal
 

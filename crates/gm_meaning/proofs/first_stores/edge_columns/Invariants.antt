@@ -1,7 +1,7 @@
 use Rattle.std.proofs.Common.{◌≡◌}
 use Rattle.gm_ast.specs.Tree.{program_of}
 use Rattle.gm_ast.specs.declared.tree.Sort.TheVariants as Sorts
-use Rattle.gm_source.specs.Outcomes.{count_before}
+use Rattle.gm_semantics.specs.Outcomes.{count_before}
 use Rattle.gm_meaning.specs.Inputs.{first_columns}
 use Rattle.gm_meaning.proofs.first_stores.edge_columns.Given as goal
 

@@ -1,7 +1,7 @@
 use Rattle.std.proofs.Common.{◌∙◌, ap, pos, []}
 use Rattle.std.specs.Prelude.{slice_index_or}
 use Rattle.gm_value.specs.declared.values.Value.TheVariants.{I32}
-use Rattle.gm_source.specs.Stores.{Store}
+use Rattle.gm_semantics.specs.Stores.{Store}
 use Rattle.gm_store.specs.Held.{node_of}
 use Rattle.gm_meaning.proofs.Rows.{cell-got, fill-begins, fill-next}
 use Rattle.gm_meaning.proofs.first_stores.fill_from.Goals as goal

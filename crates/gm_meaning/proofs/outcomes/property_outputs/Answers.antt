@@ -3,8 +3,8 @@ use Rattle.std.specs.Prelude.{filter}
 use Rattle.gm_value.specs.declared.values.Value.{Value}
 use Rattle.gm_graph.specs.declared.columns.Values.{Values}
 use Rattle.gm_ast.specs.declared.tree.Sort.TheVariants as Sorts
-use Rattle.gm_source.specs.Levels.{numbers_from, nodes}
-use Rattle.gm_source.specs.Outcomes.{is_of}
+use Rattle.gm_semantics.specs.Levels.{numbers_from, nodes}
+use Rattle.gm_semantics.specs.Outcomes.{is_of}
 use Rattle.gm_store.specs.Held.{node_of}
 use Rattle.gm_meaning.specs.Ends.{values_below}
 use Rattle.gm_meaning.proofs.Numbers.{listed-next, listed-left}

@@ -2,8 +2,8 @@ use Rattle.std.proofs.Common.{◌≡◌, ◌+◌, ◌-◌, ◌++◌, map}
 use Rattle.std.specs.Prelude.{filter}
 use Rattle.gm_ast.specs.Tree.{program_of}
 use Rattle.gm_ast.specs.declared.tree.Sort.TheVariants as Sorts
-use Rattle.gm_source.specs.Levels.{numbers_from, nodes}
-use Rattle.gm_source.specs.Outcomes.{is_of, outputs_of}
+use Rattle.gm_semantics.specs.Levels.{numbers_from, nodes}
+use Rattle.gm_semantics.specs.Outcomes.{is_of, outputs_of}
 use Rattle.gm_store.specs.Held.{node_of}
 use Rattle.gm_meaning.proofs.outcomes.property_outputs.Given as goal
 

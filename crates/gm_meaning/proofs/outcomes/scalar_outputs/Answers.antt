@@ -2,8 +2,8 @@ use Rattle.std.proofs.Common.{◌∙◌, ◌+◌, ◌-◌, ◌++◌, ◌∷◌, 
 use Rattle.std.specs.Prelude.{filter}
 use Rattle.gm_value.specs.declared.values.Value.{Value}
 use Rattle.gm_ast.specs.declared.tree.Sort.TheVariants as Sorts
-use Rattle.gm_source.specs.Levels.{numbers_from}
-use Rattle.gm_source.specs.Outcomes.{is_of}
+use Rattle.gm_semantics.specs.Levels.{numbers_from}
+use Rattle.gm_semantics.specs.Outcomes.{is_of}
 use Rattle.gm_store.specs.Held.{scalar_of}
 use Rattle.gm_meaning.proofs.Numbers.{listed-next, listed-left}
 use Rattle.gm_meaning.proofs.outcomes.scalar_outputs.Goals as goal

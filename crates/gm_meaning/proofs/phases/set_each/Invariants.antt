@@ -1,6 +1,6 @@
 use Rattle.std.proofs.Common.{◌≡◌, ℕ, take}
 use Rattle.gm_value.specs.declared.values.Value.{Value}
-use Rattle.gm_source.specs.Stores.{write_all}
+use Rattle.gm_semantics.specs.Stores.{write_all}
 use Rattle.gm_store.specs.Held.{shape_of, store_of}
 use Rattle.gm_meaning.proofs.phases.set_each.Given as goal
 

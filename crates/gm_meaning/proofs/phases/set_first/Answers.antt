@@ -1,9 +1,9 @@
 use Rattle.std.proofs.Common.{◌∙◌, ap, sym}
 use Rattle.gm_value.specs.declared.values.Value.{Value}
 use Rattle.gm_ast.specs.declared.tree.Sort.{Sort}
-use Rattle.gm_source.specs.declared.slots.Slot.TheVariants.{Scalar}
-use Rattle.gm_source.specs.Stores.{write, fill}
-use Rattle.gm_source.specs.Statements.{declared}
+use Rattle.gm_semantics.specs.declared.slots.Slot.TheVariants.{Scalar}
+use Rattle.gm_semantics.specs.Stores.{write, fill}
+use Rattle.gm_semantics.specs.Statements.{declared}
 use Rattle.gm_store.specs.Held.{store_of}
 use Rattle.gm_meaning.proofs.Going.{declared-other}
 use Rattle.gm_meaning.proofs.phases.set_first.Goals as goal

@@ -1,7 +1,7 @@
 -- The store of the tests has the slots of the totals and of what they close to.
 use Rattle.std.proofs.Common.{◌∙◌, sym, subst, List}
 use Rattle.std.specs.Prelude.{All}
-use Rattle.gm_source.specs.declared.slots.Write.{Write}
+use Rattle.gm_semantics.specs.declared.slots.Write.{Write}
 use Rattle.gm_store.specs.Held.{Shape, HasSlot, shape_of}
 use Rattle.gm_totals.specs.Standing.{Within}
 use Rattle.gm_runtime_tests.proofs.argument_totals.held_after.Goals as goal

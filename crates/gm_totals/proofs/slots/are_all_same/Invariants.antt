@@ -1,5 +1,5 @@
 use Rattle.std.proofs.Common.{◌≡◌, drop}
-use Rattle.gm_source.specs.Stores.{slots_eq}
+use Rattle.gm_semantics.specs.Stores.{slots_eq}
 use Rattle.gm_totals.proofs.slots.are_all_same.Given as goal
 
 -- those so far are the same

@@ -1,8 +1,8 @@
 -- A target of one slot is closed.
 use Rattle.std.proofs.Common.{[], ◌∷◌, List, Ok, Err, Result, ap, refl, sym, subst}
 use Rattle.gm_value.specs.declared.values.Value.{Value}
-use Rattle.gm_source.specs.declared.faults.Fault.{Fault}
-use Rattle.gm_source.specs.declared.slots.Write.{Write}
+use Rattle.gm_semantics.specs.declared.faults.Fault.{Fault}
+use Rattle.gm_semantics.specs.declared.slots.Write.{Write}
 use Rattle.gm_totals.specs.declared.totals.Closed.{Closed}
 use Rattle.gm_totals.specs.Pots.{IsTaking, answer_of_one}
 use Rattle.gm_totals.specs.Standing.{Sets}

@@ -4,7 +4,7 @@ use Rattle.std.specs.declared.alloc.Global.{Global}
 use Rattle.std.specs.declared.vec.Vec.{Vec}
 use Rattle.std.proofs.lemmas.List.{length-map}
 use Rattle.gm_value.specs.declared.values.Value.{Value}
-use Rattle.gm_source.specs.declared.faults.Fault.{Fault}
+use Rattle.gm_semantics.specs.declared.faults.Fault.{Fault}
 use Rattle.gm_store.specs.Held.{held_at, shape_of}
 use Rattle.gm_totals.specs.declared.totals.Closed.{Closed}
 use Rattle.gm_totals.specs.Pots.{IsTaking, PotStands, answer_of_several}

@@ -1,6 +1,6 @@
 -- A target is closed.
 use Rattle.std.proofs.Common.{◌≡◌, ◌∙◌, ◌∷◌, [], List, ap, sym, subst}
-use Rattle.gm_source.specs.declared.slots.Slot.{Slot}
+use Rattle.gm_semantics.specs.declared.slots.Slot.{Slot}
 use Rattle.gm_totals.specs.Places.{head_of}
 use Rattle.gm_totals.specs.Standing.{ClosesTarget}
 use Rattle.gm_totals.proofs.Keys.{alone-head}

@@ -1,6 +1,6 @@
 -- Values are written to slots, the last first.
 use Rattle.std.proofs.Common.{◌≡◌, ◌+◌, ◌-◌, ◌<◌, drop, List, sym, subst, arith, refl}
-use Rattle.gm_source.specs.declared.slots.Write.{Write}
+use Rattle.gm_semantics.specs.declared.slots.Write.{Write}
 use Rattle.gm_totals.specs.Standing.{Sets}
 use Rattle.gm_totals.proofs.Settling.{Written, written-none, written-more}
 use Rattle.gm_totals.proofs.totals.write_each.Goals as goal

@@ -1,5 +1,5 @@
 use Rattle.std.proofs.Common.{◌≡◌, ◌≤◌, drop, length}
-use Rattle.gm_source.specs.Iterations.{ends_of_all}
+use Rattle.gm_semantics.specs.Iterations.{ends_of_all}
 use Rattle.gm_loops.specs.Around.{ends_as, loop_of, mode_of}
 use Rattle.gm_loops.proofs.around.Around.ends_of_all.Given as goal
 

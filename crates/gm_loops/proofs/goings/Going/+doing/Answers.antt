@@ -4,11 +4,11 @@ use Rattle.gm_graph.specs.Graphs.{Step}
 use Rattle.gm_ast.specs.declared.tree.Stmt as S
 use Rattle.gm_ast.specs.Program as P
 use Rattle.gm_ast.specs.Tree.{expr_of, stmt_of}
-use Rattle.gm_source.specs.declared.faults.Fault.{Fault}
-use Rattle.gm_source.specs.Expressions.{steps_in, value}
-use Rattle.gm_source.specs.Iterations as I
-use Rattle.gm_source.specs.Iterations.{Iteration, does, failed, begun, inner_done, turn_at, view_in}
-use Rattle.gm_source.specs.Stores.{Store}
+use Rattle.gm_semantics.specs.declared.faults.Fault.{Fault}
+use Rattle.gm_semantics.specs.Expressions.{steps_in, value}
+use Rattle.gm_semantics.specs.Iterations as I
+use Rattle.gm_semantics.specs.Iterations.{Iteration, does, failed, begun, inner_done, turn_at, view_in}
+use Rattle.gm_semantics.specs.Stores.{Store}
 use Rattle.gm_store.specs.Held.{shape_of}
 use Rattle.gm_store.specs.Laws.{IsRolledBack}
 use Rattle.gm_loops.specs.declared.goings.Going.{Going}

@@ -1,7 +1,7 @@
 use Rattle.std.proofs.Common.{◌≤◌, drop, map, take}
 use Rattle.gm_ast.specs.Program.{sequence}
 use Rattle.gm_ast.specs.Tree.{expr_of, stmt_of}
-use Rattle.gm_source.specs.Iterations.{AtEdge, does}
+use Rattle.gm_semantics.specs.Iterations.{AtEdge, does}
 use Rattle.gm_loops.specs.declared.goings.Going.{Going}
 use Rattle.gm_loops.specs.Around.{loop_of, mode_of}
 use Rattle.gm_loops.specs.Bounds.{bound_of}

@@ -1,7 +1,7 @@
 use Rattle.std.proofs.Common.{Result, sym, subst}
-use Rattle.gm_source.specs.declared.faults.Fault.{Fault}
-use Rattle.gm_source.specs.declared.slots.Write.{Write}
-use Rattle.gm_source.specs.Iterations.{alone, with_ok, gave_outermost, contribution}
+use Rattle.gm_semantics.specs.declared.faults.Fault.{Fault}
+use Rattle.gm_semantics.specs.declared.slots.Write.{Write}
+use Rattle.gm_semantics.specs.Iterations.{alone, with_ok, gave_outermost, contribution}
 use Rattle.gm_loops.specs.Goings.{Does}
 use Rattle.gm_loops.specs.Targets.{pair_of}
 use Rattle.gm_loops.proofs.goings.Going.add_outermost.Goals as goal

@@ -1,8 +1,8 @@
 use Rattle.std.proofs.Common.{◌≡◌, List, Ok, Result, sym, subst}
 use Rattle.std.specs.Prelude.{All, IfOk}
 use Rattle.gm_value.specs.declared.values.Value.{Value}
-use Rattle.gm_source.specs.declared.faults.Fault.{Fault}
-use Rattle.gm_source.specs.Iterations.{with_ok, gave_outermost, contribution}
+use Rattle.gm_semantics.specs.declared.faults.Fault.{Fault}
+use Rattle.gm_semantics.specs.Iterations.{with_ok, gave_outermost, contribution}
 use Rattle.gm_store.specs.Held.{HasSlot, shape_of}
 use Rattle.gm_totals.specs.Given.{given}
 use Rattle.gm_loops.specs.declared.tuples.Tuple.{Tuple}

@@ -2,18 +2,18 @@ use Rattle.std.proofs.Common.{◌∙◌, Result, ap}
 use Rattle.gm_value.specs.declared.values.Value.{Value}
 use Rattle.gm_ast.specs.Program as P
 use Rattle.gm_ast.specs.Tree.{expr_of}
-use Rattle.gm_source.specs.declared.faults.Fault.{Fault}
-use Rattle.gm_source.specs.declared.slots.Slot.{Slot}
-use Rattle.gm_source.specs.Expressions.{View, evaluated}
-use Rattle.gm_source.specs.Iterations as I
-use Rattle.gm_source.specs.Iterations.{Iteration, assigned, at_once, contribution, does, ends_of, gave_inner, gave_outermost, reduced, view_in, with_ok, wrote}
+use Rattle.gm_semantics.specs.declared.faults.Fault.{Fault}
+use Rattle.gm_semantics.specs.declared.slots.Slot.{Slot}
+use Rattle.gm_semantics.specs.Expressions.{View, evaluated}
+use Rattle.gm_semantics.specs.Iterations as I
+use Rattle.gm_semantics.specs.Iterations.{Iteration, assigned, at_once, contribution, does, ends_of, gave_inner, gave_outermost, reduced, view_in, with_ok, wrote}
 use Rattle.gm_loops.specs.declared.sights.Sight.{Sight}
 use Rattle.gm_loops.specs.Around.{loop_of}
 use Rattle.gm_loops.specs.Scopes.{no_scope}
 use Rattle.gm_loops.specs.Sights.{view_of}
 use Rattle.gm_loops.specs.Targets.{pair_of}
 use Rattle.gm_loops.proofs.Effects.{does-as, view-same}
-use Rattle.gm_source.specs.Iterations.{deferred_to}
+use Rattle.gm_semantics.specs.Iterations.{deferred_to}
 use Rattle.gm_loops.proofs.goings.Going.assign_deferred.Goals as goal
 
 pub returns : goal.returns

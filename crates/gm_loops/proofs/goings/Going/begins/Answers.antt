@@ -1,8 +1,8 @@
 use Rattle.std.proofs.Common.{◌∙◌, arith, sym, ap, subst}
 use Rattle.gm_ast.specs.Program as P
 use Rattle.gm_ast.specs.Tree.{expr_of}
-use Rattle.gm_source.specs.Expressions.{value}
-use Rattle.gm_source.specs.Iterations as I
+use Rattle.gm_semantics.specs.Expressions.{value}
+use Rattle.gm_semantics.specs.Iterations as I
 use Rattle.gm_loops.specs.declared.sights.Sight.{Sight}
 use Rattle.gm_loops.specs.Around.{mode_of}
 use Rattle.gm_loops.specs.Scopes.{no_scope}

@@ -1,5 +1,5 @@
 use Rattle.std.proofs.Common.{List, refl, subst}
-use Rattle.gm_source.specs.declared.slots.Write.{Write}
+use Rattle.gm_semantics.specs.declared.slots.Write.{Write}
 use Rattle.gm_loops.specs.Turns.{Overlays}
 use Rattle.gm_loops.proofs.Closing.{closes, closes-nothing}
 use Rattle.gm_loops.proofs.goings.Going.close_inner.Goals as goal

@@ -1,5 +1,5 @@
 use Rattle.std.proofs.Common.{List, refl, subst}
-use Rattle.gm_source.specs.declared.slots.Write.{Write}
+use Rattle.gm_semantics.specs.declared.slots.Write.{Write}
 use Rattle.gm_loops.specs.Own.{Sets}
 use Rattle.gm_loops.proofs.Looping.{finishes}
 use Rattle.gm_loops.proofs.goings.Going.close_outermost.Goals as goal

@@ -3,8 +3,8 @@ use Rattle.gm_value.specs.declared.values.Value.{Value}
 use Rattle.gm_value.specs.Numbers.{zero_of}
 use Rattle.gm_ast.specs.declared.tree.Variable.{Variable}
 use Rattle.gm_ast.specs.Program as P
-use Rattle.gm_source.specs.declared.slots.Slot.TheVariants.{Scalar}
-use Rattle.gm_source.specs.Iterations.{does, wrote}
+use Rattle.gm_semantics.specs.declared.slots.Slot.TheVariants.{Scalar}
+use Rattle.gm_semantics.specs.Iterations.{does, wrote}
 use Rattle.gm_loops.specs.Around.{loop_of}
 use Rattle.gm_loops.proofs.Effects.{does-as}
 use Rattle.gm_loops.proofs.goings.Going.declare_first.Goals as goal

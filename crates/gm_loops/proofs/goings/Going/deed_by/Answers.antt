@@ -1,10 +1,10 @@
 use Rattle.std.proofs.Common.{◌∙◌, Bool, Some, ap}
 use Rattle.gm_value.specs.declared.values.Value.TheVariants.{At}
 use Rattle.gm_ast.specs.Tree.{expr_of}
-use Rattle.gm_source.specs.declared.slots.Slot.TheVariants.{Scalar}
-use Rattle.gm_source.specs.Expressions.{View, settled}
-use Rattle.gm_source.specs.Iterations.{Iteration, Loop, Outermost, as_it_is, begun, does, one_way, view_in}
-use Rattle.gm_source.specs.Stores.{Store, write}
+use Rattle.gm_semantics.specs.declared.slots.Slot.TheVariants.{Scalar}
+use Rattle.gm_semantics.specs.Expressions.{View, settled}
+use Rattle.gm_semantics.specs.Iterations.{Iteration, Loop, Outermost, as_it_is, begun, does, one_way, view_in}
+use Rattle.gm_semantics.specs.Stores.{Store, write}
 use Rattle.gm_loops.specs.Around.{body_of, loop_of}
 use Rattle.gm_loops.specs.Columns.{here}
 use Rattle.gm_loops.specs.Filters.{Fails}

@@ -1,6 +1,6 @@
 use Rattle.std.proofs.Common.{◌≤◌, sym, subst}
-use Rattle.gm_source.specs.Iterations as I
-use Rattle.gm_source.specs.Iterations.{does}
+use Rattle.gm_semantics.specs.Iterations as I
+use Rattle.gm_semantics.specs.Iterations.{does}
 use Rattle.gm_loops.specs.declared.around.Body.{Body}
 use Rattle.gm_loops.specs.Around.{body_of, loop_of}
 use Rattle.gm_loops.specs.Bounds.{bound_of}

@@ -1,5 +1,5 @@
 use Rattle.std.proofs.Common.{subst}
-use Rattle.gm_source.specs.Iterations.{AtEdge, gave_inner}
+use Rattle.gm_semantics.specs.Iterations.{AtEdge, gave_inner}
 use Rattle.gm_store.specs.Held.{HasSlot, shape_of}
 use Rattle.gm_totals.specs.declared.contributions.Contribution.{Contribution}
 use Rattle.gm_totals.specs.Given.{single}

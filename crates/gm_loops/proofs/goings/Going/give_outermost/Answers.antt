@@ -1,5 +1,5 @@
 use Rattle.std.proofs.Common.{subst}
-use Rattle.gm_source.specs.Iterations.{gave_outermost}
+use Rattle.gm_semantics.specs.Iterations.{gave_outermost}
 use Rattle.gm_store.specs.Held.{HasSlot, shape_of}
 use Rattle.gm_totals.specs.declared.contributions.Contribution.{Contribution}
 use Rattle.gm_totals.specs.Given.{single}

@@ -2,12 +2,12 @@ use Rattle.std.proofs.Common.{◌≡◌, ◌∙◌, ◌≤◌, ◌<◌, ◌+◌,
 use Rattle.std.proofs.lemmas.List.{take_all, take_more}
 use Rattle.std.specs.Prelude.{All}
 use Rattle.gm_ast.specs.Tree.{expr_of}
-use Rattle.gm_source.specs.declared.faults.Fault.{Fault}
-use Rattle.gm_source.specs.declared.slots.Write.{Write}
-use Rattle.gm_source.specs.Iterations as I
-use Rattle.gm_source.specs.Iterations.{Iteration, does, turn_at}
-use Rattle.gm_source.specs.Loops.{iteration}
-use Rattle.gm_source.specs.Stores.{Store}
+use Rattle.gm_semantics.specs.declared.faults.Fault.{Fault}
+use Rattle.gm_semantics.specs.declared.slots.Write.{Write}
+use Rattle.gm_semantics.specs.Iterations as I
+use Rattle.gm_semantics.specs.Iterations.{Iteration, does, turn_at}
+use Rattle.gm_semantics.specs.Loops.{iteration}
+use Rattle.gm_semantics.specs.Stores.{Store}
 use Rattle.gm_store.specs.Held.{Shape, HasSlot, shape_of}
 use Rattle.gm_loops.specs.Around.{body_of, loop_of}
 use Rattle.gm_loops.specs.Filters.{IsFilter}

@@ -1,8 +1,8 @@
 use Rattle.std.proofs.Common.{map, take}
 use Rattle.std.specs.Prelude.{All}
 use Rattle.gm_ast.specs.Tree.{expr_of}
-use Rattle.gm_source.specs.Iterations.{Outermost}
-use Rattle.gm_source.specs.Loops.{iteration}
+use Rattle.gm_semantics.specs.Iterations.{Outermost}
+use Rattle.gm_semantics.specs.Loops.{iteration}
 use Rattle.gm_store.specs.Held.{HasSlot, shape_of}
 use Rattle.gm_loops.specs.Around.{body_of, loop_of}
 use Rattle.gm_loops.specs.LoopEnds.{nodes_in}

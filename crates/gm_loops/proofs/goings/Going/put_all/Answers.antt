@@ -1,8 +1,8 @@
 use Rattle.std.proofs.Common.{List, Result, sym, subst}
 use Rattle.gm_value.specs.declared.values.Value.{Value}
-use Rattle.gm_source.specs.declared.slots.Slot.{Slot}
-use Rattle.gm_source.specs.declared.faults.Fault.{Fault}
-use Rattle.gm_source.specs.Iterations.{wrote_all, with_ok}
+use Rattle.gm_semantics.specs.declared.slots.Slot.{Slot}
+use Rattle.gm_semantics.specs.declared.faults.Fault.{Fault}
+use Rattle.gm_semantics.specs.Iterations.{wrote_all, with_ok}
 use Rattle.gm_loops.specs.declared.tuples.Tuple.{Tuple}
 use Rattle.gm_loops.specs.Goings.{Does}
 use Rattle.gm_loops.specs.Targets.{tuple_of}

@@ -4,8 +4,8 @@ use Rattle.gm_ast.specs.declared.tree.Target.{Target}
 use Rattle.gm_ast.specs.declared.tree.Target.TheVariants as T
 use Rattle.gm_ast.specs.Program as P
 use Rattle.gm_ast.specs.Tree.{expr_of}
-use Rattle.gm_source.specs.Iterations as I
-use Rattle.gm_source.specs.Iterations.{does}
+use Rattle.gm_semantics.specs.Iterations as I
+use Rattle.gm_semantics.specs.Iterations.{does}
 use Rattle.gm_loops.specs.Around.{loop_of, mode_of}
 use Rattle.gm_loops.specs.Goings.{Does}
 use Rattle.gm_loops.proofs.Statements.{one-target-bound, only-one, several-unless}

@@ -5,11 +5,11 @@ use Rattle.gm_ast.specs.declared.tree.TotalKey.{TotalKey}
 use Rattle.gm_value.specs.declared.reductions.Reduce.{Reduce}
 use Rattle.gm_ast.specs.Program as P
 use Rattle.gm_ast.specs.Tree.{expr_of}
-use Rattle.gm_source.specs.declared.faults.Fault.{Fault}
-use Rattle.gm_source.specs.declared.slots.Slot.{Slot}
-use Rattle.gm_source.specs.Expressions.{View, evaluated_all}
-use Rattle.gm_source.specs.Iterations as I
-use Rattle.gm_source.specs.Iterations.{Iteration, assigned_all, at_once, contribution, does, ends_of_all, gave_inner, gave_outermost, reduced, together, view_in, with_ok, wrote_all}
+use Rattle.gm_semantics.specs.declared.faults.Fault.{Fault}
+use Rattle.gm_semantics.specs.declared.slots.Slot.{Slot}
+use Rattle.gm_semantics.specs.Expressions.{View, evaluated_all}
+use Rattle.gm_semantics.specs.Iterations as I
+use Rattle.gm_semantics.specs.Iterations.{Iteration, assigned_all, at_once, contribution, does, ends_of_all, gave_inner, gave_outermost, reduced, together, view_in, with_ok, wrote_all}
 use Rattle.gm_loops.specs.declared.sights.Sight.{Sight}
 use Rattle.gm_loops.specs.Around.{ends_as, loop_of, mode_of}
 use Rattle.gm_loops.specs.Goings.{Does}

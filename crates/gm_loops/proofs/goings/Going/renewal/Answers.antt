@@ -2,8 +2,8 @@ use Rattle.std.proofs.Common.{◌≡◌, ◌∙◌, ℕ, refl, ap, subst, rules}
 use Rattle.gm_ast.specs.declared.tree.Target.TheVariants as T
 use Rattle.gm_ast.specs.Program.{Stmt, Assign}
 use Rattle.gm_ast.specs.Tree.{expr_of}
-use Rattle.gm_source.specs.Expressions.{View}
-use Rattle.gm_source.specs.Iterations.{Iteration, Outermost, begun, does, view_in}
+use Rattle.gm_semantics.specs.Expressions.{View}
+use Rattle.gm_semantics.specs.Iterations.{Iteration, Outermost, begun, does, view_in}
 use Rattle.gm_loops.specs.declared.sights.Sight.{Sight}
 use Rattle.gm_loops.specs.Around.{body_of, loop_of}
 use Rattle.gm_loops.specs.Columns.{IsColumn}

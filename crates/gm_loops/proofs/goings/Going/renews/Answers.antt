@@ -1,8 +1,8 @@
 use Rattle.std.proofs.Common.{◌≡◌, ◌∙◌, ◌<◌, Ok, Result, refl, ap, sym, length, arith}
 use Rattle.gm_ast.specs.Tree.{expr_of}
 use Rattle.gm_graph.specs.Graphs.{node_count}
-use Rattle.gm_source.specs.declared.faults.Fault.{Fault}
-use Rattle.gm_source.specs.Stores.{Store}
+use Rattle.gm_semantics.specs.declared.faults.Fault.{Fault}
+use Rattle.gm_semantics.specs.Stores.{Store}
 use Rattle.gm_store.specs.Cells.{values_of}
 use Rattle.gm_loops.specs.Around.{body_of, loop_of}
 use Rattle.gm_loops.specs.LoopEnds.{nodes_in}

@@ -1,9 +1,9 @@
 use Rattle.std.proofs.Common.{Bool, subst}
 use Rattle.gm_ast.specs.Program as P
 use Rattle.gm_ast.specs.Tree.{expr_of}
-use Rattle.gm_source.specs.Iterations as I
-use Rattle.gm_source.specs.Iterations.{Iteration, does, turn_at}
-use Rattle.gm_source.specs.Stores.{Store}
+use Rattle.gm_semantics.specs.Iterations as I
+use Rattle.gm_semantics.specs.Iterations.{Iteration, does, turn_at}
+use Rattle.gm_semantics.specs.Stores.{Store}
 use Rattle.gm_loops.specs.Around.{body_of, loop_of}
 use Rattle.gm_loops.specs.Turns.{Begins}
 use Rattle.gm_loops.proofs.Turning.{turn-passed, turn-skipped}

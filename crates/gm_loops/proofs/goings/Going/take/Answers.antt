@@ -1,7 +1,7 @@
 -- An iteration of one deed: the totals have its contribution, and all else is as it was.
 use Rattle.std.proofs.Common.{◌∙◌, [], ◌∷◌, None, ap, refl, subst, sym}
 use Rattle.std.proofs.lemmas.List.{append-nil}
-use Rattle.gm_source.specs.Iterations.{begun}
+use Rattle.gm_semantics.specs.Iterations.{begun}
 use Rattle.gm_store.specs.Held.{shape_of}
 use Rattle.gm_totals.specs.Given.{single}
 use Rattle.gm_totals.specs.Standing.{StandsFor}

@@ -1,10 +1,10 @@
 use Rattle.std.proofs.Common.{ℕ, List, map, refl, sym, subst}
 use Rattle.std.specs.Prelude.{All}
 use Rattle.gm_ast.specs.Tree.{expr_of}
-use Rattle.gm_source.specs.declared.slots.Write.{Write}
-use Rattle.gm_source.specs.Iterations.{Iteration}
-use Rattle.gm_source.specs.Loops.{iteration}
-use Rattle.gm_source.specs.Stores.{Store}
+use Rattle.gm_semantics.specs.declared.slots.Write.{Write}
+use Rattle.gm_semantics.specs.Iterations.{Iteration}
+use Rattle.gm_semantics.specs.Loops.{iteration}
+use Rattle.gm_semantics.specs.Stores.{Store}
 use Rattle.gm_store.specs.Held.{Shape, HasSlot, shape_of}
 use Rattle.gm_totals.specs.Standing.{Within}
 use Rattle.gm_loops.specs.Around.{body_of, loop_of}

@@ -1,5 +1,5 @@
 use Rattle.std.proofs.Common.{◌≡◌, ◌∙◌, ◌<◌, ◌≤◌, length, min, get_or, refl, sym, subst, arith}
-use Rattle.gm_source.specs.declared.slots.Slot.TheVariants.{Scalar}
+use Rattle.gm_semantics.specs.declared.slots.Slot.TheVariants.{Scalar}
 use Rattle.gm_store.specs.Held.{Shape, HasSlot}
 use Rattle.gm_store.specs.Laws.{IsLogged}
 use Rattle.gm_loops.proofs.Effects.{does-write}

@@ -1,6 +1,6 @@
 use Rattle.std.proofs.Common.{◌≡◌, take}
-use Rattle.gm_source.specs.Iterations as iterations
-use Rattle.gm_source.specs.Iterations.{wrote_all}
+use Rattle.gm_semantics.specs.Iterations as iterations
+use Rattle.gm_semantics.specs.Iterations.{wrote_all}
 use Rattle.gm_store.specs.Held.{shape_of}
 use Rattle.gm_loops.specs.declared.sights.Setting.{Setting}
 use Rattle.gm_loops.specs.Goings.{Does}

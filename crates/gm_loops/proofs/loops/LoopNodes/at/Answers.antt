@@ -1,5 +1,5 @@
 use Rattle.std.proofs.Common.{◌≡◌, ◌∙◌, ◌<◌, ◌+◌, ℕ, length, get_or, arith, rules, sym, ap, subst}
-use Rattle.gm_source.specs.Levels.{numbers_from}
+use Rattle.gm_semantics.specs.Levels.{numbers_from}
 use Rattle.gm_loops.specs.declared.loops.LoopNodes.{LoopNodes}
 use Rattle.gm_loops.specs.LoopEnds.{nodes_in}
 use Rattle.gm_loops.proofs.Looping.{length-numbers, get-numbers}

@@ -3,9 +3,9 @@ use Rattle.gm_value.specs.declared.values.Value.{Value}
 use Rattle.gm_graph.specs.Graphs.{Step}
 use Rattle.gm_ast.specs.Program.{Expr}
 use Rattle.gm_ast.specs.Tree.{expr_of}
-use Rattle.gm_source.specs.declared.faults.Fault.{Fault}
-use Rattle.gm_source.specs.Faults.{oks, joined}
-use Rattle.gm_source.specs.Expressions.{View, Answer, evaluated, early, element, entered, reduce_of, reduction, settled}
+use Rattle.gm_semantics.specs.declared.faults.Fault.{Fault}
+use Rattle.gm_semantics.specs.Faults.{oks, joined}
+use Rattle.gm_semantics.specs.Expressions.{View, Answer, evaluated, early, element, entered, reduce_of, reduction, settled}
 use Rattle.gm_loops.specs.Parts.{parts}
 use Rattle.gm_loops.specs.Ranges.{step_of, steps_at}
 use Rattle.gm_loops.specs.Runnings.{Runs, elements_at, listed}

@@ -1,7 +1,7 @@
 use Rattle.std.proofs.Common.{◌+◌, ◌≤◌, length}
 use Rattle.gm_ast.specs.Tree.{expr_of}
-use Rattle.gm_source.specs.Faults.{oks, joined}
-use Rattle.gm_source.specs.Expressions.{reduce_of}
+use Rattle.gm_semantics.specs.Faults.{oks, joined}
+use Rattle.gm_semantics.specs.Expressions.{reduce_of}
 use Rattle.gm_loops.specs.Ranges.{all_steps, steps_at}
 use Rattle.gm_loops.specs.Runnings.{Runs, elements_at}
 use Rattle.gm_loops.specs.Sights.{view_of}

@@ -6,9 +6,9 @@ use Rattle.gm_value.specs.Totals.{IsTotal}
 use Rattle.gm_graph.specs.Graphs.{Step}
 use Rattle.gm_ast.specs.Program.{Expr}
 use Rattle.gm_ast.specs.Tree.{expr_of}
-use Rattle.gm_source.specs.declared.faults.Fault.{Fault}
-use Rattle.gm_source.specs.Faults.{least, errs, oks, joined}
-use Rattle.gm_source.specs.Expressions.{View, Answer, Evaluated, evaluated, early, element, entered, members_of, plain, reduce_of, reduction, settled, steps_in}
+use Rattle.gm_semantics.specs.declared.faults.Fault.{Fault}
+use Rattle.gm_semantics.specs.Faults.{least, errs, oks, joined}
+use Rattle.gm_semantics.specs.Expressions.{View, Answer, Evaluated, evaluated, early, element, entered, members_of, plain, reduce_of, reduction, settled, steps_in}
 use Rattle.gm_loops.specs.Ranges.{step_of, steps_at}
 use Rattle.gm_loops.specs.Runnings.{elements_at}
 use Rattle.gm_loops.specs.Sights.{view_of}

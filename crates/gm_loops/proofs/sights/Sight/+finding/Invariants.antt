@@ -1,8 +1,8 @@
 use Rattle.std.proofs.Common.{◌≡◌, ◌+◌, ◌≤◌, length, None}
 use Rattle.gm_ast.specs.Tree.{expr_of}
 use Rattle.gm_value.specs.Totals.{IsTotal}
-use Rattle.gm_source.specs.Faults.{least, errs, oks, joined}
-use Rattle.gm_source.specs.Expressions.{reduce_of}
+use Rattle.gm_semantics.specs.Faults.{least, errs, oks, joined}
+use Rattle.gm_semantics.specs.Expressions.{reduce_of}
 use Rattle.gm_loops.specs.Ranges.{all_steps, steps_at}
 use Rattle.gm_loops.specs.Runnings.{elements_at}
 use Rattle.gm_loops.specs.Sights.{view_of}

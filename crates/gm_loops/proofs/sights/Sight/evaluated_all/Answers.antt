@@ -1,7 +1,7 @@
 use Rattle.std.proofs.Common.{◌≡◌, ◌∙◌, ◌+◌, drop, get_or, map, refl, ap}
 use Rattle.gm_ast.specs.Tree.{expr_of}
 use Rattle.gm_ast.specs.declared.tree.Expr as E
-use Rattle.gm_source.specs.Expressions.{View, evaluated, evaluated_all}
+use Rattle.gm_semantics.specs.Expressions.{View, evaluated, evaluated_all}
 use Rattle.gm_loops.specs.Scopes.{no_scope}
 use Rattle.gm_loops.specs.Sights.{view_of}
 use Rattle.gm_loops.specs.Parts.{parts}

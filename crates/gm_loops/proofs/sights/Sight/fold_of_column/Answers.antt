@@ -2,8 +2,8 @@ use Rattle.std.proofs.Common.{◌≡◌, ◌∙◌, true, length, map, refl, ap,
 use Rattle.std.proofs.lemmas.Option.{IfSome_then}
 use Rattle.gm_value.specs.Totals.{IsTotal}
 use Rattle.gm_ast.specs.Tree.{expr_of}
-use Rattle.gm_source.specs.Expressions.{View, closed, members_of, reduce_of}
-use Rattle.gm_source.specs.Faults.{joined}
+use Rattle.gm_semantics.specs.Expressions.{View, closed, members_of, reduce_of}
+use Rattle.gm_semantics.specs.Faults.{joined}
 use Rattle.gm_store.specs.declared.cells.Cells.{Cells}
 use Rattle.gm_store.specs.Cells.{values_of}
 use Rattle.gm_loops.specs.declared.sights.Sight.{Sight}

@@ -4,9 +4,9 @@ use Rattle.std.proofs.lemmas.List.Elements.{All-push}
 use Rattle.gm_graph.specs.Graphs.{node_count}
 use Rattle.gm_ast.specs.declared.tree.Target.{Target}
 use Rattle.gm_ast.specs.declared.tree.Target.TheVariants as T
-use Rattle.gm_source.specs.declared.slots.Slot.{Slot}
-use Rattle.gm_source.specs.Expressions.{View}
-use Rattle.gm_source.specs.Iterations.{slot_of, slots_of}
+use Rattle.gm_semantics.specs.declared.slots.Slot.{Slot}
+use Rattle.gm_semantics.specs.Expressions.{View}
+use Rattle.gm_semantics.specs.Iterations.{slot_of, slots_of}
 use Rattle.gm_store.specs.Held.{HasSlot}
 use Rattle.gm_loops.specs.Bounds.{target_bound, targets_bound}
 use Rattle.gm_loops.specs.Scopes.{no_scope}

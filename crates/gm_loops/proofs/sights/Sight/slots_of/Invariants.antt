@@ -1,7 +1,7 @@
 use Rattle.std.proofs.Common.{◌≡◌, drop}
 use Rattle.std.specs.Prelude.{All}
 use Rattle.gm_graph.specs.Graphs.{node_count}
-use Rattle.gm_source.specs.Iterations.{slots_of}
+use Rattle.gm_semantics.specs.Iterations.{slots_of}
 use Rattle.gm_store.specs.Held.{HasSlot}
 use Rattle.gm_loops.specs.Bounds.{targets_bound}
 use Rattle.gm_loops.specs.Scopes.{no_scope}

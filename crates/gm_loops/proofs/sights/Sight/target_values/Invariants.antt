@@ -1,6 +1,6 @@
 use Rattle.std.proofs.Common.{◌≡◌, drop, map}
-use Rattle.gm_source.specs.Expressions.{evaluated_all}
-use Rattle.gm_source.specs.Iterations.{target_value}
+use Rattle.gm_semantics.specs.Expressions.{evaluated_all}
+use Rattle.gm_semantics.specs.Iterations.{target_value}
 use Rattle.gm_loops.specs.Scopes.{no_scope}
 use Rattle.gm_loops.specs.Sights.{view_of}
 use Rattle.gm_loops.specs.Targets.{all_parts, followed}

@@ -6,10 +6,10 @@ use Rattle.gm_ast.specs.declared.tree.Stmt.{Stmt}
 use Rattle.gm_ast.specs.Program as P
 use Rattle.gm_ast.specs.Program.{sequence}
 use Rattle.gm_ast.specs.Tree.{expr_of, stmt_of}
-use Rattle.gm_source.specs.Levels.{numbers_from, nodes}
-use Rattle.gm_source.specs.Expressions.{Answer}
-use Rattle.gm_source.specs.Statements as S
-use Rattle.gm_source.specs.Statements.{State, sequential, repeated, in_turns}
+use Rattle.gm_semantics.specs.Levels.{numbers_from, nodes}
+use Rattle.gm_semantics.specs.Expressions.{Answer}
+use Rattle.gm_semantics.specs.Statements as S
+use Rattle.gm_semantics.specs.Statements.{State, sequential, repeated, in_turns}
 use Rattle.gm_meaning.specs.declared.phases.Course.{Course}
 use Rattle.gm_meaning.specs.declared.phases.Course.TheVariants.{Goes}
 use Rattle.gm_meaning.specs.Phases.{run_of, state_of, asked, turn_of, Runs}

@@ -1,8 +1,8 @@
 use Rattle.std.proofs.Common.{None, ap}
 use Rattle.gm_ast.specs.declared.tree.Variable.{Variable}
 use Rattle.gm_ast.specs.Program as P
-use Rattle.gm_source.specs.Stores.{Store}
-use Rattle.gm_source.specs.Statements.{State, declared, sequential, with_store}
+use Rattle.gm_semantics.specs.Stores.{Store}
+use Rattle.gm_semantics.specs.Statements.{State, declared, sequential, with_store}
 use Rattle.gm_meaning.specs.declared.phases.Course.TheVariants.{Goes}
 use Rattle.gm_meaning.specs.Phases.{run_of, state_of}
 use Rattle.gm_meaning.proofs.Going.{runs-as, runs-store, with_held}

@@ -1,8 +1,8 @@
 use Rattle.std.proofs.Common.{◌∙◌, ap, sym}
-use Rattle.gm_source.specs.declared.slots.Slot.TheVariants.{Scalar}
-use Rattle.gm_source.specs.Expressions.{Answer}
-use Rattle.gm_source.specs.Stores.{Store, write}
-use Rattle.gm_source.specs.Statements.{State, with_store, with_value}
+use Rattle.gm_semantics.specs.declared.slots.Slot.TheVariants.{Scalar}
+use Rattle.gm_semantics.specs.Expressions.{Answer}
+use Rattle.gm_semantics.specs.Stores.{Store, write}
+use Rattle.gm_semantics.specs.Statements.{State, with_store, with_value}
 use Rattle.gm_meaning.specs.declared.phases.Course.TheVariants.{Goes, Faults}
 use Rattle.gm_meaning.specs.Phases.{state_of}
 use Rattle.gm_meaning.proofs.Going.{runs-as, runs-same, runs-store, with_held}

@@ -5,8 +5,8 @@ use Rattle.gm_ast.specs.declared.tree.Expr as E
 use Rattle.gm_ast.specs.declared.tree.Target.TheVariants as T
 use Rattle.gm_ast.specs.Program as P
 use Rattle.gm_ast.specs.Tree.{expr_of}
-use Rattle.gm_source.specs.Levels.{numbers_from, no_levels}
-use Rattle.gm_source.specs.Statements.{State, sequential, loops}
+use Rattle.gm_semantics.specs.Levels.{numbers_from, no_levels}
+use Rattle.gm_semantics.specs.Statements.{State, sequential, loops}
 use Rattle.gm_meaning.specs.Phases.{run_of, state_of, Runs}
 use Rattle.gm_meaning.proofs.Going.{if-ok, runs-as}
 use Rattle.gm_meaning.proofs.Levels.{numbers-below}

@@ -1,8 +1,8 @@
 use Rattle.std.proofs.Common.{◌∙◌, Option, ap, sym}
 use Rattle.gm_ast.specs.Tree.{expr_of}
-use Rattle.gm_source.specs.declared.faults.Fault.{Fault}
-use Rattle.gm_source.specs.Stores.{Store}
-use Rattle.gm_source.specs.Loops.{parallel}
+use Rattle.gm_semantics.specs.declared.faults.Fault.{Fault}
+use Rattle.gm_semantics.specs.Stores.{Store}
+use Rattle.gm_semantics.specs.Loops.{parallel}
 use Rattle.gm_store.specs.Held.{store_of}
 use Rattle.gm_loops.specs.Around.{body_of, loop_of}
 use Rattle.gm_loops.specs.LoopEnds.{ended, nodes_in}

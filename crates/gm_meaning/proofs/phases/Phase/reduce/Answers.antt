@@ -1,10 +1,10 @@
 use Rattle.std.proofs.Common.{◌∙◌, ◌≡◌, ap, ◌∷◌, []}
 use Rattle.gm_ast.specs.Program as P
 use Rattle.gm_ast.specs.Tree.{expr_of}
-use Rattle.gm_source.specs.Expressions.{View}
-use Rattle.gm_source.specs.Iterations.{alone, at_once}
-use Rattle.gm_source.specs.Statements as S
-use Rattle.gm_source.specs.Statements.{State, sequential, writes, writes_all}
+use Rattle.gm_semantics.specs.Expressions.{View}
+use Rattle.gm_semantics.specs.Iterations.{alone, at_once}
+use Rattle.gm_semantics.specs.Statements as S
+use Rattle.gm_semantics.specs.Statements.{State, sequential, writes, writes_all}
 use Rattle.gm_loops.specs.Targets.{pair_of}
 use Rattle.gm_meaning.specs.Phases.{run_of, state_of, Runs}
 use Rattle.gm_meaning.proofs.Going.{if-ok, runs-as}

@@ -3,10 +3,10 @@ use Rattle.std.specs.Prelude.{All, IfOk}
 use Rattle.gm_graph.specs.Graphs.{node_count}
 use Rattle.gm_ast.specs.Program as P
 use Rattle.gm_ast.specs.Tree.{expr_of}
-use Rattle.gm_source.specs.Expressions.{View}
-use Rattle.gm_source.specs.Iterations.{at_once, together}
-use Rattle.gm_source.specs.Statements as S
-use Rattle.gm_source.specs.Statements.{State, sequential, writes_all}
+use Rattle.gm_semantics.specs.Expressions.{View}
+use Rattle.gm_semantics.specs.Iterations.{at_once, together}
+use Rattle.gm_semantics.specs.Statements as S
+use Rattle.gm_semantics.specs.Statements.{State, sequential, writes_all}
 use Rattle.gm_store.specs.Held.{HasSlot, shape_of}
 use Rattle.gm_loops.specs.declared.sights.Setting.{Setting}
 use Rattle.gm_loops.specs.Bounds.{targets_bound}

@@ -1,7 +1,7 @@
 use Rattle.std.proofs.Common.{◌∙◌, ap, sym, Some}
-use Rattle.gm_source.specs.Expressions.{Answer}
-use Rattle.gm_source.specs.Statements as S
-use Rattle.gm_source.specs.Statements.{State, with_value}
+use Rattle.gm_semantics.specs.Expressions.{Answer}
+use Rattle.gm_semantics.specs.Statements as S
+use Rattle.gm_semantics.specs.Statements.{State, with_value}
 use Rattle.gm_meaning.specs.declared.phases.Course.TheVariants.{Returns, Faults}
 use Rattle.gm_meaning.specs.Phases.{state_of}
 use Rattle.gm_meaning.proofs.Going.{runs-same}

@@ -1,5 +1,5 @@
 use Rattle.std.proofs.Common.{◌∙◌, ap}
-use Rattle.gm_source.specs.Expressions.{View, node_of}
+use Rattle.gm_semantics.specs.Expressions.{View, node_of}
 use Rattle.gm_meaning.proofs.phases.Phase.root.Goals as goal
 
 pub returns-clause-root : goal.returns-clause-root

@@ -1,6 +1,6 @@
 use Rattle.std.proofs.Common.{◌≡◌, drop, Some}
 use Rattle.gm_ast.specs.Tree.{expr_of, stmt_of}
-use Rattle.gm_source.specs.Statements.{in_turns, loops}
+use Rattle.gm_semantics.specs.Statements.{in_turns, loops}
 use Rattle.gm_loops.specs.LoopEnds.{AtRest}
 use Rattle.gm_loops.specs.Sights.{level_in}
 use Rattle.gm_meaning.specs.Phases.{run_of, state_of}

@@ -1,6 +1,6 @@
 use Rattle.std.proofs.Common.{◌∙◌, ap}
 use Rattle.gm_ast.specs.Tree.{expr_of}
-use Rattle.gm_source.specs.Expressions.{View, value}
+use Rattle.gm_semantics.specs.Expressions.{View, value}
 use Rattle.gm_meaning.proofs.phases.Phase.value.Goals as goal
 
 pub returns : goal.returns

@@ -1,8 +1,8 @@
 use Rattle.std.proofs.Common.{Result, refl, sym, subst}
-use Rattle.gm_source.specs.declared.faults.Fault.{Fault}
-use Rattle.gm_source.specs.declared.slots.Write.{Write}
-use Rattle.gm_source.specs.Stores.{Store, write}
-use Rattle.gm_source.specs.Statements.{writes}
+use Rattle.gm_semantics.specs.declared.faults.Fault.{Fault}
+use Rattle.gm_semantics.specs.declared.slots.Write.{Write}
+use Rattle.gm_semantics.specs.Stores.{Store, write}
+use Rattle.gm_semantics.specs.Statements.{writes}
 use Rattle.gm_loops.specs.Targets.{pair_of}
 use Rattle.gm_meaning.specs.declared.phases.Course.TheVariants.{Goes, Faults}
 use Rattle.gm_meaning.specs.Phases.{Runs}

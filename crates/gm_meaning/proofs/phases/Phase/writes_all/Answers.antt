@@ -1,6 +1,6 @@
 use Rattle.std.proofs.Common.{Result, refl, sym, subst}
-use Rattle.gm_source.specs.declared.faults.Fault.{Fault}
-use Rattle.gm_source.specs.Statements.{writes_all}
+use Rattle.gm_semantics.specs.declared.faults.Fault.{Fault}
+use Rattle.gm_semantics.specs.Statements.{writes_all}
 use Rattle.gm_loops.specs.declared.tuples.Tuple.{Tuple}
 use Rattle.gm_loops.specs.Targets.{tuple_of}
 use Rattle.gm_meaning.specs.declared.phases.Course.TheVariants.{Faults}

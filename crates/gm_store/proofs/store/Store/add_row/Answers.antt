@@ -1,5 +1,5 @@
 use Rattle.std.proofs.Common.{ap, ◌∙◌, length, ◌++◌, ◌∷◌, []}
-use Rattle.gm_source.specs.Stores.{fill}
+use Rattle.gm_semantics.specs.Stores.{fill}
 use Rattle.gm_store.specs.Held.{Held, store_of}
 use Rattle.gm_store.proofs.Writing.{row-added}
 use Rattle.gm_store.proofs.store.Store.add_row.Goals as goal

@@ -1,5 +1,5 @@
 use Rattle.std.proofs.Common.{ap, ◌∙◌, ◌<◌, sym, subst, length, set}
-use Rattle.gm_source.specs.Stores.{fill}
+use Rattle.gm_semantics.specs.Stores.{fill}
 use Rattle.gm_store.specs.Held.{Held, store_of}
 use Rattle.gm_store.proofs.Writing.{row-filled}
 use Rattle.gm_store.proofs.store.Store.fill.Goals as goal

@@ -1,8 +1,8 @@
 use Rattle.std.proofs.Common.{◌≡◌, ◌<◌, ℕ, ap, sym, subst, ◌∙◌, length, get_or, set}
 use Rattle.std.proofs.lemmas.List.{get_or_read}
-use Rattle.gm_source.specs.declared.slots.Slot.{Slot}
-use Rattle.gm_source.specs.declared.slots.Slot.TheVariants.{Node}
-use Rattle.gm_source.specs.Stores.{write}
+use Rattle.gm_semantics.specs.declared.slots.Slot.{Slot}
+use Rattle.gm_semantics.specs.declared.slots.Slot.TheVariants.{Node}
+use Rattle.gm_semantics.specs.Stores.{write}
 use Rattle.gm_store.specs.Held.{Held, no_row, with_value, store_of, shape_of, HasSlot}
 use Rattle.gm_store.proofs.Writing.{node-written}
 use Rattle.gm_store.proofs.store.Store.set.Goals as goal

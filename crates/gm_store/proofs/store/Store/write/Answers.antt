@@ -1,5 +1,5 @@
 use Rattle.std.proofs.Common.{ap, ◌∙◌}
-use Rattle.gm_source.specs.Stores.{write}
+use Rattle.gm_semantics.specs.Stores.{write}
 use Rattle.gm_store.specs.Held.{store_of}
 use Rattle.gm_store.proofs.store.Store.write.Goals as goal
 

@@ -1,5 +1,5 @@
 use Rattle.std.proofs.Common.{◌≡◌, ◌+◌, ◌-◌, length}
-use Rattle.gm_source.specs.declared.slots.Slot.{Slot}
+use Rattle.gm_semantics.specs.declared.slots.Slot.{Slot}
 use Rattle.gm_totals.specs.Places.{place_at}
 use Rattle.gm_totals.proofs.places.Places.add_rows.Given as goal
 

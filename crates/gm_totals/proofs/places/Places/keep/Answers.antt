@@ -2,7 +2,7 @@
 use Rattle.std.proofs.Common.{◌≡◌, ◌∙◌, ℕ, ◌<◌, cond, List, [], length, map, get_or, sym, ap, subst, Vec, Global}
 use Rattle.std.specs.Prelude.{nat_eq, ◌&&◌}
 use Rattle.std.proofs.lemmas.List.{get_or-map, length-map, map-set}
-use Rattle.gm_source.specs.Stores.{slot_eq}
+use Rattle.gm_semantics.specs.Stores.{slot_eq}
 use Rattle.gm_totals.specs.Places.{row_of, column_of, place_in, place_at}
 use Rattle.gm_totals.proofs.Keeping.{same-cells, row-kept}
 use Rattle.gm_totals.proofs.places.Places.keep.Goals as goal

@@ -3,7 +3,7 @@ use Rattle.std.proofs.Common.{[], ◌∷◌, ◌∙◌, false, ap, subst, sym}
 use Rattle.std.specs.Prelude.{option_map}
 use Rattle.gm_totals.specs.Pots.{TotalStands, listed}
 use Rattle.gm_totals.specs.declared.entries.Entry.{Entry}
-use Rattle.gm_source.specs.Faults.{total_fault}
+use Rattle.gm_semantics.specs.Faults.{total_fault}
 use Rattle.gm_totals.proofs.Takings.{first-more, first-err, loop-more, loop-err, loop-ok}
 use Rattle.gm_totals.proofs.pots.Pot.closed_one.Goals as goal
 

@@ -4,8 +4,8 @@ use Rattle.std.specs.Prelude.{option_map, IfSome}
 use Rattle.std.specs.declared.alloc.Global.{Global}
 use Rattle.std.specs.declared.vec.Vec.{Vec}
 use Rattle.gm_value.specs.declared.values.Value.{Value}
-use Rattle.gm_source.specs.Faults.{total_fault}
-use Rattle.gm_source.specs.Contributions.{Contribution, close_by}
+use Rattle.gm_semantics.specs.Faults.{total_fault}
+use Rattle.gm_semantics.specs.Contributions.{Contribution, close_by}
 use Rattle.gm_totals.specs.declared.entries.Entry.{Entry}
 use Rattle.gm_totals.specs.Pots.{TotalStands, items_in}
 use Rattle.gm_totals.proofs.Takings.{first-more, first-err, loop-more, loop-err, loop-ok}

@@ -1,5 +1,5 @@
 use Rattle.std.proofs.Common.{◌≢◌, List, ◌∷◌, take, length, true}
-use Rattle.gm_source.specs.Contributions.{Contribution}
+use Rattle.gm_semantics.specs.Contributions.{Contribution}
 use Rattle.gm_totals.specs.Pots.{PotStands}
 use Rattle.gm_totals.proofs.Takings.{Upto}
 use Rattle.gm_totals.proofs.pots.Pot.closed_several.Given as goal

@@ -1,6 +1,6 @@
 -- A pot with a contribution of another statement.
 use Rattle.std.proofs.Common.{◌≡◌, ◌<◌, ◌∷◌, ◌∙◌, List, refl, ap, sym, subst, arith}
-use Rattle.gm_source.specs.Contributions.{statement_of}
+use Rattle.gm_semantics.specs.Contributions.{statement_of}
 use Rattle.gm_totals.specs.declared.entries.Entry.{Entry}
 use Rattle.gm_totals.specs.declared.pots.Pot.{Pot}
 use Rattle.gm_totals.specs.Given.{given}

@@ -1,6 +1,6 @@
 -- Some slots, of which one stands alone.
 use Rattle.std.proofs.Common.{◌∙◌, ◌∷◌, [], ap, sym}
-use Rattle.gm_source.specs.declared.slots.Slot.{Slot}
+use Rattle.gm_semantics.specs.declared.slots.Slot.{Slot}
 use Rattle.gm_totals.proofs.Keys.{alone-head}
 use Rattle.gm_totals.proofs.slots.Slots.new.Goals as goal
 

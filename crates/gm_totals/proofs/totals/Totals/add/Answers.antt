@@ -1,7 +1,7 @@
 -- A pot put behind the others, at the place that is kept for its first slot.
 use Rattle.std.proofs.Common.{◌≡◌, ◌∙◌, List, map, [], ◌∷◌, ◌++◌, length, arith, ap, subst, None}
 use Rattle.std.proofs.lemmas.List.{length-map, map-append}
-use Rattle.gm_source.specs.declared.slots.Slot.{Slot}
+use Rattle.gm_semantics.specs.declared.slots.Slot.{Slot}
 use Rattle.gm_totals.specs.declared.totals.Totals.{Totals}
 use Rattle.gm_totals.specs.Given.{given}
 use Rattle.gm_totals.specs.Places.{head_of, HasOneMore}

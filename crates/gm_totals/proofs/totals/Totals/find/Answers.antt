@@ -1,7 +1,7 @@
 -- The place of a target's pot.
 use Rattle.std.proofs.Common.{◌∙◌, ◌<◌, ◌≤◌, length, sym, ap, arith}
-use Rattle.gm_source.specs.declared.slots.Slot.{Slot}
-use Rattle.gm_source.specs.Stores.{slot_eq}
+use Rattle.gm_semantics.specs.declared.slots.Slot.{Slot}
+use Rattle.gm_semantics.specs.Stores.{slot_eq}
 use Rattle.gm_totals.proofs.Placing.{unplaced-none, past-head, other-head, found-here}
 use Rattle.gm_totals.proofs.totals.Totals.find.Goals as goal
 

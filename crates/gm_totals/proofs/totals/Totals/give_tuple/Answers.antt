@@ -1,7 +1,7 @@
 -- A contribution to several slots is put.
 use Rattle.std.proofs.Common.{List, ◌++◌, ◌∷◌, [], sym, subst}
 use Rattle.std.specs.Prelude.{All}
-use Rattle.gm_source.specs.declared.slots.Slot.{Slot}
+use Rattle.gm_semantics.specs.declared.slots.Slot.{Slot}
 use Rattle.gm_store.specs.Held.{HasSlot}
 use Rattle.gm_totals.specs.Given.{given}
 use Rattle.gm_totals.specs.Standing.{StandsFor}

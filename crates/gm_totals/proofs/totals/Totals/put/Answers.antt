@@ -2,7 +2,7 @@
 use Rattle.std.proofs.Common.{◌≡◌, ◌∙◌, ◌<◌, List, Some, get_or, length, sym, ap, subst, refl, arith}
 use Rattle.std.specs.Prelude.{All}
 use Rattle.std.proofs.lemmas.List.{get_or-map, length-map, map-set}
-use Rattle.gm_source.specs.declared.slots.Slot.{Slot}
+use Rattle.gm_semantics.specs.declared.slots.Slot.{Slot}
 use Rattle.gm_store.specs.Held.{HasSlot}
 use Rattle.gm_totals.specs.declared.pots.Pot.{Pot}
 use Rattle.gm_totals.specs.declared.slots.Slots.{Slots}

@@ -1,6 +1,6 @@
 use Rattle.std.proofs.Common.{◌≡◌, ◌<◌, ℕ, false, List, get_or}
-use Rattle.gm_source.specs.declared.slots.Slot.{Slot}
-use Rattle.gm_source.specs.Stores.{slots_eq}
+use Rattle.gm_semantics.specs.declared.slots.Slot.{Slot}
+use Rattle.gm_semantics.specs.Stores.{slots_eq}
 use Rattle.gm_totals.specs.Standing.{targets_of}
 use Rattle.gm_totals.proofs.totals.Totals.search.Given as goal
 

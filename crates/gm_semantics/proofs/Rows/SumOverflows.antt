@@ -1,0 +1,37 @@
+-- The outcome of
+--   Procedure tot(G: Graph, v: N_P<Int>) : Int { Return Sum(n: G.Nodes) {n.v}; }
+use Rattle.std.specs.Prelude.{◌≡◌, true, [], ◌∷◌, pos, Some, refl, codes}
+use Rattle.gm_value.specs.declared.values.VType.TheVariants as V
+use Rattle.gm_value.specs.declared.values.Value.TheVariants.{I32, Flag}
+use Rattle.gm_value.specs.declared.faults.FaultKind.TheVariants.{Overflow}
+use Rattle.gm_graph.specs.Graphs.{NumberedGraph}
+use Rattle.gm_graph.specs.declared.outcomes.Outcome.TheVariants.{Fault}
+use Rattle.gm_ast.specs.declared.surface.ReductionWord.TheVariants as Word
+use Rattle.gm_ast.specs.declared.tree.Sort.TheVariants as Sort
+use Rattle.gm_ast.specs.declared.tree.Stage.TheVariants.{Operator, Total}
+use Rattle.gm_ast.specs.declared.tree.Domain.TheVariants as Domain
+use Rattle.gm_ast.specs.Program.{Const, Property, Folded, Return, Program, sequence}
+use Rattle.gm_semantics.specs.Outcomes.{mean}
+use Rattle.gm_semantics.proofs.Rows.Notation.{place, key, total, declared, head, fold, graph}
+
+abbrev pub sum_overflows_program : Program
+sum_overflows_program = record {
+  name = codes "tot";
+  declarations =
+      declared (codes "G") Sort.Graph V.Node 0 ∷
+      declared (codes "v") Sort.NodeProperty V.I32 0 ∷
+      declared (codes "n") Sort.Iterator V.Node 1 ∷ [];
+  inputs = 2;
+  outputs = 0;
+  result = (Some V.I32);
+  statements = 4;
+  body =
+      (sequence (
+      (Return (key 1 Operator) (place 1 46) (Some (Folded (fold Word.Sum V.I32 (key 2 Operator) (key 3 Operator) (total (key 3 Total) (place 1 73) (place 1 53))) (head 2 Domain.Nodes 0 (place 1 60)) (Const (Flag true)) (Property 2 1 (place 1 70))))) ∷ []));
+}
+
+abbrev pub sum_overflows_graph : NumberedGraph
+sum_overflows_graph = graph (0 ∷ 1 ∷ []) [] (((I32 (pos 2147483647)) ∷ (I32 (pos 1)) ∷ []) ∷ []) []
+
+pub sum_overflows : mean sum_overflows_program sum_overflows_graph [] 1000000 ≡ Fault Overflow (place 1 53)
+sum_overflows = refl

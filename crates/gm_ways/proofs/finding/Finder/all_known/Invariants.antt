@@ -1,7 +1,0 @@
-use Rattle.std.proofs.Common.{◌≡◌, drop}
-use Rattle.gm_ways.specs.Finding.{all_known}
-use Rattle.gm_ways.proofs.finding.Finder.all_known.Given as goal
-
--- the targets that are left give the answer
-abbrev pub invariant-loop-target : goal.invariant-loop-target
-invariant-loop-target l = all_known l.self.locals (drop l.target-index l.targets) ≡ all_known l.self.locals l.targets

@@ -1,5 +1,0 @@
-use Rattle.gm_ways.proofs.Spreading.{drives-more}
-use Rattle.gm_ways.proofs.locals.Locals.follow_each.Goals as goal
-
-pub loop-index-preserved : goal.loop-index-preserved
-loop-index-preserved c = drives-more c.args.links.now c.loop-index.invariant c.in_ok-follow_index.ensures

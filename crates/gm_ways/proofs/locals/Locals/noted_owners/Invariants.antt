@@ -1,9 +1,0 @@
-use Rattle.std.proofs.Common.{◌≡◌, drop}
-use Rattle.std.specs.Prelude.{flat_map}
-use Rattle.gm_ast.specs.Ways.{owner_of}
-use Rattle.gm_ways.specs.Locals.{noted_all}
-use Rattle.gm_ways.proofs.locals.Locals.noted_owners.Given as goal
-
--- what is read so far, with what is left, is all that is read
-abbrev pub invariant-loop-target : goal.invariant-loop-target
-invariant-loop-target l = noted_all l.self l.all (flat_map owner_of (drop l.target-index l.targets)) ≡ noted_all l.self l.fn.reads (flat_map owner_of l.targets)
