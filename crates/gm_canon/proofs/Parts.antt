@@ -1,5 +1,5 @@
 -- How a walker notes what a program's parts break, one after the other.
-use Rattle.std.proofs.Common.{◌≡◌, ℕ, ◌-◌, List, [], ◌∷◌, ◌++◌, length, take, ap, sym, refl, ◌∙◌, arith, length-append}
+use Rattle.std.proofs.Common.{◌≡◌, ℕ, ◌-◌, List, [], ◌∷◌, ◌++◌, length, take, ap, sym, refl, ◌∙◌, arith, length-append, append_assoc, subst}
 use Rattle.std.proofs.Math.Seq.{take-append_seam}
 use Rattle.gm_base.specs.declared.rules.Refusal.{Refusal}
 use Rattle.gm_base.specs.declared.places.Place.{Place}
@@ -28,10 +28,20 @@ pub notes-three : {old one two new : Walker} (f g h : Around → List Refusal)
 notes-three f g h x y z = notes-both f (λ w. g w ++ h w) x (notes-both g h y z)
 
 -- a statement that stands in a sequential phase alone, and its parts
-pub notes-outside : {old one two new : Walker} (at : Place) (f : Around → List Refusal)
-    → Notes old one (sequential_only (around_of old).loops at) → Notes one two (not_inner (around_of one).loops at) → Notes two new (f (around_of two))
+pub notes-outside : {old mid new : Walker} (at : Place) (f : Around → List Refusal)
+    → Notes old mid (sequential_only (around_of old).loops at ++ not_inner (around_of old).loops at) → Notes mid new (f (around_of mid))
     → Notes old new (sequential_only (around_of old).loops at ++ (not_inner (around_of old).loops at ++ f (around_of old)))
-notes-outside at f x y z = notes-three (λ w. sequential_only w.loops at) (λ w. not_inner w.loops at) f x y z
+notes-outside {old = old} {new = new} at f x y =
+    subst (Notes old new) (append_assoc (sequential_only (around_of old).loops at) (not_inner (around_of old).loops at) (f (around_of old)))
+    (notes-both (λ w. sequential_only w.loops at ++ not_inner w.loops at) f x y)
+
+-- two pairs of parts
+pub notes-pairs : {old mid new : Walker} (f g h k : Around → List Refusal)
+    → Notes old mid (f (around_of old) ++ g (around_of old)) → Notes mid new (h (around_of mid) ++ k (around_of mid))
+    → Notes old new (f (around_of old) ++ (g (around_of old) ++ (h (around_of old) ++ k (around_of old))))
+notes-pairs {old = old} {new = new} f g h k x y =
+    subst (Notes old new) (append_assoc (f (around_of old)) (g (around_of old)) (h (around_of old) ++ k (around_of old)))
+    (notes-both (λ w. f w ++ g w) (λ w. h w ++ k w) x y)
 
 -- all but the last of some items and one more
 take-but_last : {A : Type 0} (xs : List A) (y : A) → take (length (xs ++ (y ∷ [])) - 1) (xs ++ (y ∷ [])) ≡ xs

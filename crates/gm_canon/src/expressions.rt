@@ -16,12 +16,6 @@ impl<'a> Walker<'a> {
         ensures { OnOk result (Notes self.old self.new (reads_broken (expr_of e.now) (around_of self.old))) }
     {
         match e {
-            Expr::Const(_) => Ok(()),
-            Expr::Var { .. } => Ok(()),
-            Expr::EdgeProperty { .. } => Ok(()),
-            Expr::NodeCount => Ok(()),
-            Expr::EdgeCount => Ok(()),
-            Expr::Live { .. } => Ok(()),
             Expr::Property { owner, place, .. } => {
                 self.read(*owner, *place);
                 Ok(())
@@ -68,6 +62,7 @@ impl<'a> Walker<'a> {
                 self.leave();
                 Ok(())
             }
+            _ => Ok(()),
         }
     }
 

@@ -4,14 +4,16 @@ ghost use Rattle.std.specs.Prelude.{◌≡◌, OnOk, map, ◌++◌};
 ghost use Rattle.gm_base.specs.Rules.{least_from};
 ghost use Rattle.gm_base.specs.declared.rules.Rule.TheVariants.{C9};
 ghost use Rattle.gm_ast.specs.Loops as Loops;
-ghost use Rattle.gm_ast.specs.Canonical.{ways_broken, sequential_only, not_inner, forms_broken};
-ghost use Rattle.gm_ast.specs.Program.{sequence};
+ghost use Rattle.gm_ast.specs.Canonical.{Filter, Search, within, ways_broken, reads_broken, forms_broken};
+ghost use Rattle.gm_ast.specs.declared.tree.Key.{Key};
+ghost use Rattle.gm_ast.specs.Program.{Foreach, For, sequence};
 ghost use Rattle.gm_ast.specs.Tree.{expr_of, stmt_of};
 ghost use Rattle.gm_canon.specs.Around.{around_of, Notes};
 
 use crate::loops::{Code, is_directly_parallel};
 use crate::walks::{Walker, target_place};
 use gm_ast::tree::{Expr, Head, Stmt};
+use gm_base::Place;
 use gm_push_pull::ways_in_loop;
 use std::alloc::{AllocError, Global};
 
@@ -44,54 +46,98 @@ impl<'a> Walker<'a> {
         Ok(())
     }
 
+    // Judges the filter and the body of a search, or those of its way back.
+    #[cycle(forms)]
+    fn searched(
+        &mut self,
+        alloc: Global,
+        iterator: u32,
+        body: &Stmt,
+        filter: &Expr,
+    ) -> Result<(), AllocError>
+        ensures { OnOk result (Notes self.old self.new (reads_broken (expr_of filter.now) (within (around_of self.old) Filter iterator)
+            ++ forms_broken (stmt_of body.now) (within (around_of self.old) Search iterator))) }
+    {
+        self.reads_within(Code::Filter, iterator, filter)?;
+        self.enter(Code::Search, iterator)?;
+        self.forms(alloc, body)?;
+        self.leave();
+        Ok(())
+    }
+
+    // Judges a parallel loop.
+    #[cycle(forms)]
+    fn foreach(
+        &mut self,
+        alloc: Global,
+        place: Place,
+        head: &Head,
+        body: &Stmt,
+        filter: &Expr,
+    ) -> Result<(), AllocError>
+        ensures { (key : Key) → OnOk result (Notes self.old self.new (forms_broken (Foreach key place head.now (expr_of filter.now) (stmt_of body.now)) (around_of self.old))) }
+    {
+        self.not_inner(place);
+        self.range(*head);
+        self.reads_within(Code::Body, head.iterator, filter)?;
+        self.enter(Code::Body, head.iterator)?;
+        self.forms(alloc, body)?;
+        self.leave();
+        self.ways(alloc, head, filter, body)?;
+        Ok(())
+    }
+
+    // Judges a sequential loop.
+    #[cycle(forms)]
+    fn for_loop(
+        &mut self,
+        alloc: Global,
+        place: Place,
+        head: &Head,
+        body: &Stmt,
+        filter: &Expr,
+    ) -> Result<(), AllocError>
+        ensures { (key : Key) → OnOk result (Notes self.old self.new (forms_broken (For key place head.now (expr_of filter.now) (stmt_of body.now)) (around_of self.old))) }
+    {
+        self.phase_only(place);
+        self.range(*head);
+        self.reads(filter)?;
+        self.forms(alloc, body)?;
+        Ok(())
+    }
+
     // Judges a statement.
     #[cycle(forms)]
     pub fn forms(&mut self, alloc: Global, s: &Stmt) -> Result<(), AllocError>
         ensures { OnOk result (Notes self.old self.new (forms_broken (stmt_of s.now) (around_of self.old))) }
     {
         match s {
-            Stmt::Block(stmts) => {
-                self.block(alloc, stmts)?;
-                Ok(())
-            }
-            Stmt::Declare { value, .. } => {
-                self.optional(value)?;
-                Ok(())
-            }
+            Stmt::Block(stmts) => self.block(alloc, stmts)?,
+            Stmt::Declare { value, .. } => self.optional(value)?,
             Stmt::DeclareEdge {
                 iterator,
                 place,
                 ..
-            } => {
-                self.edge(*iterator, *place);
-                Ok(())
-            }
+            } => self.edge(*iterator, *place),
             Stmt::Assign { target, value, .. } => {
                 self.assignment(*target);
                 self.reads(value)?;
-                Ok(())
             }
             Stmt::Defer { target, value, .. } => {
                 let place = target_place(*target);
                 self.parallel_only(place);
                 self.not_inner(place);
                 self.reads(value)?;
-                Ok(())
             }
-            Stmt::Reduce { values, .. } => {
-                self.all(values)?;
-                Ok(())
-            }
+            Stmt::Reduce { values, .. } => self.all(values)?,
             Stmt::Group {
                 place,
                 graph,
                 value,
                 ..
             } => {
-                self.sequential_only(*place);
-                self.not_inner(*place);
+                self.phase_only(*place);
                 self.reads_within(Code::Group, *graph, value)?;
-                Ok(())
             }
             Stmt::Foreach {
                 place,
@@ -99,35 +145,18 @@ impl<'a> Walker<'a> {
                 filter,
                 body,
                 ..
-            } => {
-                self.not_inner(*place);
-                self.range(*head);
-                self.reads_within(Code::Body, head.iterator, filter)?;
-                self.enter(Code::Body, head.iterator)?;
-                self.forms(alloc, body)?;
-                self.leave();
-                self.ways(alloc, head, filter, body)?;
-                Ok(())
-            }
+            } => self.foreach(alloc, *place, head, body, filter)?,
             Stmt::For {
                 place,
                 head,
                 filter,
                 body,
                 ..
-            } => {
-                self.sequential_only(*place);
-                self.not_inner(*place);
-                self.range(*head);
-                self.reads(filter)?;
-                self.forms(alloc, body)?;
-                Ok(())
-            }
+            } => self.for_loop(alloc, *place, head, body, filter)?,
             Stmt::If { test, yes, no, .. } => {
                 self.reads(test)?;
                 self.forms(alloc, yes)?;
                 self.forms(alloc, no)?;
-                Ok(())
             }
             Stmt::While {
                 place,
@@ -135,11 +164,9 @@ impl<'a> Walker<'a> {
                 body,
                 ..
             } => {
-                self.sequential_only(*place);
-                self.not_inner(*place);
+                self.phase_only(*place);
                 self.reads(test)?;
                 self.forms(alloc, body)?;
-                Ok(())
             }
             Stmt::Do {
                 place,
@@ -147,11 +174,9 @@ impl<'a> Walker<'a> {
                 test,
                 ..
             } => {
-                self.sequential_only(*place);
-                self.not_inner(*place);
+                self.phase_only(*place);
                 self.forms(alloc, body)?;
                 self.reads(test)?;
-                Ok(())
             }
             Stmt::InBfs {
                 place,
@@ -160,13 +185,8 @@ impl<'a> Walker<'a> {
                 body,
                 ..
             } => {
-                self.sequential_only(*place);
-                self.not_inner(*place);
-                self.reads_within(Code::Filter, search.iterator, filter)?;
-                self.enter(Code::Search, search.iterator)?;
-                self.forms(alloc, body)?;
-                self.leave();
-                Ok(())
+                self.phase_only(*place);
+                self.searched(alloc, search.iterator, body, filter)?;
             }
             Stmt::InBfsBoth {
                 place,
@@ -177,24 +197,15 @@ impl<'a> Walker<'a> {
                 back,
                 ..
             } => {
-                self.sequential_only(*place);
-                self.not_inner(*place);
-                self.reads_within(Code::Filter, search.iterator, filter)?;
-                self.enter(Code::Search, search.iterator)?;
-                self.forms(alloc, body)?;
-                self.leave();
-                self.reads_within(Code::Filter, search.iterator, back_filter)?;
-                self.enter(Code::Search, search.iterator)?;
-                self.forms(alloc, back)?;
-                self.leave();
-                Ok(())
+                self.phase_only(*place);
+                self.searched(alloc, search.iterator, body, filter)?;
+                self.searched(alloc, search.iterator, back, back_filter)?;
             }
             Stmt::Return { place, value, .. } => {
-                self.sequential_only(*place);
-                self.not_inner(*place);
+                self.phase_only(*place);
                 self.optional(value)?;
-                Ok(())
             }
         }
+        Ok(())
     }
 }

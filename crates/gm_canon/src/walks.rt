@@ -1,6 +1,6 @@
 //! A walk over a program: what stands around the part that is judged, and the least violation so far.
 
-ghost use Rattle.std.specs.Prelude.{◌≡◌, List, [], ◌∷◌, OnOk, None, not};
+ghost use Rattle.std.specs.Prelude.{◌≡◌, List, [], ◌∷◌, ◌++◌, OnOk, None, not};
 ghost use Rattle.gm_base.specs.declared.rules.Rule.TheVariants.{C9};
 ghost use Rattle.gm_base.specs.Rules.{broken_at, least};
 ghost use Rattle.gm_base.specs.declared.rules.Refusal.{Refusal};
@@ -118,7 +118,7 @@ impl<'a> Walker<'a> {
     }
 
     // Notes a statement that may stand in a sequential phase alone.
-    pub fn sequential_only(&mut self, place: Place)
+    fn sequential_only(&mut self, place: Place)
         ensures { Notes self.old self.new (sequential_only (around_of self.old).loops place) }
     {
         let parallel = is_parallel(&self.loops);
@@ -139,6 +139,14 @@ impl<'a> Walker<'a> {
     {
         let inner = is_inner(&self.loops);
         self.note_if(inner, Rule::C6, place);
+    }
+
+    // Notes a statement that may stand in a sequential phase alone, and so in no inner body.
+    pub fn phase_only(&mut self, place: Place)
+        ensures { Notes self.old self.new (sequential_only (around_of self.old).loops place ++ not_inner (around_of self.old).loops place) }
+    {
+        self.sequential_only(place);
+        self.not_inner(place);
     }
 
     // How many parallel loops are around a scalar's declaration.

@@ -46,18 +46,7 @@ fn add_inside(alloc: Global, s: &Stmt, ways: &mut Vec<Way>) -> Result<(), AllocE
             ways.extend_from_slice(&found.ways)?;
             Ok(())
         }
-        Stmt::Declare { .. } => Ok(()),
-        Stmt::DeclareEdge { .. } => Ok(()),
-        Stmt::Assign { .. } => Ok(()),
-        Stmt::Defer { .. } => Ok(()),
-        Stmt::Reduce { .. } => Ok(()),
-        Stmt::Group { .. } => Ok(()),
-        Stmt::For { .. } => Ok(()),
-        Stmt::While { .. } => Ok(()),
-        Stmt::Do { .. } => Ok(()),
-        Stmt::InBfs { .. } => Ok(()),
-        Stmt::InBfsBoth { .. } => Ok(()),
-        Stmt::Return { .. } => Ok(()),
+        _ => Ok(()),
     }
 }
 
@@ -112,13 +101,7 @@ fn add_in(alloc: Global, s: &Stmt, ways: &mut Vec<Way>) -> Result<(), AllocError
             add_inside(alloc, back, ways)?;
             Ok(())
         }
-        Stmt::Declare { .. } => Ok(()),
-        Stmt::DeclareEdge { .. } => Ok(()),
-        Stmt::Assign { .. } => Ok(()),
-        Stmt::Defer { .. } => Ok(()),
-        Stmt::Reduce { .. } => Ok(()),
-        Stmt::Group { .. } => Ok(()),
-        Stmt::Return { .. } => Ok(()),
+        _ => Ok(()),
     }
 }
 

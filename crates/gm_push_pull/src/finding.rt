@@ -147,18 +147,7 @@ impl Finder {
                 self.add(targets, reads)?;
                 Ok(())
             }
-            Stmt::Declare { .. }
-            | Stmt::DeclareEdge { .. }
-            | Stmt::Assign { .. }
-            | Stmt::Defer { .. }
-            | Stmt::Group { .. }
-            | Stmt::Foreach { .. }
-            | Stmt::For { .. }
-            | Stmt::While { .. }
-            | Stmt::Do { .. }
-            | Stmt::InBfs { .. }
-            | Stmt::InBfsBoth { .. }
-            | Stmt::Return { .. } => Ok(()),
+            _ => Ok(()),
         }
     }
 }

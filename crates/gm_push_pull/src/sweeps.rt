@@ -52,17 +52,7 @@ impl Locals {
                 self.declare(*variable)?;
                 Ok(())
             }
-            Stmt::Assign { .. }
-            | Stmt::Defer { .. }
-            | Stmt::Reduce { .. }
-            | Stmt::Group { .. }
-            | Stmt::Foreach { .. }
-            | Stmt::For { .. }
-            | Stmt::While { .. }
-            | Stmt::Do { .. }
-            | Stmt::InBfs { .. }
-            | Stmt::InBfsBoth { .. }
-            | Stmt::Return { .. } => Ok(()),
+            _ => Ok(()),
         }
     }
 

@@ -259,16 +259,7 @@ impl Web {
                 self.feed_each(site, targets)?;
                 Ok(())
             }
-            Stmt::DeclareEdge { .. }
-            | Stmt::Defer { .. }
-            | Stmt::Group { .. }
-            | Stmt::Foreach { .. }
-            | Stmt::For { .. }
-            | Stmt::While { .. }
-            | Stmt::Do { .. }
-            | Stmt::InBfs { .. }
-            | Stmt::InBfsBoth { .. }
-            | Stmt::Return { .. } => Ok(()),
+            _ => Ok(()),
         }
     }
 }
