@@ -50,7 +50,7 @@ told_road words options before after = record {
 told_right : (words : List (List ℕ)) (options : Options) (before after : List (List Note)) → IsRightRoad (told_road words options before after)
 told_right words options before after = record {
   stands = λ whole p stands. whole_stands most_image whole p refl stands;
-  bad = λ whole text status no. no;
+  bad = λ whole text status never. never;
   short = λ bytes p stands. let few : length bytes ≤ most_bytes = stands.short in omega (arith, few);
   over = λ p whole text status answer. text_answer_front options.format (shape_of p) (inputs_of p) words (λ g args said ends. IsToldInPart (noted p g args options.turns) before after) whole [] Done answer;
 }
@@ -58,7 +58,7 @@ told_right words options before after = record {
 told_of_reply : (words : List (List ℕ)) (options : Options) (image graph : List ℕ) (b a : Outside) (before after : List (List Note))
     → IsReply (told_road words options before after) image graph b a [] Done → AreTold image graph words options b a before after
 told_of_reply words options image graph b a before after (no_code said) = absurd (done_not_fault said.says.1)
-told_of_reply words options image graph b a before after (bad_code whole code no) = absurd no
+told_of_reply words options image graph b a before after (bad_code whole code never) = absurd never
 told_of_reply words options image graph b a before after (no_graph two m whole code p stands said) = absurd (done_not_fault said.says.1)
 told_of_reply words options image graph b a before after (over whole text texts p stands holds) =
     both_read whole text texts p stands (told_of_answer p words options before after text holds)

@@ -44,15 +44,10 @@ impl Observer for Listener {
 }
 
 // An observer with memory for so many notes.
-fn listener(
-    alloc: Global,
-    most: usize,
-    heard: &Rc<Cell<u64>>,
-) -> Result<Box<dyn Observer>, NoMemory> {
+fn listening(alloc: Global, most: usize, heard: &Rc<Cell<u64>>) -> Result<Listener, NoMemory> {
     let notes = Vec::new(alloc);
     let heard = Rc::clone(heard)?;
-    let boxed: Box<dyn Observer> = Box::new(alloc, Listener { notes, most, heard })?;
-    Ok(boxed)
+    Ok(Listener { notes, most, heard })
 }
 
 // An image that takes a superstep in each turn, and turns forever.
@@ -102,15 +97,12 @@ fn is_heard(
     let middle = Rc::new(alloc, Cell::new(0u64))?;
     let last = Rc::new(alloc, Cell::new(0u64))?;
     let mut observers: Vec<Box<dyn Observer>> = Vec::new(alloc);
-    observers
-        .push(listener(alloc, 9, &first)?)
-        .map_err(NoMemory::from)?;
-    observers
-        .push(listener(alloc, most, &middle)?)
-        .map_err(NoMemory::from)?;
-    observers
-        .push(listener(alloc, 9, &last)?)
-        .map_err(NoMemory::from)?;
+    let before_it: Box<dyn Observer> = Box::new(alloc, listening(alloc, 9, &first)?)?;
+    observers.push(before_it)?;
+    let forgetful: Box<dyn Observer> = Box::new(alloc, listening(alloc, most, &middle)?)?;
+    observers.push(forgetful)?;
+    let behind_it: Box<dyn Observer> = Box::new(alloc, listening(alloc, 9, &last)?)?;
+    observers.push(behind_it)?;
     let mut source = MemSource::new(joined(alloc, image, VALUES)?, 7, Vec::new(alloc));
     let mut files = no_files(alloc);
     let mut sink = MemSink::new(alloc, 5, Vec::new(alloc), 1000)?;

@@ -1,6 +1,7 @@
 use Rattle.std.proofs.Common.{◌≡◌, ◌≤◌, ◌<◌, ◌∙◌, List, [], ◌∷◌, length, get_or, ap, sym, arith}
 use Rattle.gm_value.specs.declared.values.Value.{Value}
 use Rattle.gm_graph.specs.declared.outcomes.Outcome.TheVariants.{Done}
+use Rattle.gm_driver.proofs.DemoLemmas.{other-unended}
 use Rattle.gm_driver.proofs.demos.outcome_line.Goals as goal
 
 -- a list of one item
@@ -20,3 +21,6 @@ returns-clause-line c =
       ended = c.in-Done.is ∙ ap (λ (ps : List (List Value)). Done c.in-Done.scalars c.in-Done.result ps c.in-Done.turns) (sym c.as_slice.ensures ∙ one);
       says = c.in_ok-demo_line.ensures;
     }
+
+pub returns-in_default-clause-other : goal.returns-in_default-clause-other
+returns-in_default-clause-other c = other-unended c.args.outcome.now c.in_default.not-Done
