@@ -7,3 +7,13 @@ pub mod Blocks
 pub mod Procedures
 pub mod Types
 pub mod TypedStatements
+pub mod Placing
+pub mod Racing
+pub mod Alike
+pub mod PlacedExpressions
+pub mod PlacedStatements
+pub mod CheckedForms
+pub mod Rises
+pub mod PlacedProcedures
+pub mod Readiness
+pub mod Counterexamples

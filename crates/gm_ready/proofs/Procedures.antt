@@ -25,15 +25,15 @@ use Rattle.gm_ready.proofs.TypedStatements.{IsTypedStmt, checked-typed}
 
 -- ---- how many declarations there are
 
-names-next : (v : Variable) (xs : List SurfaceName) (env : Env) → (with_names v xs env).next ≡ env.next + length xs
+pub names-next : (v : Variable) (xs : List SurfaceName) (env : Env) → (with_names v xs env).next ≡ env.next + length xs
 names-next v [] env = let e : env.next ≡ env.next + zero = omega arith in e
 names-next v (x ∷ xs) env = let e : env.next + 1 + length xs ≡ env.next + suc (length xs) = omega arith in names-next v xs (with_name env x v) ∙ e
 
-names-declared : (v : Variable) (xs : List SurfaceName) (env : Env) → length (declared_all v xs env).declared ≡ length xs
+pub names-declared : (v : Variable) (xs : List SurfaceName) (env : Env) → length (declared_all v xs env).declared ≡ length xs
 names-declared v [] env = refl
 names-declared v (x ∷ xs) env = ap suc (names-declared v xs (with_name env x v))
 
-parameters-next : (gs : List SurfaceGroup) (env : Env) → (with_parameters gs env).next ≡ env.next + count_names gs
+pub parameters-next : (gs : List SurfaceGroup) (env : Env) → (with_parameters gs env).next ≡ env.next + count_names gs
 parameters-next [] env = let e : env.next ≡ env.next + zero = omega arith in e
 parameters-next (g ∷ gs) env =
     let v = variable_of g.vtype 0 in
@@ -42,7 +42,7 @@ parameters-next (g ∷ gs) env =
     let rest : (with_parameters gs inner).next ≡ inner.next + count_names gs = parameters-next gs inner in
     omega (arith, one, rest)
 
-parameters-declared : (gs : List SurfaceGroup) (env : Env) → length (parameters gs env).declared ≡ count_names gs
+pub parameters-declared : (gs : List SurfaceGroup) (env : Env) → length (parameters gs env).declared ≡ count_names gs
 parameters-declared [] env = refl
 parameters-declared (g ∷ gs) env =
     let v = variable_of g.vtype 0 in
@@ -59,7 +59,7 @@ at-seam front rest d =
     let size : length (front ++ (d ∷ rest)) ≡ length front + suc (length rest) = length-append front (d ∷ rest) in
     slice_get-get_or (front ++ (d ∷ rest)) (length front) d (omega (arith, size)) ∙ ap Some (get_or-append_seam front d rest d)
 
-has-behind : (ds front rest : List Declaration) → ds ≡ front ++ rest → Has ds (length front) rest
+pub has-behind : (ds front rest : List Declaration) → ds ≡ front ++ rest → Has ds (length front) rest
 has-behind ds front [] e = tt
 has-behind ds front (d ∷ rest) e =
     let size : length (front ++ (d ∷ [])) ≡ length front + 1 = length-append front (d ∷ []) in
@@ -77,7 +77,7 @@ module _ (ds : List Declaration) where
       parameters-known gs inner (names-known ds v g.names env env (variable-nodes g.vtype 0) known parts.0) (subst (λ n. Has ds n (parameters gs inner).declared) at parts.1)
 
 -- where the declarations of the body begin
-at-body : (p : SurfaceProcedure) → 0 + length ((parameters p.inputs (nothing_known (result_of p))).declared ++ (parameters p.outputs (env_of_outputs p)).declared) ≡ (env_of_body p).next
+pub at-body : (p : SurfaceProcedure) → 0 + length ((parameters p.inputs (nothing_known (result_of p))).declared ++ (parameters p.outputs (env_of_outputs p)).declared) ≡ (env_of_body p).next
 at-body p =
     let ins = (parameters p.inputs (nothing_known (result_of p))).declared in
     let outs = (parameters p.outputs (env_of_outputs p)).declared in
@@ -116,7 +116,7 @@ body-result : (p : SurfaceProcedure) → (env_of_body p).result ≡ result_of p
 body-result p = parameters-result p.outputs (env_of_outputs p) ∙ parameters-result p.inputs (nothing_known (result_of p))
 
 -- what holds of a body wherever it stands, in the table of all declarations of its procedure
-body-in : (p : SurfaceProcedure) (Q : Stmt → Type 0) → Gives (parts_of p).declared Q (env_of_body p).next (numbered (checked p.body) (env_of_body p)) → (parts_of p).broken ≡ []
+pub body-in : (p : SurfaceProcedure) (Q : Stmt → Type 0) → Gives (parts_of p).declared Q (env_of_body p).next (numbered (checked p.body) (env_of_body p)) → (parts_of p).broken ≡ []
     → IfPart (λ q. Unit {0} × (Unit {0} × Q q.1.1)) (parts_of p).part
 body-in p Q gives clean =
     let ds = (parts_of p).declared in

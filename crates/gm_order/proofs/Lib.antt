@@ -1,0 +1,16 @@
+mod Parts
+mod Constants
+mod Picks
+mod Befores
+mod Keeping
+mod OrderedExpressions
+mod OrderedTyping
+mod Shapes
+mod OrderedBodies
+mod OrderedPhases
+mod Samples
+mod Ascending
+mod SpelledTrees
+mod SpelledStatements
+mod Spelled
+mod Ordered

@@ -1,0 +1,482 @@
+-- Faults in the bodies of parallel loops of a text stand in order.
+use Rattle.std.proofs.Common.{◌≡◌, ◌+◌, ◌<◌, ◌≤◌, ℕ, pos, Bool, true, false, List, [], ◌∷◌, ◌++◌, map, refl, sym, ap, subst, ◌∙◌, arith, Option, Some, None}
+use Rattle.std.specs.Prelude.{◌&&◌, nat_eq, is_none, Ok}
+use Rattle.std.specs.Cmp.Derive.{both_true}
+use Rattle.std.proofs.lemmas.Bool.{false≢true}
+use Rattle.gm_base.specs.declared.places.Place.{Place}
+use Rattle.gm_base.specs.declared.rules.Rule.{Rule}
+use Rattle.gm_base.specs.declared.rules.Rule.TheVariants.{T9, T11, T14}
+use Rattle.gm_value.specs.declared.values.VType.{VType}
+use Rattle.gm_value.specs.declared.values.VType.TheVariants.{I32, I64, Flag, Node}
+use Rattle.gm_value.specs.declared.values.Value.TheVariants as V
+use Rattle.gm_value.specs.declared.reductions.Reduce.{Reduce}
+use Rattle.gm_value.specs.declared.reductions.Reduce.TheVariants as R
+use Rattle.gm_ast.specs.declared.tree.Head.{Head}
+use Rattle.gm_ast.specs.declared.tree.Key.{Key}
+use Rattle.gm_ast.specs.declared.tree.Sort.{Sort}
+use Rattle.gm_ast.specs.declared.tree.Sort.TheVariants as Sorts
+use Rattle.gm_ast.specs.declared.tree.Target.{Target}
+use Rattle.gm_ast.specs.declared.tree.Target.TheVariants as T
+use Rattle.gm_ast.specs.declared.tree.TotalKey.{TotalKey}
+use Rattle.gm_ast.specs.declared.kinds.Goal.{Goal}
+use Rattle.gm_ast.specs.declared.kinds.Role.TheVariants.{Local}
+use Rattle.gm_ast.specs.declared.surface.LoopWord.{LoopWord}
+use Rattle.gm_ast.specs.declared.surface.LoopWord.TheVariants as Loop
+use Rattle.gm_ast.specs.Surface.{SurfaceName, SurfaceType, SurfaceTarget, SurfaceExpr, SurfaceStmt}
+use Rattle.gm_ast.specs.Surface as S
+use Rattle.gm_ast.specs.Program as P
+use Rattle.gm_ast.specs.Program.{Expr, Stmt}
+use Rattle.gm_ast.specs.Canonical as C
+use Rattle.gm_ast.specs.Canonical.{Around, is_parallel, within, reads_broken, all_broken, option_broken, forms_broken, assignment_broken, parallel_only, not_inner, range_broken}
+use Rattle.gm_ast.specs.Loops.{target_place}
+use Rattle.gm_ast.specs.Judged.{Judged, Answer, judge, beside, noted, ok_of, refused_unless, then_answer}
+use Rattle.gm_ast.specs.Keys.{Fault, fault_lt, total_fault, all_before}
+use Rattle.gm_ast.specs.Names.{Env, known_as, both, judged_each, iterated, inside, later, operators_of, numbered, declared_as, an_iterator}
+use Rattle.gm_ast.specs.Kinds.{Part, fitted}
+use Rattle.gm_ast.specs.Typing.{typed, start_of, ranged, head_with}
+use Rattle.gm_ast.specs.Statements.{group_target, in_group, goal, fits_goal, reduces, first_wanted, total_at, fits_each, all_answers, combined, one_of, incremented, goals, typed_all, goals_together, reduced, names_graph, grouped, assigned, deferred, assignment, returned, at_iterator, type_broken, sort_of, vtype_of, variable_of, declared_all, plain_declarations, declarations_as, declared_plainly, edge_declared, edge_owner, declared_value, declared_typed, declared_with, following, loops_of, loop_of, test, graph_searched, rooted, search_of, searched, checked}
+use Rattle.gm_forms.proofs.Named.{both-true}
+use Rattle.gm_forms.specs.Order.{lie_before, rest_in, hoisted_in, hoists_in_order, faults_in, in_order, faults_in_option, option_in_order, faults_in_all, hoisted_in_all, all_in_order, target_faults, targets_faults, faults_of, body_in_order, loop_in_order}
+use Rattle.gm_ready.proofs.Judging.{IfPart, if-by, if-both, if-good, if-then, append-empty}
+use Rattle.gm_order.specs.Places.{ascend, places_of_each, places_in, places_of_target, place_of_option, places_of}
+use Rattle.gm_order.specs.Totals.{totals_behind, all_behind, body_behind}
+use Rattle.gm_order.proofs.Parts.{anything, if-with, if-judged}
+use Rattle.gm_order.proofs.Befores.{Each, each-append, each-map, before-one, before-append, lie, nothing-before, inner, operators, totals, KeyBefore, stage-before, statement-before, At, lie-keys, ascend-tail, ascend-left, ascend-right}
+use Rattle.gm_order.proofs.Keeping.{KeptPart, Keeps, fitted-kept, condition-kept}
+use Rattle.gm_order.proofs.OrderedExpressions.{Ordered, InParallel, parallel-kept}
+use Rattle.gm_order.proofs.OrderedTyping.{not-zero, Parallel, parallel-typed}
+use Rattle.gm_order.proofs.Shapes.{shaped}
+
+-- ---- faults under the numbers of a statement
+
+abbrev pub In : ℕ → ℕ → Fault → Type 0
+In lo hi f = (lo ≤ f.key.statement) × (f.key.statement < hi)
+
+under : (n hi : ℕ) (k : Key) (ps : List Place) (xs : List Fault) → k.statement ≡ n → n < hi → Each (At k ps) xs → Each (In n hi) xs
+under n hi k ps xs e lt h = each-map (At k ps) (In n hi) xs (λ f a. let s : f.key.statement ≡ k.statement = ap (λ (j : Key). j.statement) a.0 in (omega (arith, e, s), omega (arith, e, s, lt))) h
+
+wider-in : (lo hi a b : ℕ) (xs : List Fault) → a ≤ lo → hi ≤ b → Each (In lo hi) xs → Each (In a b) xs
+wider-in lo hi a b xs l h each = each-map (In lo hi) (In a b) xs (λ f k. let k0 = k.0 in let k1 = k.1 in (omega (arith, l, k0), omega (arith, h, k1))) each
+
+pub in-apart : (a b c d : ℕ) (xs ys : List Fault) → b ≤ c → Each (In a b) xs → Each (In c d) ys → lie_before xs ys ≡ true
+in-apart a b c d xs ys le h g = lie (In a b) (In c d) xs ys h g (λ f e x y. let p = x.1 in let q = y.0 in statement-before f.key e.key (omega (arith, p, q, le)) f.place e.place)
+
+abbrev pub InBody : ℕ → ℕ → Stmt → Type 0
+InBody lo hi s = Each (In lo hi) (faults_of s) × ((w : Around) → is_parallel w.loops ≡ true → forms_broken s w ≡ [] → body_behind s ≡ true → body_in_order s ≡ true)
+
+wider-body : (lo hi a b : ℕ) (s : Stmt) → a ≤ lo → hi ≤ b → InBody lo hi s → InBody a b s
+wider-body lo hi a b s l h k = (wider-in lo hi a b (faults_of s) l h k.0, k.1)
+
+-- ---- an expression of a statement
+
+module _ (n : ℕ) (k : Key) (key : k ≡ operators n) where
+  pub inner-before : KeyBefore (inner n) k
+  inner-before = subst (KeyBefore (inner n)) (sym key) (stage-before (inner n) (operators n) refl refl)
+
+  statement : k.statement ≡ n
+  statement = ap (λ (j : Key). j.statement) key
+
+  expr-faults : (hi : ℕ) (ps : List Place) (e : Expr) → n < hi → InParallel n ps e → Each (In n hi) (faults_in e k)
+  expr-faults hi ps e lt h = each-append (In n hi) (hoisted_in e) (rest_in e k) (under n hi (inner n) ps (hoisted_in e) refl lt h.0) (under n hi k ps (rest_in e k) statement lt (h.1 k))
+
+  pub expr-order : (ps : List Place) (e : Expr) → InParallel n ps e → hoists_in_order e ≡ true → in_order e k ≡ true
+  expr-order ps e h o = both_true o (lie-keys (inner n) k ps ps (hoisted_in e) (rest_in e k) inner-before h.0 (h.1 k))
+
+  -- what is under the statement's key
+  abbrev Under : Fault → Type 0
+  Under f = f.key ≡ k
+
+  target-under : (t : Target) → Each Under (target_faults t k)
+  target-under (T.Scalar x at) = tt
+  target-under (T.Property x p at) = (refl, tt)
+
+  targets-under : (ts : List Target) → Each Under (targets_faults ts k)
+  targets-under [] = tt
+  targets-under (t ∷ ts) = each-append Under (target_faults t k) (targets_faults ts k) (target-under t) (targets-under ts)
+
+  under-in : (hi : ℕ) (xs : List Fault) → n < hi → Each Under xs → Each (In n hi) xs
+  under-in hi xs lt h = each-map Under (In n hi) xs (λ f e. let s : f.key.statement ≡ n = ap (λ (j : Key). j.statement) e ∙ statement in (omega (arith, s), omega (arith, s, lt))) h
+
+  hoisted-under : (ps : List Place) (xs ys : List Fault) → Each (At (inner n) ps) xs → Each Under ys → lie_before xs ys ≡ true
+  hoisted-under ps xs ys h g = lie (At (inner n) ps) Under xs ys h g
+      (λ a b x y. subst (λ i. fault_lt (record { key = i; place = a.place }) b ≡ true) (sym x.0) (subst (λ i. fault_lt (record { key = inner n; place = a.place }) (record { key = i; place = b.place }) ≡ true) (sym y) (inner-before a.place b.place)))
+
+  targeted : (hi : ℕ) (ps : List Place) (t : Target) (e : Expr) → n < hi → InParallel n ps e → Each (In n hi) (target_faults t k ++ faults_in e k)
+  targeted hi ps t e lt h = each-append (In n hi) (target_faults t k) (faults_in e k) (under-in hi (target_faults t k) lt (target-under t)) (expr-faults hi ps e lt h)
+
+  assign-body : (hi : ℕ) (ps : List Place) (t : Target) (e : Expr) → n < hi → InParallel n ps e → InBody n hi (P.Assign k t e)
+  assign-body hi ps t e lt h = (
+    targeted hi ps t e lt h,
+    λ w p r b.
+        let s = append-empty (assignment_broken w t) (reads_broken e w) r in
+        both_true (expr-order ps e h (h.2 w p s.1 b)) (hoisted-under ps (hoisted_in e) (target_faults t k) h.0 (target-under t)),
+  )
+
+  defer-body : (hi : ℕ) (ps : List Place) (t : Target) (e : Expr) → n < hi → InParallel n ps e → InBody n hi (P.Defer k t e)
+  defer-body hi ps t e lt h = (
+    targeted hi ps t e lt h,
+    λ w p r b.
+        let s = append-empty (parallel_only w.loops (target_place t)) (not_inner w.loops (target_place t) ++ reads_broken e w) r in
+        let u = append-empty (not_inner w.loops (target_place t)) (reads_broken e w) s.1 in
+        both_true (expr-order ps e h (h.2 w p u.1 b)) (hoisted-under ps (hoisted_in e) (target_faults t k) h.0 (target-under t)),
+  )
+
+  declare-body : (hi : ℕ) (ps : List Place) (x : ℕ) (e : Expr) → n < hi → InParallel n ps e → InBody n hi (P.Declare k x (Some e))
+  declare-body hi ps x e lt h = (expr-faults hi ps e lt h, λ w p r b. expr-order ps e h (h.2 w p r b))
+
+  -- ---- several expressions
+
+  abbrev Somewhere : Expr → Type 0
+  Somewhere e = (ps : List Place) × InParallel n ps e
+
+  abbrev AllIn : List Expr → Type 0
+  AllIn [] = Unit {0}
+  AllIn (e ∷ es) = Somewhere e × AllIn es
+
+  abbrev Hoisted : Fault → Type 0
+  Hoisted f = f.key ≡ inner n
+
+  all-hoisted : (es : List Expr) → AllIn es → Each Hoisted (hoisted_in_all es)
+  all-hoisted [] h = tt
+  all-hoisted (e ∷ es) h = each-append Hoisted (hoisted_in e) (hoisted_in_all es) (each-map (At (inner n) h.0.0) Hoisted (hoisted_in e) (λ f a. a.0) h.0.1.0) (all-hoisted es h.1)
+
+  all-faults : (hi : ℕ) (es : List Expr) → n < hi → AllIn es → Each (In n hi) (faults_in_all es k)
+  all-faults hi [] lt h = tt
+  all-faults hi (e ∷ es) lt h = each-append (In n hi) (faults_in e k) (faults_in_all es k) (expr-faults hi h.0.0 e lt h.0.1) (all-faults hi es lt h.1)
+
+  all-order : (es : List Expr) → AllIn es → (w : Around) → is_parallel w.loops ≡ true → all_broken es w ≡ [] → all_behind totals_behind es ≡ true → all_in_order es k ≡ true
+  all-order [] h w p r b = refl
+  all-order (e ∷ es) h w p r b =
+      let s = append-empty (reads_broken e w) (all_broken es w) r in
+      let t = both-true (totals_behind e) (all_behind totals_behind es) b in
+      both_true (expr-order h.0.0 e h.0.1 (h.0.1.2 w p s.0 t.0)) (all-order es h.1 w p s.1 t.1)
+
+  -- a fault of the statement that is not of an inner reduction
+  abbrev Later : Fault → Type 0
+  Later f = KeyBefore (inner n) f.key × (f.key.statement ≡ n)
+
+  combine-body : (hi : ℕ) (at : Place) (op : Reduce) (ts : List Target) (es : List Expr) → n < hi → AllIn es → InBody n hi (P.Combine k (total_at k at) op ts es)
+  combine-body hi at op ts es lt h =
+      let total = total_at k at in
+      let own : List Fault = record { key = k; place = total.place } ∷ (total_fault total ∷ []) in
+      let own-later : Each Later own = ((inner-before, statement), ((stage-before (inner n) total.key (sym statement) refl, statement), tt)) in
+      let ends : Each Later (targets_faults ts k ++ own) = each-append Later (targets_faults ts k) own (each-map Under Later (targets_faults ts k) (λ f e. (subst (KeyBefore (inner n)) (sym e) inner-before, ap (λ (j : Key). j.statement) e ∙ statement)) (targets-under ts)) own-later in (
+        each-append (In n hi) (targets_faults ts k) (faults_in_all es k ++ own) (under-in hi (targets_faults ts k) lt (targets-under ts))
+            (each-append (In n hi) (faults_in_all es k) own (all-faults hi es lt h) (each-map Later (In n hi) own (λ f l. let s = l.1 in (omega (arith, s), omega (arith, s, lt))) own-later)),
+        λ w p r b. both_true (all-order es h w p r b) (lie Hoisted Later (hoisted_in_all es) (targets_faults ts k ++ own) (all-hoisted es h) ends
+            (λ x y e l. subst (λ i. fault_lt (record { key = i; place = x.place }) y ≡ true) (sym e) (l.0 x.place y.place))),
+      )
+
+-- ---- statements without expressions
+
+plain-body : (lo hi : ℕ) (k : Key) (ns : List ℕ) → InBody lo hi (plain_declarations k ns)
+plain-body lo hi k [] = (tt, λ w p r b. refl)
+plain-body lo hi k (m ∷ ns) =
+    let rest = plain-body lo hi k ns in
+    (rest.0, λ w p r b. both_true (rest.1 w p r b) (nothing-before [] (faults_of (plain_declarations k ns)) refl))
+
+declarations-body : (lo hi : ℕ) (s : Sort) (k : Key) (xs : List SurfaceName) (ns : List ℕ) → IfPart (InBody lo hi) (ok_of (declarations_as s k xs ns))
+declarations-body lo hi Sorts.Edge k xs ns = tt
+declarations-body lo hi Sorts.Graph k xs ns = plain-body lo hi k ns
+declarations-body lo hi Sorts.Iterator k xs ns = plain-body lo hi k ns
+declarations-body lo hi Sorts.Scalar k xs ns = plain-body lo hi k ns
+declarations-body lo hi Sorts.NodeProperty k xs ns = plain-body lo hi k ns
+declarations-body lo hi Sorts.EdgeProperty k xs ns = plain-body lo hi k ns
+
+-- ---- statements of statements
+
+then-body : (lo mid top hi : ℕ) (a b : Stmt) → mid ≤ top → lo ≤ top → mid ≤ hi → InBody lo mid a → InBody top hi b → InBody lo hi (P.Then a b)
+then-body lo mid top hi a b le down up x y = (
+  each-append (In lo hi) (faults_of a) (faults_of b) (wider-in lo mid lo hi (faults_of a) (omega arith) up x.0) (wider-in top hi lo hi (faults_of b) down (omega arith) y.0),
+  λ w p r t.
+      let s = append-empty (forms_broken a w) (forms_broken b w) r in
+      let u = both-true (body_behind a) (body_behind b) t in
+      both_true (x.1 w p s.0 u.0) (both_true (y.1 w p s.1 u.1) (in-apart lo mid top hi (faults_of a) (faults_of b) le x.0 y.0)),
+)
+
+pub loop-order : (n : ℕ) (k : Key) → k ≡ operators n → (ps : List Place) (c : Expr) (body : Stmt) (lo hi : ℕ) → n < lo → InParallel n ps c → InBody lo hi body → (v u : Around) → is_parallel v.loops ≡ true → is_parallel u.loops ≡ true
+    → reads_broken c v ≡ [] → forms_broken body u ≡ [] → totals_behind c ≡ true → body_behind body ≡ true → loop_in_order k c body ≡ true
+loop-order n k key ps c body lo hi lt x y v u pv pu rc rb tc tb =
+    both_true (expr-order n k key ps c x (x.2 v pv rc tc)) (both_true (y.1 u pu rb tb)
+    (in-apart n (n + 1) lo hi (faults_in c k) (faults_of body) (omega (arith, lt)) (expr-faults n k key (n + 1) ps c (omega arith) x) y.0))
+
+if-body : (n : ℕ) (k : Key) → k ≡ operators n → (ps : List Place) (c : Expr) (a b : Stmt) (lo mid top hi : ℕ) → n < lo → mid ≤ top → lo ≤ top → mid ≤ hi → n < hi → InParallel n ps c → InBody lo mid a → InBody top hi b → InBody n hi (P.If k c a b)
+if-body n k key ps c a b lo mid top hi lt le down up high x y z =
+    let branches : Each (In lo hi) (faults_of a ++ faults_of b) = each-append (In lo hi) (faults_of a) (faults_of b) (wider-in lo mid lo hi (faults_of a) (omega arith) up y.0) (wider-in top hi lo hi (faults_of b) down (omega arith) z.0) in (
+      each-append (In n hi) (faults_in c k) (faults_of a ++ faults_of b) (expr-faults n k key hi ps c high x) (wider-in lo hi n hi (faults_of a ++ faults_of b) (omega (arith, lt)) (omega arith) branches),
+      λ w p r t.
+          let s = append-empty (reads_broken c w) (forms_broken a w ++ forms_broken b w) r in
+          let u = append-empty (forms_broken a w) (forms_broken b w) s.1 in
+          let v = both-true (totals_behind c) (body_behind a && body_behind b) t in
+          let o = both-true (body_behind a) (body_behind b) v.1 in
+          both_true (expr-order n k key ps c x (x.2 w p s.0 v.0)) (both_true (y.1 w p u.0 o.0) (both_true (z.1 w p u.1 o.1) (both_true
+          (in-apart n (n + 1) lo hi (faults_in c k) (faults_of a ++ faults_of b) (omega (arith, lt)) (expr-faults n k key (n + 1) ps c (omega arith) x) branches)
+          (in-apart lo mid top hi (faults_of a) (faults_of b) le y.0 z.0)))),
+    )
+
+parallel-within : (ls : List C.Loop) (l : C.Loop) → is_parallel (ls ++ (l ∷ [])) ≡ true
+parallel-within [] l = refl
+parallel-within (m ∷ ls) l = refl
+
+foreach-body : (n : ℕ) (k : Key) → k ≡ operators n → (at : Place) (h : Head) (ps : List Place) (c : Expr) (body : Stmt) (lo hi : ℕ) → n < lo → n < hi → InParallel n ps c → InBody lo hi body → InBody n hi (P.Foreach k at h c body)
+foreach-body n k key at h ps c body lo hi lt high x y = (
+  each-append (In n hi) (faults_in c k) (faults_of body) (expr-faults n k key hi ps c high x) (wider-in lo hi n hi (faults_of body) (omega (arith, lt)) (omega arith) y.0),
+  λ w p r t.
+      let v = within w C.Body h.iterator in
+      let here = parallel-within w.loops (record { code = C.Body; iterator = h.iterator }) in
+      let s = append-empty (not_inner w.loops at) (range_broken w.loops h ++ (reads_broken c v ++ (forms_broken body v ++ C.ways_broken w.loops h c body))) r in
+      let u = append-empty (range_broken w.loops h) (reads_broken c v ++ (forms_broken body v ++ C.ways_broken w.loops h c body)) s.1 in
+      let q = append-empty (reads_broken c v) (forms_broken body v ++ C.ways_broken w.loops h c body) u.1 in
+      let e = append-empty (forms_broken body v) (C.ways_broken w.loops h c body) q.1 in
+      let b = both-true (totals_behind c) (body_behind body) t in
+      loop-order n k key ps c body lo hi lt x y v v here here q.0 e.0 b.0 b.1,
+)
+
+-- ---- what typing makes of statements
+
+-- a statement with a number, in parallel code
+abbrev pub Stands : ℕ → Env → Type 0
+Stands n env = (env.key ≡ operators n) × (n < env.number) × (nat_eq env.depth 0 ≡ false)
+
+mode : (n : ℕ) (env : Env) → Stands n env → Parallel n env.key env.depth
+mode n env st = (ap (λ (j : Key). j.statement) st.0, st.2)
+
+pub test-kept : (n : ℕ) (e : SurfaceExpr) → ascend (places_in e) ≡ true → (env : Env) → Parallel n env.key env.depth → IfPart (InParallel n (places_in e)) (test e env).part
+test-kept n e up env m = condition-kept (InParallel n) (parallel-kept n) (places_in e) (start_of e) (typed e env) (parallel-typed n e up env m)
+
+fits-goal : (n : ℕ) (ps : List Place) (w : Option VType) (rule : Rule) (at : Place) (p : Part) → InParallel n ps p.core → IfPart (InParallel n ps) (ok_of (fits_goal w rule at p))
+fits-goal n ps None rule at p h = tt
+fits-goal n ps (Some t) rule at p h = fitted-kept (InParallel n) (parallel-kept n) ps t rule at p h
+
+-- the numbers that a statement may use: of the rest of a block those that follow
+abbrev low : Bool → ℕ → Env → ℕ
+low true n env = env.number
+low false n env = n
+
+module _ (n : ℕ) (env : Env) (st : Stands n env) (hi : ℕ) (lt : n < hi) (e : SurfaceExpr) (up : ascend (places_in e) ≡ true) where
+  abbrev Part-kept : Part → Type 0
+  Part-kept p = InParallel n (places_in e) p.core
+
+  beside-kept : {A : Type 0} (o : Judged A) → IfPart (λ p. Unit {0} × Part-kept p.1) (beside o (typed e (later env o))).part
+  beside-kept o = if-both (λ a. Unit {0}) Part-kept o.part (typed e (later env o)).part (anything o.part) (parallel-typed n e up (later env o) (mode n env st))
+
+  assigned-body : (t : SurfaceTarget) (at : Place) → IfPart (InBody n hi) (assigned t at e env).part
+  assigned-body t at =
+      if-by (λ p. Unit {0} × Part-kept p.1) (InBody n hi) (both (goal false t) (typed e) env).part (λ p. then_answer (fits_goal p.0.wanted T9 at p.1) (P.Assign env.key p.0.target)) (beside-kept (goal false t env))
+      (λ p k. if-then (InParallel n (places_in e)) (InBody n hi) (fits_goal p.0.wanted T9 at p.1) (P.Assign env.key p.0.target) (fits-goal n (places_in e) p.0.wanted T9 at p.1 k.1)
+      (λ a m. assign-body n env.key st.0 hi (places_in e) p.0.target a lt m))
+
+  deferred-body : (t : SurfaceTarget) (at : Place) → IfPart (InBody n hi) (deferred t at e env).part
+  deferred-body t at =
+      if-by (λ p. Unit {0} × Part-kept p.1) (InBody n hi) (both (goal true t) (typed e) env).part (λ p. then_answer (fits_goal p.0.wanted T9 at p.1) (P.Defer env.key p.0.target)) (beside-kept (goal true t env))
+      (λ p k. if-then (InParallel n (places_in e)) (InBody n hi) (fits_goal p.0.wanted T9 at p.1) (P.Defer env.key p.0.target) (fits-goal n (places_in e) p.0.wanted T9 at p.1 k.1)
+      (λ a m. defer-body n env.key st.0 hi (places_in e) p.0.target a lt m))
+
+  -- a group assignment does not stand in parallel code
+  grouped-body : (x p : SurfaceName) (at : Place) → IfPart (InBody n hi) (grouped x p at e env).part
+  grouped-body x p at =
+      let parts = both (group_target x p) (in_group (typed e)) env in
+      if-by (λ ps. Unit {0}) (InBody n hi) parts.part (λ ps. then_answer (fitted ps.0.1.1 T9 at ps.1) (P.Group env.key x.place ps.0.0 ps.0.1.0)) (anything parts.part)
+      (λ ps _. if-then (λ a. Unit {0}) (InBody n hi) (fitted ps.0.1.1 T9 at ps.1) (P.Group env.key x.place ps.0.0 ps.0.1.0) (anything (ok_of (fitted ps.0.1.1 T9 at ps.1))) (λ a _. (tt, λ w p r b. refl)))
+
+  assignment-body : (o : Option SurfaceName) (t : SurfaceTarget) (at : Place) → IfPart (InBody n hi) (assignment o t at e env).part
+  assignment-body None t at = assigned-body t at
+  assignment-body (Some p) t at = if-judged (InBody n hi) (names_graph (known_as env.known t.owner.text)) (grouped t.owner p at e env) (assigned t at e env) (grouped-body t.owner p at) (assigned-body t at)
+
+  value-body : (s : Sort) (x : SurfaceName) (at : Place) (t : VType) (p : ℕ × Part) → Part-kept p.1 → IfPart (InBody n hi) (ok_of (declared_value env.key x at t s p))
+  value-body Sorts.Scalar x at t p k = if-then (InParallel n (places_in e)) (InBody n hi) (fitted t T9 at p.1) (λ a. P.Declare env.key p.0 (Some a)) (fitted-kept (InParallel n) (parallel-kept n) (places_in e) t T9 at p.1 k)
+      (λ a m. declare-body n env.key st.0 hi (places_in e) p.0 a lt m)
+  value-body Sorts.Edge x at t p k = tt
+  value-body Sorts.Graph x at t p k = tt
+  value-body Sorts.Iterator x at t p k = tt
+  value-body Sorts.NodeProperty x at t p k = tt
+  value-body Sorts.EdgeProperty x at t p k = tt
+
+  with-body : (o : Option SurfaceName) (t : SurfaceType) (x : SurfaceName) (at : Place) → IfPart (InBody n hi) (declared_with o t x at e env).part
+  with-body (Some y) t x at =
+      let parts = both (declared_typed t x) (edge_owner y) env in
+      if-by (λ p. Unit {0}) (InBody n hi) parts.part (λ p. Ok (P.DeclareEdge p.0 p.1.index y.place)) (anything parts.part) (λ p _. (tt, λ w q r b. refl))
+  with-body None t x at =
+      if-by (λ p. Unit {0} × Part-kept p.1) (InBody n hi) (both (declared_typed t x) (typed e) env).part (declared_value env.key x at (vtype_of t) (sort_of t))
+      (beside-kept (declared_typed t x env)) (λ p k. value-body (sort_of t) x at (vtype_of t) p k.1)
+
+-- ---- reductions
+
+abbrev AllParts : ℕ → List Part → Type 0
+AllParts n [] = Unit {0}
+AllParts n (p ∷ ps) = ((qs : List Place) × InParallel n qs p.core) × AllParts n ps
+
+all-kept : (n : ℕ) (es : List SurfaceExpr) → ascend (places_of_each places_in es) ≡ true → (env : Env) → Parallel n env.key env.depth → IfPart (AllParts n) (typed_all es env).part
+all-kept n [] up env m = tt
+all-kept n (e ∷ es) up env m =
+    let ps = places_in e in
+    let p = typed e env in
+    let rest = typed_all es (later env p) in
+    if-by (λ q. InParallel n ps q.0.core × AllParts n q.1) (AllParts n) (beside p rest).part (λ q. Ok (q.0 ∷ q.1))
+    (if-both (KeptPart (InParallel n) (parallel-kept n) ps) (AllParts n) p.part rest.part (parallel-typed n e (ascend-left ps (places_of_each places_in es) up) env m) (all-kept n es (ascend-right ps (places_of_each places_in es) up) (later env p) m))
+    (λ q k. ((ps, k.0), k.1))
+
+fits-all : (n : ℕ) (k : Key) (key : k ≡ operators n) (at : Place) (gs : List Goal) (ps : List Part) → AllParts n ps → IfPart (AllIn n k key) (ok_of (all_answers (fits_each at gs ps)))
+fits-all n k key at [] [] h = tt
+fits-all n k key at [] (p ∷ ps) h = tt
+fits-all n k key at (g ∷ gs) [] h = tt
+fits-all n k key at (g ∷ gs) (p ∷ ps) h =
+    if-with (InParallel n h.0.0) (AllIn n k key) (AllIn n k key) (λ x xs. x ∷ xs) (fits_goal g.wanted T9 at p) (all_answers (fits_each at gs ps))
+    (fits-goal n h.0.0 g.wanted T9 at p h.0.1) (fits-all n k key at gs ps h.1) (λ a rest m s. ((h.0.0, m), s))
+
+reduced-body : (n : ℕ) (env : Env) (st : Stands n env) (hi : ℕ) → n < hi → (ts : List SurfaceTarget) (r : Reduce) (at : Place) (es : List SurfaceExpr) → ascend (places_of_each places_in es) ≡ true → IfPart (InBody n hi) (reduced ts r at es env).part
+reduced-body n env st hi lt ts r at es up =
+    let together = goals_together ts env in
+    let values = typed_all es (later env together) in
+    if-by (λ ps. Unit {0} × AllParts n ps.1) (InBody n hi) (both (goals_together ts) (typed_all es) env).part (combined env.key at r)
+    (if-both (λ g. Unit {0}) (AllParts n) together.part values.part (anything together.part) (all-kept n es up (later env together) (mode n env st)))
+    (λ ps k. if-with (λ u. Unit {0}) (AllIn n env.key st.0) (InBody n hi) (λ u xs. P.Combine env.key (total_at env.key at) r (map (λ g. g.target) ps.0) xs)
+    (refused_unless (reduces r (first_wanted ps.0)) T11 at (tt {0})) (all_answers (fits_each at ps.0 ps.1))
+    (anything (ok_of (refused_unless (reduces r (first_wanted ps.0)) T11 at (tt {0})))) (fits-all n env.key st.0 at ps.0 ps.1 k.1)
+    (λ u xs _ m. combine-body n env.key st.0 hi at r (map (λ g. g.target) ps.0) xs lt m))
+
+incremented-body : (n : ℕ) (k : Key) (key : k ≡ operators n) (hi : ℕ) → n < hi → (at : Place) (g : Goal) (w : Option VType) → IfPart (InBody n hi) (ok_of (then_answer (one_of w at) (λ e. P.Combine k (total_at k at) R.Sum (g.target ∷ []) (e ∷ []))))
+incremented-body n k key hi lt at g None = tt
+incremented-body n k key hi lt at g (Some I32) = combine-body n k key hi at R.Sum (g.target ∷ []) (P.Const (V.I32 (pos 1)) ∷ []) lt ((([], (tt, λ j. tt, λ w p r t. refl))), tt)
+incremented-body n k key hi lt at g (Some I64) = combine-body n k key hi at R.Sum (g.target ∷ []) (P.Const (V.I64 (pos 1)) ∷ []) lt ((([], (tt, λ j. tt, λ w p r t. refl))), tt)
+incremented-body n k key hi lt at g (Some Flag) = tt
+incremented-body n k key hi lt at g (Some Node) = tt
+
+pub beside-iterator : (Q : Stmt → Type 0) (part : Env → Judged Stmt) (x : Option SurfaceName) (env : Env) → IfPart Q (part env).part → IfPart Q (judge (both part (at_iterator x) env) (λ p. Ok p.0)).part
+beside-iterator Q part x env h =
+    let i = at_iterator x (later env (part env)) in
+    if-by (λ p. Q p.0 × Unit {0}) Q (both part (at_iterator x) env).part (λ p. Ok p.0) (if-both Q (λ n. Unit {0}) (part env).part i.part h (anything i.part)) (λ p k. k.0)
+
+abbrev pub numbered_env : Env → Env
+numbered_env env = record env { number = env.number + 1; key = operators_of env.number }
+
+numbered-stands : (env : Env) → nat_eq env.depth 0 ≡ false → Stands env.number (numbered_env env)
+numbered-stands env d = (refl, omega arith, d)
+
+-- a statement that no body may hold has no faults there
+nothing-in : (lo hi : ℕ) (s : Stmt) → faults_of s ≡ [] → body_in_order s ≡ true → InBody lo hi s
+nothing-in lo hi s e o = (subst (Each (In lo hi)) (sym e) tt, λ w p r b. o)
+
+pub body-ordered : (rest : Bool) (s : SurfaceStmt) → ascend (places_of s) ≡ true → shaped rest s ≡ true → (n : ℕ) (env : Env) → Stands n env → IfPart (InBody (low rest n env) (env.number + (checked s env).numbers)) (checked s env).part
+body-ordered rest S.Skip up sh n env st = (tt, λ w p r b. refl)
+body-ordered rest (S.Then a b) up sh n env st =
+    let ps = places_of a in
+    let qs = places_of b in
+    let h = both-true (shaped false a) (shaped true b) sh in
+    let x = numbered (checked a) env in
+    let env2 = following a env x in
+    let y = checked b env2 in
+    let hi = env.number + (x.numbers + y.numbers) in
+    let l = st.1 in
+    if-by (λ p. InBody env.number (env.number + x.numbers) p.0 × InBody env2.number (env2.number + y.numbers) p.1) (InBody (low rest n env) hi) (beside x y).part (λ p. Ok (P.Then p.0 p.1))
+    (if-both (InBody env.number (env.number + x.numbers)) (InBody env2.number (env2.number + y.numbers)) x.part y.part
+    (raised (env.number) (env.number + 1 + (checked a (numbered_env env)).numbers) (env.number + x.numbers) (omega arith) x.part (body-ordered false a (ascend-left ps qs up) h.0 env.number (numbered_env env) (numbered-stands env st.2)))
+    (after (env2.number + y.numbers) y.part (body-ordered true b (ascend-right ps qs up) h.1 n env2 (st.0, omega (arith, l), st.2))))
+    (λ p k. lowered rest hi (P.Then p.0 p.1) (then-body env.number (env.number + x.numbers) env2.number hi p.0 p.1 (omega arith) (omega arith) (omega arith) k.0 (wider-body env2.number (env2.number + y.numbers) env2.number hi p.1 (omega arith) (omega arith) k.1)))
+  where
+    raised : (lo hi up : ℕ) → hi ≤ up → (o : Option Stmt) → IfPart (InBody lo hi) o → IfPart (InBody lo up) o
+    raised lo hi up le None h = tt
+    raised lo hi up le (Some s) h = wider-body lo hi lo up s (omega arith) le h
+
+    after : (hi : ℕ) (o : Option Stmt) → IfPart (InBody (env.number + (numbered (checked a) env).numbers) hi) o → IfPart (InBody (env.number + (numbered (checked a) env).numbers) hi) o
+    after hi o h = h
+
+    lowered : (rest : Bool) (hi : ℕ) (s : Stmt) → InBody env.number hi s → InBody (low rest n env) hi s
+    lowered true hi s h = h
+    lowered false hi s h = let l = st.1 in wider-body env.number hi n hi s (omega (arith, l)) (omega arith) h
+body-ordered true _ up sh n env st = absurd (false≢true sh)
+body-ordered false (S.Declare t xs) up sh n env st =
+    let parts = beside (noted (tt {0}) (type_broken t Local env)) (declared_all (variable_of t env.depth) xs env) in
+    let hi = env.number + parts.numbers in
+    if-by (λ p. Unit {0}) (InBody n hi) parts.part (λ p. declarations_as (sort_of t) env.key xs p.1) (anything parts.part) (λ p _. declarations-body n hi (sort_of t) env.key xs p.1)
+body-ordered false (S.DeclareAs t x at e) up sh n env st =
+    let l = st.1 in
+    with-body n env st (env.number + (checked (S.DeclareAs t x at e) env).numbers) (omega (arith, l)) e (ascend-tail at (places_in e) (ascend-tail x.place (at ∷ places_in e) up)) (edge_declared t e) t x at
+body-ordered false (S.Assign t at e) up sh n env st =
+    let l = st.1 in
+    assignment-body n env st (env.number + (checked (S.Assign t at e) env).numbers) (omega (arith, l)) e (ascend-tail at (places_in e) (ascend-right (places_of_target t) (at ∷ places_in e) up)) t.property t at
+body-ordered false (S.Defer t at e iterator) up sh n env st =
+    let l = st.1 in
+    let hi = env.number + (checked (S.Defer t at e iterator) env).numbers in
+    let back = places_in e ++ place_of_option iterator in
+    beside-iterator (InBody n hi) (deferred t at e) iterator env (deferred-body n env st hi (omega (arith, l)) e (ascend-left (places_in e) (place_of_option iterator) (ascend-tail at back (ascend-right (places_of_target t) (at ∷ back) up))) t at)
+body-ordered false (S.Combine ts r at es iterator) up sh n env st =
+    let l = st.1 in
+    let hi = env.number + (checked (S.Combine ts r at es iterator) env).numbers in
+    let back = places_of_each places_in es ++ place_of_option iterator in
+    beside-iterator (InBody n hi) (reduced ts r at es) iterator env (reduced-body n env st hi (omega (arith, l)) ts r at es (ascend-left (places_of_each places_in es) (place_of_option iterator) (ascend-tail at back (ascend-right (places_of_each places_of_target ts) (at ∷ back) up))))
+body-ordered false (S.Increment t at) up sh n env st =
+    let l = st.1 in
+    let hi = env.number + (checked (S.Increment t at) env).numbers in
+    if-by (λ g. Unit {0}) (InBody n hi) (goal false t env).part (incremented env.key at) (anything (goal false t env).part) (λ g _. incremented-body n env.key st.0 hi (omega (arith, l)) at g g.wanted)
+body-ordered false (S.Call r f es xs) up sh n env st = tt
+body-ordered false (S.Loop at Loop.For head filter body) up sh n env st =
+    let parts = both (ranged head) (iterated head.iterator 0 (both (test filter) (numbered (checked body)))) env in
+    if-by (λ p. Unit {0}) (InBody n (env.number + parts.numbers)) parts.part (λ p. Ok (loop_of Loop.For env.key at (head_with head p.0 p.1.0) p.1.1.0 p.1.1.1)) (anything parts.part) (λ p _. (tt, λ w q r b. refl))
+body-ordered false (S.Loop at Loop.Foreach head filter body) up sh n env st =
+    let l = st.1 in
+    let ps = places_in filter in
+    let qs = places_of body in
+    let back = ascend-tail head.owner.place (ps ++ qs) (ascend-tail head.iterator.place (head.owner.place ∷ (ps ++ qs)) (ascend-tail at (head.iterator.place ∷ (head.owner.place ∷ (ps ++ qs))) up)) in
+    let inner' = both (test filter) (numbered (checked body)) in
+    let x = ranged head env in
+    let env1 = later env x in
+    let i = declared_as env1 head.iterator (an_iterator (env1.depth + 1)) in
+    let env2 = inside env1 head.iterator 1 in
+    let c = test filter env2 in
+    let env3 = later env2 c in
+    let m = env3.number in
+    let env4 = numbered_env env3 in
+    let b = checked body env4 in
+    let hi = env.number + (both (ranged head) (iterated head.iterator 1 inner') env).numbers in
+    if-by (λ p. Unit {0} × (Unit {0} × (InParallel n ps p.1.1.0 × InBody m (env4.number + b.numbers) p.1.1.1))) (InBody n hi) (both (ranged head) (iterated head.iterator 1 inner') env).part
+    (λ p. Ok (loop_of Loop.Foreach env.key at (head_with head p.0 p.1.0) p.1.1.0 p.1.1.1))
+    (if-both (λ o. Unit {0}) (λ p. Unit {0} × (InParallel n ps p.1.0 × InBody m (env4.number + b.numbers) p.1.1)) x.part (iterated head.iterator 1 inner' env1).part (anything x.part)
+    (if-both (λ j. Unit {0}) (λ p. InParallel n ps p.0 × InBody m (env4.number + b.numbers) p.1) i.part (inner' env2).part tt
+    (if-both (InParallel n ps) (InBody m (env4.number + b.numbers)) c.part (numbered (checked body) env3).part (test-kept n filter (ascend-left ps qs back) env2 (ap (λ (j : Key). j.statement) st.0, not-zero env.depth))
+    (body-ordered false body (ascend-right ps qs back) sh m env4 (numbered-stands env3 (not-zero env.depth))))))
+    (λ p k. foreach-body n env.key st.0 at (head_with head p.0 p.1.0) ps p.1.1.0 p.1.1.1 m hi (omega (arith, l)) (omega (arith, l)) k.1.1.0 (wider-body m (env4.number + b.numbers) m hi p.1.1.1 (omega arith) (omega arith) k.1.1.1))
+body-ordered false (S.If at c a b) up sh n env st =
+    let l = st.1 in
+    let ps = places_in c in
+    let qs = places_of a in
+    let rs = places_of b in
+    let h = both-true (shaped false a) (shaped false b) sh in
+    let back = ascend-tail at (ps ++ (qs ++ rs)) up in
+    let branches = ascend-right ps (qs ++ rs) back in
+    let x = test c env in
+    let env1 = later env x in
+    let m1 = env1.number in
+    let y = numbered (checked a) env1 in
+    let env2 = later env1 y in
+    let m2 = env2.number in
+    let z = numbered (checked b) env2 in
+    let top1 = env1.number + 1 + (checked a (numbered_env env1)).numbers in
+    let top2 = env2.number + 1 + (checked b (numbered_env env2)).numbers in
+    let hi = env.number + (x.numbers + (y.numbers + z.numbers)) in
+    if-by (λ p. InParallel n ps p.0 × (InBody m1 top1 p.1.0 × InBody m2 top2 p.1.1)) (InBody n hi) (beside x (beside y z)).part (λ p. Ok (P.If env.key p.0 p.1.0 p.1.1))
+    (if-both (InParallel n ps) (λ p. InBody m1 top1 p.0 × InBody m2 top2 p.1) x.part (beside y z).part (test-kept n c (ascend-left ps (qs ++ rs) back) env (mode n env st))
+    (if-both (InBody m1 top1) (InBody m2 top2) y.part z.part
+    (body-ordered false a (ascend-left qs rs branches) h.0 m1 (numbered_env env1) (numbered-stands env1 st.2))
+    (body-ordered false b (ascend-right qs rs branches) h.1 m2 (numbered_env env2) (numbered-stands env2 st.2))))
+    (λ p k. if-body n env.key st.0 ps p.0 p.1.0 p.1.1 m1 top1 m2 hi (omega (arith, l)) (omega arith) (omega arith) (omega arith) (omega (arith, l)) k.0 k.1.0 (wider-body m2 top2 m2 hi p.1.1 (omega arith) (omega arith) k.1.1))
+body-ordered false (S.While at c body) up sh n env st =
+    let parts = both (test c) (numbered (checked body)) env in
+    if-by (λ p. Unit {0}) (InBody n (env.number + parts.numbers)) parts.part (λ p. Ok (P.While env.key at p.0 p.1)) (anything parts.part) (λ p _. (tt, λ w q r b. refl))
+body-ordered false (S.Do at body c) up sh n env st =
+    let parts = both (numbered (checked body)) (test c) env in
+    if-by (λ p. Unit {0}) (InBody n (env.number + parts.numbers)) parts.part (λ p. Ok (P.Do env.key at p.0 p.1)) (anything parts.part) (λ p _. (tt, λ w q r b. refl))
+body-ordered false (S.InBfs at v g root filter body) up sh n env st =
+    let parts = both (both (graph_searched g) (rooted root)) (iterated v 1 (both (test filter) (numbered (checked body)))) env in
+    if-by (λ p. Unit {0}) (InBody n (env.number + parts.numbers)) parts.part (λ p. Ok (P.InBfs env.key at (search_of root p.0 p.1.0) p.1.1.0 p.1.1.1)) (anything parts.part) (λ p _. (tt, λ w q r b. refl))
+body-ordered false (S.InBfsBoth at v g root filter body reverse back_filter back) up sh n env st =
+    let parts = both (both (graph_searched g) (rooted root)) (iterated v 1 (both (both (test filter) (numbered (checked body))) (numbered (searched (test back_filter) (numbered (checked back)))))) env in
+    if-by (λ p. Unit {0}) (InBody n (env.number + parts.numbers)) parts.part (λ p. Ok (P.InBfsBoth env.key at (search_of root p.0 p.1.0) p.1.1.0.0 p.1.1.0.1 p.1.1.1.0 p.1.1.1.1.0 p.1.1.1.1.1)) (anything parts.part) (λ p _. (tt, λ w q r b. refl))
+body-ordered false (S.Return at None) up sh n env st = if-good (InBody n (env.number + 0)) (is_none env.result) T14 at (P.Return env.key at None) (λ _. (tt, λ w q r b. refl))
+body-ordered false (S.Return at (Some e)) up sh n env st =
+    let hi = env.number + (typed e env).numbers in
+    if-by (λ p. Unit {0}) (InBody n hi) (typed e env).part (returned env.key at env.result) (anything (typed e env).part) (λ p _. by hi env.result p)
+  where
+    by : (hi : ℕ) (o : Option VType) (p : Part) → IfPart (InBody n hi) (ok_of (returned env.key at o p))
+    by hi None p = tt
+    by hi (Some t) p = if-then (λ a. Unit {0}) (InBody n hi) (fitted t T14 at p) (λ a. P.Return env.key at (Some a)) (anything (ok_of (fitted t T14 at p))) (λ a _. (tt, λ w q r b. refl))

@@ -1,0 +1,143 @@
+-- What typing makes of the expressions of a text stands in order.
+use Rattle.std.proofs.Common.{◌≡◌, ◌+◌, ◌<◌, ℕ, Bool, true, false, List, [], ◌∷◌, ◌++◌, refl, sym, ap, subst, ◌∙◌, arith, Option, Some, None}
+use Rattle.std.specs.Prelude.{if◌then◌else◌, nat_eq}
+use Rattle.std.proofs.lemmas.Bool.{eqb-true, eq-eqb}
+use Rattle.gm_base.specs.declared.places.Place.{Place}
+use Rattle.gm_base.specs.declared.rules.Rule.TheVariants.{T8, T10}
+use Rattle.gm_base.specs.Places.{place_eq}
+use Rattle.gm_value.specs.declared.values.VType.{VType}
+use Rattle.gm_value.specs.declared.values.VType.TheVariants.{I32, Flag}
+use Rattle.gm_ast.specs.declared.tree.Head.{Head}
+use Rattle.gm_ast.specs.declared.tree.Key.{Key}
+use Rattle.gm_ast.specs.declared.tree.Stage.{Stage}
+use Rattle.gm_ast.specs.declared.tree.Stage.TheVariants.{Operator, Total}
+use Rattle.gm_ast.specs.declared.kinds.Kind.{Kind}
+use Rattle.gm_ast.specs.declared.kinds.Kind.TheVariants as Kinds
+use Rattle.gm_ast.specs.declared.kinds.Reducer.{Reducer}
+use Rattle.gm_ast.specs.declared.surface.ReductionWord.{ReductionWord}
+use Rattle.gm_ast.specs.declared.surface.ReductionWord.TheVariants.{Sum, Product, Min, Max, Count, Exist, All}
+use Rattle.gm_ast.specs.Surface.{SurfaceHead, SurfaceExpr, Reduction}
+use Rattle.gm_ast.specs.Program as P
+use Rattle.gm_ast.specs.Program.{Expr}
+use Rattle.gm_ast.specs.Judged.{ok_of}
+use Rattle.gm_ast.specs.Names.{Env, both, iterated, inside, keyed, counted, later, declared_as, an_iterator}
+use Rattle.gm_ast.specs.Kinds.{Part, settled, is_number, is_flag}
+use Rattle.gm_ast.specs.Typing.{typed, condition, start_of, ranged, fold_of, folded, of_numbers_as, of_conditions, reduction_part, reduction_rule, reducer_at, fold_numbers, head_with, is_sequential, inner_key, fold_key}
+use Rattle.gm_ready.proofs.Judging.{IfPart, if-by, if-both, if-good}
+use Rattle.gm_order.specs.Places.{ascend, closing, places_in}
+use Rattle.gm_order.proofs.Parts.{anything}
+use Rattle.gm_order.proofs.Befores.{inner, operators, totals, ascend-tail, ascend-left, ascend-right}
+use Rattle.gm_order.proofs.Keeping.{IsKept, KeptPart, Keeps, settled-kept, condition-kept, typed-kept}
+use Rattle.gm_order.proofs.OrderedExpressions.{InParallel, parallel-kept, folded-parallel, InSequence, sequence-kept, folded-sequence}
+
+-- ---- a reduction by its word
+
+module _ (Q1 Q2 Q3 : Expr → Type 0) (r : Reducer) (head : Head) (fold : (t : VType) (c e : Expr) → Q1 c → Q2 e → Q3 (P.Folded (fold_of r t) head c e)) (settle : (p : Part) → Q2 p.core → Q2 (settled p).core) where
+  abbrev Is3 : Part → Type 0
+  Is3 p = Q3 p.core
+
+  numbers-kept : (k : Kind) (filter e : Expr) → Q1 filter → Q2 e → IfPart Is3 (ok_of (of_numbers_as k r head filter e))
+  numbers-kept (Kinds.Of t) filter e f g = if-good Is3 (is_number (Kinds.Of t)) T8 r.place (folded r t head filter e) (λ _. fold t filter e f g)
+  numbers-kept Kinds.Flexible filter e f g = tt
+  numbers-kept Kinds.Edge filter e f g = tt
+
+  conditions-kept : (start : Place) (t : VType) (filter : Expr) (p : Part) → Q1 filter → Q2 p.core → IfPart Is3 (ok_of (of_conditions start t r head filter p))
+  conditions-kept start t filter p f g = if-good Is3 (is_flag p.kind) T10 start (folded r t head filter p.core) (λ _. fold t filter p.core f g)
+
+  reduction-kept : (word : ReductionWord) (start : Place) (filter : Expr) (p : Part) → Q1 filter → Q2 p.core → IfPart Is3 (ok_of (reduction_part word start r head filter p))
+  reduction-kept Sum start filter p f g = numbers-kept (settled p).kind filter (settled p).core f (settle p g)
+  reduction-kept Product start filter p f g = numbers-kept (settled p).kind filter (settled p).core f (settle p g)
+  reduction-kept Min start filter p f g = numbers-kept (settled p).kind filter (settled p).core f (settle p g)
+  reduction-kept Max start filter p f g = numbers-kept (settled p).kind filter (settled p).core f (settle p g)
+  reduction-kept Count start filter p f g = conditions-kept start I32 filter p f g
+  reduction-kept Exist start filter p f g = conditions-kept start Flag filter p f g
+  reduction-kept All start filter p f g = conditions-kept start Flag filter p f g
+
+pub not-zero : (d : ℕ) → nat_eq (d + 1) 0 ≡ false
+not-zero d = by (nat_eq (d + 1) 0) refl
+  where
+    by : (b : Bool) → nat_eq (d + 1) 0 ≡ b → b ≡ false
+    by true e = absurd (let z : d + 1 ≡ 0 = eqb-true (d + 1) 0 e in omega (arith, z))
+    by false e = refl
+
+-- ---- parallel code
+
+abbrev pub Parallel : ℕ → Key → ℕ → Type 0
+Parallel n k d = (k.statement ≡ n) × (nat_eq d 0 ≡ false)
+
+module _ (n : ℕ) where
+  fold-parallel : (at : Place) (word : ReductionWord) (h : SurfaceHead) (filter body : SurfaceExpr) (close : Place) → ascend (places_in (Reduction at word h filter body close)) ≡ true
+      → Keeps (InParallel n) (parallel-kept n) (Parallel n) filter → Keeps (InParallel n) (parallel-kept n) (Parallel n) body → Keeps (InParallel n) (parallel-kept n) (Parallel n) (Reduction at word h filter body close)
+  fold-parallel at word h filter body close up kf kb env m =
+      let Q = InParallel n in
+      let kept = parallel-kept n in
+      let ps = places_in filter in
+      let qs = places_in body in
+      let x = h.iterator.place in
+      let o = h.owner.place in
+      let rest = ps ++ (qs ++ closing at close) in
+      let back : ascend rest ≡ true = ascend-tail o rest (ascend-tail x (o ∷ rest) (ascend-tail at (x ∷ (o ∷ rest)) up)) in
+      let r = reducer_at env at word close in
+      let key : (k : ℕ) (s : Stage) → fold_key env k s ≡ inner n = λ k s. ap (λ b. if b then record { statement = env.number + k; stage = s } else inner_key env) m.1 ∙ ap inner m.0 in
+      let test = keyed r.filter (condition (start_of filter) (typed filter)) in
+      let braces = keyed r.body (typed body) in
+      let inner' = both test braces in
+      let owner = ranged h env in
+      let env1 = later env owner in
+      let env2 : Env = record env1 { number = env1.number + fold_numbers env } in
+      let env3 = inside env2 h.iterator 1 in
+      let a = test env3 in
+      if-by (λ xs. Unit {0} × (Unit {0} × (Q ps xs.1.1.0 × KeptPart Q kept qs xs.1.1.1))) (KeptPart Q kept (at ∷ (x ∷ (o ∷ rest)))) (both (ranged h) (counted (fold_numbers env) (iterated h.iterator 1 inner')) env).part (reduction_rule r (start_of body) h)
+      (if-both (λ b. Unit {0}) (λ xs. Unit {0} × (Q ps xs.1.0 × KeptPart Q kept qs xs.1.1)) owner.part (counted (fold_numbers env) (iterated h.iterator 1 inner') env1).part (anything owner.part)
+      (if-both (λ i. Unit {0}) (λ xs. Q ps xs.0 × KeptPart Q kept qs xs.1) (declared_as env2 h.iterator (an_iterator (env2.depth + 1))).part (inner' env3).part tt
+      (if-both (Q ps) (KeptPart Q kept qs) a.part (braces (later env3 a)).part
+      (condition-kept Q kept ps (start_of filter) (typed filter (record env3 { key = r.filter })) (kf (record env3 { key = r.filter }) (ap (λ (j : Key). j.statement) (key 0 Operator), not-zero env.depth)))
+      (kb (record (later env3 a) { key = r.body }) (ap (λ (j : Key). j.statement) (key 1 Operator), not-zero env.depth)))))
+      (λ xs k. reduction-kept (Q ps) (Q qs) (Q (at ∷ (x ∷ (o ∷ rest)))) r (head_with h xs.0 xs.1.0)
+      (λ t c e hc he. folded-parallel n (fold_of r t) (head_with h xs.0 xs.1.0) c e ps qs x o (key 0 Operator) (key 1 Operator) (key 1 Total) hc he (place_eq at close) refl back)
+      (λ p hp. settled-kept Q kept qs p.kind p hp) word (start_of body) xs.1.1.0 xs.1.1.1 k.1.1.0 k.1.1.1)
+
+  pub parallel-typed : (e : SurfaceExpr) → ascend (places_in e) ≡ true → Keeps (InParallel n) (parallel-kept n) (Parallel n) e
+  parallel-typed e up = typed-kept (InParallel n) (parallel-kept n) (Parallel n) fold-parallel e up
+
+-- ---- a sequential phase
+
+abbrev pub Sequence : Key → ℕ → Type 0
+Sequence k d = d ≡ 0
+
+fold-sequence : (at : Place) (word : ReductionWord) (h : SurfaceHead) (filter body : SurfaceExpr) (close : Place) → ascend (places_in (Reduction at word h filter body close)) ≡ true
+    → Keeps InSequence sequence-kept Sequence filter → Keeps InSequence sequence-kept Sequence body → Keeps InSequence sequence-kept Sequence (Reduction at word h filter body close)
+fold-sequence at word h filter body close up kf kb env m =
+    let ps = places_in filter in
+    let qs = places_in body in
+    let x = h.iterator.place in
+    let o = h.owner.place in
+    let rest = ps ++ (qs ++ closing at close) in
+    let back : ascend rest ≡ true = ascend-tail o rest (ascend-tail x (o ∷ rest) (ascend-tail at (x ∷ (o ∷ rest)) up)) in
+    let r = reducer_at env at word close in
+    let n0 = env.number + 0 in
+    let n1 = env.number + 1 in
+    let Q1 = InParallel n0 ps in
+    let Q2 = InParallel n1 qs in
+    let sequential : is_sequential env ≡ true = eq-eqb env.depth 0 m in
+    let key : (k : ℕ) (s : Stage) → fold_key env k s ≡ record { statement = env.number + k; stage = s } = λ k s. ap (λ b. if b then record { statement = env.number + k; stage = s } else inner_key env) sequential in
+    let test = keyed r.filter (condition (start_of filter) (typed filter)) in
+    let braces = keyed r.body (typed body) in
+    let inner' = both test braces in
+    let owner = ranged h env in
+    let env1 = later env owner in
+    let env2 : Env = record env1 { number = env1.number + fold_numbers env } in
+    let env3 = inside env2 h.iterator 1 in
+    let a = test env3 in
+    if-by (λ xs. Unit {0} × (Unit {0} × (Q1 xs.1.1.0 × Q2 xs.1.1.1.core))) (KeptPart InSequence sequence-kept (at ∷ (x ∷ (o ∷ rest)))) (both (ranged h) (counted (fold_numbers env) (iterated h.iterator 1 inner')) env).part (reduction_rule r (start_of body) h)
+    (if-both (λ b. Unit {0}) (λ xs. Unit {0} × (Q1 xs.1.0 × Q2 xs.1.1.core)) owner.part (counted (fold_numbers env) (iterated h.iterator 1 inner') env1).part (anything owner.part)
+    (if-both (λ i. Unit {0}) (λ xs. Q1 xs.0 × Q2 xs.1.core) (declared_as env2 h.iterator (an_iterator (env2.depth + 1))).part (inner' env3).part tt
+    (if-both Q1 (λ p. Q2 p.core) a.part (braces (later env3 a)).part
+    (condition-kept (InParallel n0) (parallel-kept n0) ps (start_of filter) (typed filter (record env3 { key = r.filter })) (parallel-typed n0 filter (ascend-left ps (qs ++ closing at close) back) (record env3 { key = r.filter }) (ap (λ (j : Key). j.statement) (key 0 Operator), not-zero env.depth)))
+    (parallel-typed n1 body (ascend-left qs (closing at close) (ascend-right ps (qs ++ closing at close) back)) (record (later env3 a) { key = r.body }) (ap (λ (j : Key). j.statement) (key 1 Operator), not-zero env.depth)))))
+    (λ xs k. reduction-kept Q1 Q2 (InSequence (at ∷ (x ∷ (o ∷ rest)))) r (head_with h xs.0 xs.1.0)
+    (λ t c e hc he. folded-sequence (fold_of r t) (head_with h xs.0 xs.1.0) c e ps qs (at ∷ (x ∷ (o ∷ rest))) n0 n1 (omega arith) (key 0 Operator) (key 1 Operator) (key 1 Total) hc he)
+    (λ p hp. settled-kept (InParallel n1) (parallel-kept n1) qs p.kind p hp) word (start_of body) xs.1.1.0 xs.1.1.1 k.1.1.0 k.1.1.1)
+
+pub sequence-typed : (e : SurfaceExpr) → ascend (places_in e) ≡ true → Keeps InSequence sequence-kept Sequence e
+sequence-typed e up = typed-kept InSequence sequence-kept Sequence fold-sequence e up

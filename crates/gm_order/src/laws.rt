@@ -1,0 +1,33 @@
+//! What follows from a text for its tree and its program, as contracts of calls that do nothing.
+
+ghost use Rattle.gm_order.specs.Laws.{PlacesOfTextsAscend, TextProgramsAreOrdered, TextProgramsAreSpelled, TextProgramsHaveTypes};
+
+use gm_ready::typed_programs_have_types;
+
+/// The places in the tree of a text ascend as they do in the text: on the left those of a smaller place, and a
+/// reduction's word before its filter, its filter before its braces, and these before their end.
+pub fn places_of_texts_ascend()
+    ensures { PlacesOfTextsAscend }
+{}
+
+/// In the program of a text each constant is in the range of its type, and only Min and Max have several targets: the
+/// tokens hold no number above 2^63 - 1, a number that is taken as an Int is one, and the grammar lets several targets
+/// stand under `min=` and `max=` alone.
+pub fn text_programs_are_spelled()
+    ensures { TextProgramsAreSpelled }
+{}
+
+/// In the program of a text every expression has the type that it must have there.
+pub fn text_programs_have_types()
+    ensures { TextProgramsHaveTypes }
+{
+    text_programs_are_spelled();
+    typed_programs_have_types();
+}
+
+/// In the program of a text that is canonical the faults of each parallel loop stand in the order of the text, piece by
+/// piece, where no reduction without braces has a filter that can fault: such a reduction has its total at its word,
+/// before its filter.
+pub fn text_programs_are_ordered()
+    ensures { TextProgramsAreOrdered }
+{}
