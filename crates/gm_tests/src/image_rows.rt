@@ -14,7 +14,7 @@ use std::rc::Rc;
 use std::test::Fail;
 
 // The image that sums the values of the nodes before each node.
-pub const TOTAL: &str =
+const TOTAL: &str =
     "gm-image 1\nname total\ninputs 1\nnode I v 0\noutputs 1\nnode I s 1\nresult -\nglobals 0\nfields 2\nI\nI\nregisters 0\ncolumns 0\nkinds 1\n- I\nplaces 1\n2 32\nblocks 2\nblock 0\nbody 2\neach out 1\nsend 0 nb f 0\nblock 1\non 0 1\nfold sum 0 1 m 0\nbody 0\nmaster 3\nstep 0\nstep 1\nend\n";
 
 // Each node offers its value and itself to its out-neighbours, which keep the least value and the first node that has it.
@@ -30,7 +30,7 @@ const BEST_OF_OLD: &str =
     "gm-image 1\nname best\ninputs 1\nnode I v 0\noutputs 2\nnode I m 1\nnode N w 2\nresult -\nglobals 0\nfields 3\nI\nI\nN\nregisters 0\ncolumns 0\nkinds 1\n- I N\nplaces 1\n4 34\nblocks 2\nblock 0\nbody 3\nset 1 c I 9\neach out 1\nsend 0 nb f 0 id\nblock 1\non 0 1\npick min 0 2 1 m 0 2 m 1\nbody 0\nmaster 3\nstep 0\nstep 1\nend\n";
 
 // A graph for it, behind the line that parts the two.
-pub const VALUES: &str = "%%\n0 1\n0 1\n1 1\nv 0 5\nv 1 7\n";
+const VALUES: &str = "%%\n0 1\n0 1\n1 1\nv 0 5\nv 1 7\n";
 
 // Images that run, and images that break a rule at a line.
 const IMAGES: [(&str, &str, &str, &str); 17] = [
@@ -282,7 +282,7 @@ const USAGE: &str =
     "usage: gm run PROG GRAPH | check PROG | compile PROG | exec IMAGE GRAPH | demo N\n";
 
 // An image of which each node divides by its value less five, and one that turns forever.
-pub const DIVIDES: &str =
+const DIVIDES: &str =
     "gm-image 1\nname d\ninputs 1\nnode I v 0\noutputs 0\nresult -\nglobals 0\nfields 1\nI\nregisters 0\ncolumns 0\nkinds 0\nplaces 2\n2 4\n3 4\nblocks 1\nblock 0\nbody 1\nset 0 / 1 c I 1 - 0 f 0 c I 5\nmaster 2\nstep 0\nend\n";
 
 const SPINS: &str =

@@ -43,6 +43,4 @@ mod totals;
 #[cfg(test)]
 mod values;
 #[cfg(test)]
-mod watching;
-#[cfg(test)]
 mod words;
