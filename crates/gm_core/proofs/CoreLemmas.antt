@@ -8,7 +8,7 @@ use Rattle.std.proofs.lemmas.List.Elements.{filter-append}
 use Rattle.std.proofs.lemmas.List.FromFn.{fill_by_all}
 use Rattle.gm_value.specs.Bag.{SameBag, same_nil, same_cons, same_trans}
 use Rattle.gm_value.proofs.BagLaws.{SameBag-sym, SameBag-last, SameBag-append_left, SameBag-filter, SameBag-map}
-use Rattle.gm_graph.specs.Graphs.{NumberedGraph, node_count}
+use Rattle.gm_model.specs.Graphs.{NumberedGraph, node_count}
 use Rattle.gm_image.specs.Program.{Program}
 use Rattle.gm_image.specs.Rows.{handled_lines}
 use Rattle.gm_image.specs.Soundness.{is_sound}

@@ -7,8 +7,8 @@ use Rattle.std.proofs.lemmas.List.{nil_from_length, length-map}
 use Rattle.std.proofs.lemmas.List.FromFn.{length-enumerate_from, get_or-map-range_with_len}
 use Rattle.gm_value.specs.declared.values.Value.{Value}
 use Rattle.gm_value.specs.Bag.{same_nil}
-use Rattle.gm_graph.specs.declared.outcomes.RunEnd.{RunEnd}
-use Rattle.gm_graph.specs.Graphs.{NumberedGraph, node_count}
+use Rattle.gm_model.specs.declared.outcomes.RunEnd.{RunEnd}
+use Rattle.gm_model.specs.Graphs.{NumberedGraph, node_count}
 use Rattle.gm_image.specs.Program.{Program}
 use Rattle.gm_image.specs.Soundness.{is_sound}
 use Rattle.gm_machine.specs.Machine.{Control, Nodes, Pause, Stops, Steps, outcome, block_at, step_of, all_steps, superstep, start_fields, machine}

@@ -5,7 +5,7 @@ use Rattle.std.specs.List.{flat_map, list_all, range_with_len}
 use Rattle.std.proofs.lemmas.Bool.{cases_eq, cases_lt, eq-eqb, ne_eqb, lt-ltb, le-leb}
 use Rattle.std.proofs.lemmas.List.{append-nil, get_or-set_same, get_or-set_other, length-set}
 use Rattle.std.proofs.lemmas.List.Elements.{filter-append}
-use Rattle.gm_graph.specs.Graphs.{NumberedGraph, node_count}
+use Rattle.gm_model.specs.Graphs.{NumberedGraph, node_count}
 use Rattle.gm_image.specs.Program.{Program}
 use Rattle.gm_machine.specs.Vertex.{Message, After}
 use Rattle.gm_image.specs.Soundness.{is_sound}

@@ -1,7 +1,7 @@
 -- What callers see of a run by workers.
 use Rattle.std.specs.Prelude.{ℕ, Option, List}
 use Rattle.gm_value.specs.declared.values.Value.{Value}
-use Rattle.gm_graph.specs.declared.outcomes.RunEnd.{RunEnd}
+use Rattle.gm_model.specs.declared.outcomes.RunEnd.{RunEnd}
 
 -- what callers see of a core: how the run ended, if it did, how many supersteps were released, and the fields of each node
 pub record CoreView : Type 0 where

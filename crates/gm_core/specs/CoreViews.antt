@@ -1,6 +1,6 @@
 -- A run by workers, as the code holds it.
 use Rattle.std.specs.Prelude.{◌≡◌, ◌<◌, ◌≤◌, ◌-◌, ℕ, false, List, [], length, map, slice_index_or}
-use Rattle.gm_graph.specs.Graphs.{node_count}
+use Rattle.gm_model.specs.Graphs.{node_count}
 use Rattle.gm_machine.specs.Vertex.{Message}
 use Rattle.gm_machine.specs.Masters.{FitsGraph, control_of, pause_of}
 use Rattle.gm_core.specs.declared.cores.Setting.{Setting}

@@ -2,8 +2,8 @@
 use Rattle.std.specs.Prelude.{◌≡◌, ◌<◌, ◌≤◌, ℕ, suc, if◌then◌else◌, IsTrue, Option, Some, None, List, [], ◌∷◌, length, slice_index_or}
 use Rattle.gm_value.specs.declared.values.Value.{Value}
 use Rattle.gm_value.specs.Bag.{SameBag}
-use Rattle.gm_graph.specs.declared.outcomes.RunEnd.{RunEnd}
-use Rattle.gm_graph.specs.Graphs.{NumberedGraph, node_count}
+use Rattle.gm_model.specs.declared.outcomes.RunEnd.{RunEnd}
+use Rattle.gm_model.specs.Graphs.{NumberedGraph, node_count}
 use Rattle.gm_image.specs.Program.{Program}
 use Rattle.gm_image.specs.Soundness.{is_sound}
 use Rattle.gm_machine.specs.Machine.{machine, inbox}

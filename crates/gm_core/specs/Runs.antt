@@ -1,6 +1,6 @@
 -- What runs of events answer.
 use Rattle.std.specs.Prelude.{◌≡◌, ⊤, ℕ, Option, Some, List}
-use Rattle.gm_graph.specs.Graphs.{NumberedGraph}
+use Rattle.gm_model.specs.Graphs.{NumberedGraph}
 use Rattle.gm_image.specs.Program.{Program}
 use Rattle.gm_core.specs.declared.runs.CoreStop.{CoreStop}
 use Rattle.gm_core.specs.declared.runs.CoreStop.TheVariants.{Illegal, NoMemory}

@@ -1,7 +1,7 @@
 -- A superstep of workers that hand over batches, as events.
 use Rattle.std.specs.Prelude.{IsTrue, ◌≡◌, ◌<◌, ℕ, nat_eq, List, [], ◌∷◌, ◌++◌, length, map, filter, slice_index_or}
 use Rattle.std.specs.List.{flat_map}
-use Rattle.gm_graph.specs.Graphs.{NumberedGraph, node_count}
+use Rattle.gm_model.specs.Graphs.{NumberedGraph, node_count}
 use Rattle.gm_image.specs.Program.{Program}
 use Rattle.gm_machine.specs.Vertex.{Message, After}
 use Rattle.gm_machine.specs.Machine.{Control, Nodes, Steps}

@@ -3,9 +3,9 @@ use Rattle.std.specs.Prelude.{ℕ, pos, codes, Option, None, List, [], ◌∷◌
 use Rattle.gm_value.specs.declared.values.Value.TheVariants.{I32}
 use Rattle.gm_value.specs.declared.values.VType.TheVariants as types
 use Rattle.gm_value.specs.declared.reductions.Reduce.TheVariants as reduce
-use Rattle.gm_graph.specs.declared.outcomes.Outcome.TheVariants.{Done}
-use Rattle.gm_graph.specs.declared.outcomes.RunEnd.{RunEnd}
-use Rattle.gm_graph.specs.Graphs.{NumberedGraph}
+use Rattle.gm_model.specs.declared.outcomes.Outcome.TheVariants.{Done}
+use Rattle.gm_model.specs.declared.outcomes.RunEnd.{RunEnd}
+use Rattle.gm_model.specs.Graphs.{NumberedGraph}
 use Rattle.gm_image.specs.Term.{Field, Message as Carried, Neighbour}
 use Rattle.gm_image.specs.Program.{Program, Node, Fold, Send, Each, Out, Step, Finish}
 use Rattle.gm_machine.specs.Vertex.{Message}

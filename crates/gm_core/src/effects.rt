@@ -2,7 +2,7 @@
 
 ghost use Rattle.std.specs.Prelude.{◌≡◌, ◌≢◌, ◌<◌, ◌≤◌, ◌+◌, ◌-◌, ◌++◌, ◌∷◌, ℕ, [], None, List, IfOk, OnOk, false, true, length, map, replicate, slice_set, slice_index, slice_index_or};
 ghost use Rattle.gm_value.specs.declared.values.Value.{Value};
-ghost use Rattle.gm_graph.specs.Graphs.{HasNode, node_count};
+ghost use Rattle.gm_model.specs.Graphs.{HasNode, node_count};
 ghost use Rattle.gm_image.specs.Views.{program};
 ghost use Rattle.gm_machine.specs.Faults.{lesser};
 ghost use Rattle.gm_machine.specs.Machine.{Steps, inbox};

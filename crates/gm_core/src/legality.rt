@@ -2,7 +2,7 @@
 
 ghost use Rattle.std.specs.Prelude.{◌≡◌, ◌<◌, ◌≤◌, ℕ, nat_eq, nat_lt, nat_le, true, false, not, ◌&&◌, if◌then◌else◌, [], length, slice_index_or};
 ghost use Rattle.std.specs.List.{list_all};
-ghost use Rattle.gm_graph.specs.Graphs.{node_count};
+ghost use Rattle.gm_model.specs.Graphs.{node_count};
 ghost use Rattle.gm_image.specs.Views.{program};
 ghost use Rattle.gm_core.specs.Cores.{owner, below, is_in, is_legal};
 ghost use Rattle.gm_core.specs.CoreViews.{row_at, core_of, IsRound, IsWide};

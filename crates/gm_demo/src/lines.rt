@@ -5,7 +5,7 @@ ghost use Rattle.gm_demo.specs.Lines.{distance_of as distance_of_lem, distances,
 
 use crate::writing::{put, put_number};
 use gm_base::NoMemory;
-use gm_graph::Values;
+use gm_columns::Values;
 use gm_value::Value;
 use std::alloc::Global;
 

@@ -2,9 +2,9 @@
 use Rattle.std.proofs.Common.{◌≡◌, ◌∙◌, ℕ, Bool, List, Option, inl, inr, sym, subst}
 use Rattle.gm_base.specs.declared.statuses.Status.{Status}
 use Rattle.gm_base.specs.declared.statuses.Status.TheVariants.{Done as DoneStatus, Refused as RefusedStatus, Usage, BadInput, Fault as FaultStatus, Cut as CutStatus, ReadFault, WriteFault, NoMemory}
-use Rattle.gm_graph.specs.Graphs.{NumberedGraph}
-use Rattle.gm_graph.specs.declared.outcomes.Outcome.{Outcome}
-use Rattle.gm_graph.specs.declared.outcomes.Outcome.TheVariants.{Done, Fault, Cut}
+use Rattle.gm_model.specs.Graphs.{NumberedGraph}
+use Rattle.gm_model.specs.declared.outcomes.Outcome.{Outcome}
+use Rattle.gm_model.specs.declared.outcomes.Outcome.TheVariants.{Done, Fault, Cut}
 use Rattle.gm_listing.specs.Listing.{status_of}
 use Rattle.gm_ast.specs.Program.{Program}
 use Rattle.gm_semantics.specs.Outcomes.{mean}

@@ -5,8 +5,8 @@ use Rattle.std.specs.Prelude.{codes}
 use Rattle.gm_base.specs.declared.statuses.Status.TheVariants.{Done as DoneStatus}
 use Rattle.gm_value.specs.declared.values.VType.TheVariants as types
 use Rattle.gm_value.specs.declared.values.Value.TheVariants.{I32}
-use Rattle.gm_graph.specs.declared.outcomes.Outcome.TheVariants.{Done}
-use Rattle.gm_graph.specs.Graphs.{NumberedGraph}
+use Rattle.gm_model.specs.declared.outcomes.Outcome.TheVariants.{Done}
+use Rattle.gm_model.specs.Graphs.{NumberedGraph}
 use Rattle.gm_machine.proofs.Samples.{total, graph_of, edge}
 use Rattle.gm_machine.specs.Notes.{noted}
 use Rattle.gm_observe.specs.declared.notes.Note.{Note}

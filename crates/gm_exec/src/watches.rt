@@ -12,11 +12,12 @@ ghost use Rattle.gm_exec.specs.Runs.{Ran, audience, end_text};
 
 use crate::programs::{property_names, scalar_names};
 use gm_base::NoMemory;
-use gm_graph::{Graph, RunEnd};
+use gm_graph::Graph;
 use gm_image::{Image, Sound};
 use gm_input::Answer;
 use gm_listing::{Ending, Outputs, listing, status_of};
 use gm_machine::{run_one, run_watched};
+use gm_model::RunEnd;
 use gm_observe::{Observer, report_all};
 use gm_value::Value;
 use std::alloc::Global;

@@ -7,7 +7,7 @@ use Rattle.std.proofs.lemmas.List.Elements.{Contains-get_or, Contains-append_lef
 use Rattle.gm_value.specs.declared.values.Value.{Value}
 use Rattle.gm_graph.specs.declared.builds.RawGraph.{RawGraph}
 use Rattle.gm_graph.specs.declared.groups.Groups.{Groups}
-use Rattle.gm_graph.specs.Columns.{TypedRow}
+use Rattle.gm_columns.specs.Columns.{TypedRow}
 use Rattle.gm_graph.specs.Builds.{IsBuildable, distinct, numbers_of, spread_out}
 use Rattle.gm_graph.specs.Spreads.{IsRowOf, HasRow, value_in}
 use Rattle.gm_graph.specs.Rows.{IsGrouped, lines_of}

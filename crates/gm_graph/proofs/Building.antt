@@ -7,8 +7,8 @@ use Rattle.std.proofs.lemmas.Bool.{cases_eq, cases_lt, cases_Bool, or_cases, eqb
 use Rattle.std.proofs.lemmas.List.{get_or_default, length-map}
 use Rattle.std.proofs.lemmas.List.Edits.{length-remove, get_or-remove_below, get_or-remove_above}
 use Rattle.std.proofs.lemmas.List.Elements.{Contains-append_right, All-nil, All-cons, All-head, All-tail}
-use Rattle.gm_graph.specs.Columns.{TypedRow}
-use Rattle.gm_graph.specs.Graphs.{IsWithin}
+use Rattle.gm_columns.specs.Columns.{TypedRow}
+use Rattle.gm_model.specs.Graphs.{IsWithin}
 use Rattle.gm_graph.specs.Builds.{distinct, spread_out}
 use Rattle.gm_graph.specs.Spreads.{IsRowOf, value_in}
 use Rattle.gm_graph.specs.Rows.{edge_list}

@@ -5,7 +5,7 @@ use Rattle.std.specs.List.Sorted.{IsStrictlyIncreasing}
 use Rattle.std.proofs.lemmas.List.Elements.{All-head, All-tail}
 use Rattle.std.proofs.lemmas.List.{get_or_default}
 use Rattle.gm_graph.specs.declared.builds.RawGraph.{RawGraph}
-use Rattle.gm_graph.specs.Graphs.{Edge, NumberedGraph, IsWithin}
+use Rattle.gm_model.specs.Graphs.{Edge, NumberedGraph, IsWithin}
 use Rattle.gm_graph.specs.Builds.{IsBuiltOf, spread_out}
 use Rattle.gm_graph.proofs.Ascending.{rising, rising-le, one_place}
 use Rattle.gm_graph.proofs.Building.{contains-first, contains-later, contains-cases}

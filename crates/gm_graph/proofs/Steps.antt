@@ -7,7 +7,7 @@ use Rattle.std.proofs.lemmas.Bool.{cases_eq, eq-eqb, ne_eqb}
 use Rattle.std.proofs.lemmas.Option.{slice_get-map}
 use Rattle.std.proofs.lemmas.List.FromFn.{get_or-range_with_len}
 use Rattle.std.proofs.lemmas.List.Sums.{sum_by-cons}
-use Rattle.gm_graph.specs.Graphs.{Edge, Step, nodes_of, edges_of}
+use Rattle.gm_model.specs.Graphs.{Edge, Step, nodes_of, edges_of}
 use Rattle.gm_graph.specs.declared.groups.Groups.{Groups}
 use Rattle.gm_graph.specs.Rows.{edge_list, count_of, count_below, place_of, lines_of, AreStarts, IsGrouped}
 use Rattle.gm_graph.proofs.Grouping.{same, same-self, same-other, place_of-within, count_below-step}

@@ -1,4 +1,4 @@
--- The values of columns are of their types, and so are those of a graph.
+-- The values of a graph are of the types of its columns.
 use Rattle.std.proofs.Common.{inl, inr, ◌≡◌, ℕ, List, [], ◌∷◌, map, get_or, refl, sym, subst}
 use Rattle.std.specs.Prelude.{All}
 use Rattle.std.proofs.lemmas.Bool.{cases_lt, cases_eq, lt-ltb, le-ltb, eq-eqb, ne_eqb}
@@ -8,26 +8,9 @@ use Rattle.gm_value.specs.declared.values.VType.TheVariants.{I32, I64, Flag, Nod
 use Rattle.gm_value.specs.declared.values.Value.{Value}
 use Rattle.gm_value.specs.declared.values.Value.TheVariants.{I32, I64, Flag}
 use Rattle.gm_value.specs.Numbers.{zero_of}
-use Rattle.gm_graph.specs.declared.columns.Cells.{Cells}
-use Rattle.gm_graph.specs.declared.columns.Cells.TheVariants.{Ints, Longs, Flags, Nodes}
 use Rattle.gm_graph.specs.declared.builds.RawGraph.{RawGraph}
-use Rattle.gm_graph.specs.Columns.{TypedRow, CanHold, HaveTypes}
-use Rattle.gm_graph.specs.Cells.{node_in, typed_row}
+use Rattle.gm_columns.specs.Columns.{TypedRow, CanHold, HaveTypes}
 use Rattle.gm_graph.specs.Builds.{IsBuildable, types_of, value_for, spread_out}
-
-node-held : (k : ℕ) → CanHold Node (node_in k)
-node-held k =
-    elim (cases_lt k 4294967295) [
-      | inl below ↦ rw (lt-ltb k 4294967295 below) (record { of_type = refl; storable = below })
-      | inr above ↦ rw (le-ltb k 4294967295 above) (record { of_type = refl; storable = tt })
-    ]
-
--- each value of a column is one that it can hold
-pub cells-held : (cells : Cells) → All (CanHold (typed_row cells).vtype) (typed_row cells).values
-cells-held (Ints v) = All-map (CanHold I32) (λ z. I32 z) v.items (λ k d h. record { of_type = refl; storable = tt })
-cells-held (Longs v) = All-map (CanHold I64) (λ z. I64 z) v.items (λ k d h. record { of_type = refl; storable = tt })
-cells-held (Flags v) = All-map (CanHold Flag) (λ b. Flag b) v.items (λ k d h. record { of_type = refl; storable = tt })
-cells-held (Nodes v) = All-map (CanHold Node) node_in v.items (λ k d h. node-held (get_or v.items k d))
 
 zero-held : (t : VType) → CanHold t (zero_of t)
 zero-held I32 = record { of_type = refl; storable = tt }

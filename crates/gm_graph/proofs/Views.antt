@@ -4,8 +4,8 @@ use Rattle.std.specs.Prelude.{slice_get, All}
 use Rattle.std.specs.Option.{option_and_then}
 use Rattle.std.proofs.lemmas.List.Elements.{All-map}
 use Rattle.gm_value.specs.declared.values.Value.{Value}
-use Rattle.gm_graph.specs.Columns.{TypedRow, cell_at}
-use Rattle.gm_graph.specs.Graphs.{NumberedGraph, Step, IsGraph, HasNode, HasStep, node_count, edge_count, out_steps, in_steps, value_along}
+use Rattle.gm_columns.specs.Columns.{TypedRow, cell_at}
+use Rattle.gm_model.specs.Graphs.{NumberedGraph, Step, IsGraph, HasNode, HasStep, node_count, edge_count, out_steps, in_steps, value_along}
 use Rattle.gm_graph.specs.declared.graphs.Graph.TheInside.{Inside}
 use Rattle.gm_graph.specs.declared.groups.Groups.{Groups}
 use Rattle.gm_graph.specs.Rows.{edge_list, numbered, IsHeld, IsGrouped, lines_of, count_of}

@@ -2,7 +2,7 @@
 use Rattle.std.specs.Prelude.{◌≡◌, pos, [], ◌∷◌, Some, refl}
 use Rattle.gm_value.specs.declared.values.VType.TheVariants.{I32}
 use Rattle.gm_value.specs.declared.values.Value.TheVariants.{I32}
-use Rattle.gm_graph.specs.Graphs.{NumberedGraph, out_steps, in_steps, value_along}
+use Rattle.gm_model.specs.Graphs.{NumberedGraph, out_steps, in_steps, value_along}
 use Rattle.gm_graph.specs.Builds.{distinct, spread_out}
 
 abbrev worked : NumberedGraph

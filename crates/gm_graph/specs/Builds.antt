@@ -5,8 +5,8 @@ use Rattle.std.specs.List.{list_any}
 use Rattle.gm_value.specs.declared.values.VType.{VType}
 use Rattle.gm_value.specs.declared.values.Value.{Value}
 use Rattle.gm_value.specs.Numbers.{zero_of}
-use Rattle.gm_graph.specs.Columns.{TypedRow, HaveTypes}
-use Rattle.gm_graph.specs.Graphs.{NumberedGraph, IsWithin, node_count}
+use Rattle.gm_columns.specs.Columns.{TypedRow, HaveTypes}
+use Rattle.gm_model.specs.Graphs.{NumberedGraph, IsWithin, node_count}
 use Rattle.gm_graph.specs.declared.builds.RawGraph.{RawGraph}
 use Rattle.gm_graph.specs.declared.builds.Shape.{Shape}
 

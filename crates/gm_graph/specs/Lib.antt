@@ -1,6 +1,3 @@
-pub mod Columns
-pub mod Cells
-pub mod Graphs
 pub mod Builds
 pub mod Rows
 pub mod Ranges

@@ -2,7 +2,7 @@
 use Rattle.std.specs.Prelude.{◌≡◌, ◌≢◌, ◌<◌, ◌⊎◌, ℕ, nat_eq, List, slice_index, slice_index_or, if◌then◌else◌}
 use Rattle.gm_value.specs.declared.values.Value.{Value}
 use Rattle.gm_value.specs.Numbers.{zero_of}
-use Rattle.gm_graph.specs.Columns.{TypedRow}
+use Rattle.gm_columns.specs.Columns.{TypedRow}
 
 -- the row below bound that belongs to a number, or 4294967295 where none does
 abbrev pub IsRowOf : List ℕ → ℕ → ℕ → ℕ → Type 0

@@ -2,14 +2,14 @@
 
 ghost use Rattle.std.specs.Prelude.{◌≡◌, ◌<◌, ◌≤◌, ℕ, All, IfOk, slice_index, vec_len};
 ghost use Rattle.gm_graph.specs.Builds.{IsBuildable, IsBuiltOf, HasShape};
-ghost use Rattle.gm_graph.specs.Columns.{CanHold};
+ghost use Rattle.gm_columns.specs.Columns.{CanHold};
 
-use crate::columns::Column;
 use crate::graphs::Graph;
 use crate::groups::Groups;
 use crate::numberings::Numbering;
 use crate::rows::{rows_of, spread_all};
 use gm_base::{Items, NoMemory};
+use gm_columns::Column;
 use gm_value::VType;
 use std::alloc::Global;
 

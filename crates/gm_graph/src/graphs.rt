@@ -1,12 +1,12 @@
 //! Graphs in flat rows.
 
 ghost use Rattle.std.specs.Prelude.{◌≡◌, ◌<◌, ◌≤◌, ◌==◌, Some, All, length, map, position, slice_get};
-ghost use Rattle.gm_graph.specs.Columns.{cell_at};
-ghost use Rattle.gm_graph.specs.Graphs.{IsGraph, HasNode, HasEdge, HasStep, HasNodeColumn, HasEdgeColumn, node_count, edge_count, out_steps, in_steps, nodes_of, edges_of, value_along};
+ghost use Rattle.gm_columns.specs.Columns.{cell_at};
+ghost use Rattle.gm_model.specs.Graphs.{IsGraph, HasNode, HasEdge, HasStep, HasNodeColumn, HasEdgeColumn, node_count, edge_count, out_steps, in_steps, nodes_of, edges_of, value_along};
 
-use crate::columns::Column;
 use crate::groups::Groups;
 use crate::numbers::index_in;
+use gm_columns::Column;
 use gm_value::Value;
 use std::marker::Model;
 
@@ -24,7 +24,7 @@ pub struct Graph {
 }
 
 impl Model for Graph {
-    ghost use Rattle.gm_graph.specs.Graphs.{NumberedGraph};
+    ghost use Rattle.gm_model.specs.Graphs.{NumberedGraph};
 
     ghost Value = { NumberedGraph };
 

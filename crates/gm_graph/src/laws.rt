@@ -2,7 +2,7 @@
 
 ghost use Rattle.std.specs.Prelude.{◌≡◌};
 ghost use Rattle.gm_graph.specs.Builds.{IsBuiltOf};
-ghost use Rattle.gm_graph.specs.Graphs.{NumberedGraph};
+ghost use Rattle.gm_model.specs.Graphs.{NumberedGraph};
 ghost use Rattle.gm_graph.specs.declared.builds.RawGraph.{RawGraph};
 
 /// What a graph is made of determines it: two graphs that are made of the same are the same.

@@ -2,12 +2,12 @@
 
 ghost use Rattle.std.specs.Prelude.{◌≡◌, ◌<◌, ◌≤◌, ℕ, All, AllPairs, Contains, IfOk, length, map, slice_index, vec_len};
 ghost use Rattle.std.specs.List.Sorted.{IsStrictlyIncreasing};
-ghost use Rattle.gm_graph.specs.Columns.{CanHold};
+ghost use Rattle.gm_columns.specs.Columns.{CanHold};
 ghost use Rattle.gm_graph.specs.Spreads.{IsRowOf, HasRow, value_in};
 
-use crate::columns::Column;
 use crate::numberings::Numbering;
 use gm_base::NoMemory;
+use gm_columns::Column;
 use gm_value::Value;
 use std::alloc::Global;
 

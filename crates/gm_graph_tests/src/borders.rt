@@ -2,7 +2,7 @@
 //! partitions them: two parallel edges and a self-loop at each node, and one edge far away.
 
 ghost use Rattle.std.specs.Prelude.{◌≡◌, ◌≤◌, ◌<◌, IfOk};
-ghost use Rattle.gm_graph.specs.Graphs.{HasNode};
+ghost use Rattle.gm_model.specs.Graphs.{HasNode};
 ghost use Rattle.gm_loader.specs.GraphText.{HasColumns};
 ghost use Rattle.gm_loader.specs.Rows.{weighted};
 

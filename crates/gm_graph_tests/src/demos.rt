@@ -1,5 +1,5 @@
+use gm_columns::{Column, Values};
 use gm_demo::*;
-use gm_graph::{Column, Values};
 use gm_value::{VType, Value};
 use std::alloc::{AllocError, Global};
 use std::test::Fail;

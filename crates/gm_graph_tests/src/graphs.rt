@@ -5,7 +5,8 @@ ghost use Rattle.gm_value.specs.declared.values.VType.TheVariants.{I32};
 ghost use Rattle.gm_graph.specs.Builds.{IsBuildable, types_of};
 
 use gm_base::{Items, NoMemory};
-use gm_graph::{Column, Graph, RawGraph, Shape, Values, build};
+use gm_columns::{Column, Values};
+use gm_graph::{Graph, RawGraph, Shape, build};
 use gm_value::{VType, Value};
 use std::alloc::{AllocError, Global};
 use std::fmt::Write;

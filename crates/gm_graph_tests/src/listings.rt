@@ -2,11 +2,13 @@
 
 ghost use Rattle.std.specs.Prelude.{IfOk};
 ghost use Rattle.gm_graph.specs.Builds.{IsBuildable};
-ghost use Rattle.gm_graph.specs.Columns.{CanHold};
+ghost use Rattle.gm_columns.specs.Columns.{CanHold};
 
 use gm_base::{Items, NoMemory, Place, Status};
-use gm_graph::{Column, Graph, Outcome, RawGraph, Shape, Values, build};
+use gm_columns::{Column, Values};
+use gm_graph::{Graph, RawGraph, Shape, build};
 use gm_listing::{Ending, Outputs, listing, status_of};
+use gm_model::Outcome;
 use gm_value::{FaultKind, VType, Value};
 use std::alloc::Global;
 use std::process::Abort;

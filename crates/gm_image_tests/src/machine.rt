@@ -7,10 +7,12 @@ ghost use Rattle.gm_machine.specs.Masters.{FitsGraph};
 
 use crate::texts::{text_of, verified};
 use gm_base::{Items, NoMemory};
-use gm_graph::{Graph, Outcome, RawGraph, Shape, Values, build};
+use gm_columns::Values;
+use gm_graph::{Graph, RawGraph, Shape, build};
 use gm_image::Image;
 use gm_image_text::read_image;
 use gm_machine::{Master, inboxes_have_no_order, master_run, run_one};
+use gm_model::Outcome;
 use gm_value::Value;
 use std::alloc::{AllocError, Global};
 use std::test::Fail;

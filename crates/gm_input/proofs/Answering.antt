@@ -4,7 +4,7 @@ use Rattle.std.specs.Prelude.{Result, Ok, Err, IfOk, nat_lt}
 use Rattle.std.proofs.lemmas.List.{length-take, take_all}
 use Rattle.std.proofs.lemmas.Bool.{cases_lt}
 use Rattle.gm_base.specs.declared.statuses.Status.{Status}
-use Rattle.gm_graph.specs.Graphs.{NumberedGraph}
+use Rattle.gm_model.specs.Graphs.{NumberedGraph}
 use Rattle.gm_graph.specs.declared.builds.Shape.{Shape}
 use Rattle.gm_loader.specs.declared.faults.GraphFault.{GraphFault}
 use Rattle.gm_loader.specs.declared.faults.GraphFault.TheVariants as faults

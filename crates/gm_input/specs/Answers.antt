@@ -5,7 +5,7 @@ use Rattle.std.specs.Prelude.{◌≡◌, ℕ, List, Ok, Err}
 use Rattle.gm_base.specs.declared.statuses.Status.{Status}
 use Rattle.gm_base.specs.declared.statuses.Status.TheVariants.{BadInput}
 use Rattle.gm_value.specs.declared.values.Value.{Value}
-use Rattle.gm_graph.specs.Graphs.{NumberedGraph}
+use Rattle.gm_model.specs.Graphs.{NumberedGraph}
 use Rattle.gm_graph.specs.declared.builds.Shape.{Shape}
 use Rattle.gm_loader.specs.declared.faults.GraphFault.{GraphFault}
 use Rattle.gm_loader.specs.GraphText.{StandsFor, lines_of}

@@ -4,7 +4,7 @@ use Rattle.std.specs.Prelude.{◌||◌, ◌&&◌, nat_eq}
 use Rattle.std.proofs.lemmas.Bool.{cases_Bool, ne_eqb}
 use Rattle.std.proofs.lemmas.List.{take_more, length-map}
 use Rattle.std.proofs.lemmas.List.Folds.{list_any-append}
-use Rattle.gm_graph.specs.Graphs.{NumberedGraph, nodes_of, out_steps}
+use Rattle.gm_model.specs.Graphs.{NumberedGraph, nodes_of, out_steps}
 use Rattle.gm_semantics.specs.Levels.{is_among}
 use Rattle.gm_levels.specs.Searches.{AreMarked, cell_at, is_open, targets_of}
 use Rattle.gm_levels.specs.declared.searches.Search.{Search}

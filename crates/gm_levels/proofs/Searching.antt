@@ -7,7 +7,7 @@ use Rattle.std.proofs.lemmas.List.{get_or-set_same, get_or-set_other, get_or_pas
 use Rattle.std.proofs.lemmas.List.Elements.{All-from_get_or, All-nil, All-cons}
 use Rattle.std.proofs.lemmas.List.Sums.{sum_by-set, count_by-le-length}
 use Rattle.gm_value.specs.Bag.{IsIn}
-use Rattle.gm_graph.specs.Graphs.{NumberedGraph, Edge, Step, IsGraph, HasNode, node_count, nodes_of, out_steps}
+use Rattle.gm_model.specs.Graphs.{NumberedGraph, Edge, Step, IsGraph, HasNode, node_count, nodes_of, out_steps}
 use Rattle.gm_semantics.specs.Levels.{is_among}
 use Rattle.gm_levels.specs.Views.{level_in}
 use Rattle.gm_levels.specs.Walks.{Walk, start, onward, edge}

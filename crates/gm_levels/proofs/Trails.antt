@@ -6,7 +6,7 @@ use Rattle.std.proofs.lemmas.Bool.{cases_Bool, both_ways, cases_lt}
 use Rattle.std.proofs.lemmas.Map.Keys.{IsDistinct-cons}
 use Rattle.std.proofs.lemmas.Map.Steps.{length-le_from_distinct_below}
 use Rattle.gm_value.specs.Bag.{IsIn}
-use Rattle.gm_graph.specs.Graphs.{NumberedGraph, IsGraph, HasNode, node_count}
+use Rattle.gm_model.specs.Graphs.{NumberedGraph, IsGraph, HasNode, node_count}
 use Rattle.gm_semantics.specs.Levels.{is_among, walk_ends}
 use Rattle.gm_levels.specs.Walks.{Walk, onward, NoLevelNoWalk}
 use Rattle.gm_levels.proofs.Walking.{among_in, walk_from_test, test_from_walk, walk_within, last_step, find_none}

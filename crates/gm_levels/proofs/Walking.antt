@@ -5,7 +5,7 @@ use Rattle.std.specs.List.{list_any, enumerate_from}
 use Rattle.std.proofs.lemmas.Bool.{cases_Bool, both_ways, eqb-true, eq-eqb, cases_lt}
 use Rattle.std.proofs.lemmas.List.Elements.{All-head, All-tail}
 use Rattle.gm_value.specs.Bag.{IsIn}
-use Rattle.gm_graph.specs.Graphs.{NumberedGraph, Edge, Step, IsGraph, IsWithin, HasNode, node_count, in_steps}
+use Rattle.gm_model.specs.Graphs.{NumberedGraph, Edge, Step, IsGraph, IsWithin, HasNode, node_count, in_steps}
 use Rattle.gm_semantics.specs.Levels.{numbers_from, nodes, is_among, walk_ends, level_of}
 use Rattle.gm_levels.specs.Walks.{Walk, start, onward, edge, LevelIsAWalk, LevelIsLeast}
 

@@ -1,6 +1,6 @@
 -- The rounds of a search: which nodes get a level.
 use Rattle.std.specs.Prelude.{◌≡◌, ◌<◌, ◌≤◌, ◌+◌, ◌⊎◌, ◌&&◌, ◌||◌, ℕ, Bool, nat_eq, List, [], ◌∷◌, ◌++◌, length, All, slice_index_or, if◌then◌else◌, count_by}
-use Rattle.gm_graph.specs.Graphs.{NumberedGraph, node_count, nodes_of, out_steps}
+use Rattle.gm_model.specs.Graphs.{NumberedGraph, node_count, nodes_of, out_steps}
 use Rattle.gm_semantics.specs.Levels.{is_among, level_of}
 use Rattle.gm_levels.specs.Views.{level_in}
 use Rattle.gm_levels.specs.declared.searches.Search.{Search}

@@ -1,7 +1,7 @@
 -- Walks from a root, and what levels are in their words.
 use Rattle.std.specs.Prelude.{◌≡◌, ◌<◌, ℕ, zero, suc, Some, None}
 use Rattle.gm_value.specs.Bag.{IsIn}
-use Rattle.gm_graph.specs.Graphs.{NumberedGraph, Edge, IsGraph, HasNode}
+use Rattle.gm_model.specs.Graphs.{NumberedGraph, Edge, IsGraph, HasNode}
 use Rattle.gm_semantics.specs.Levels.{level_of}
 
 -- an edge by its ends

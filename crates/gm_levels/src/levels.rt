@@ -1,7 +1,7 @@
 //! The levels of the nodes of a graph, and its nodes by level.
 
 ghost use Rattle.std.specs.Prelude.{◌≡◌, ◌<◌, ◌≤◌, ◌+◌, ℕ, IfOk, Some, None, length, slice_get, slice_index, slice_index_or};
-ghost use Rattle.gm_graph.specs.Graphs.{HasNode};
+ghost use Rattle.gm_model.specs.Graphs.{HasNode};
 ghost use Rattle.gm_semantics.specs.Levels.{level_of, levels};
 ghost use Rattle.gm_levels.specs.Rows.{part_of};
 

@@ -1,7 +1,7 @@
 //! The search itself, by rounds: the nodes that one round finds are the frontier of the next.
 
 ghost use Rattle.std.specs.Prelude.{◌≡◌, ◌<◌, ◌≤◌, ◌+◌, ℕ, [], ◌∷◌, replicate, set, IfOk, OnOk, All, length};
-ghost use Rattle.gm_graph.specs.Graphs.{HasNode, node_count, nodes_of, out_steps};
+ghost use Rattle.gm_model.specs.Graphs.{HasNode, node_count, nodes_of, out_steps};
 ghost use Rattle.gm_levels.specs.Searches.{AreMarked, AreReached, targets_of};
 
 use crate::levels::NONE;

@@ -5,7 +5,7 @@ use Rattle.std.specs.Prelude.{codes, decimal}
 use Rattle.std.proofs.lemmas.Fmt.{decimal_digit}
 use Rattle.gm_value.specs.declared.values.Value.TheVariants.{I32, I64, Flag, At}
 use Rattle.gm_value.specs.declared.faults.FaultKind.TheVariants.{NilNode}
-use Rattle.gm_graph.specs.declared.outcomes.Outcome.TheVariants.{Done, Fault, Cut}
+use Rattle.gm_model.specs.declared.outcomes.Outcome.TheVariants.{Done, Fault, Cut}
 use Rattle.gm_listing.specs.declared.outputs.Ending.TheVariants.{Turns, Counts}
 use Rattle.gm_listing.specs.Listing.{line_end, listing}
 

@@ -9,8 +9,8 @@ use Rattle.gm_base.specs.Places.{place_text}
 use Rattle.gm_value.specs.declared.values.Value.{Value}
 use Rattle.gm_value.specs.declared.values.Value.TheVariants.{I32, I64, Flag, At}
 use Rattle.gm_value.specs.Faults.{fault_text}
-use Rattle.gm_graph.specs.declared.outcomes.Outcome.{Outcome}
-use Rattle.gm_graph.specs.declared.outcomes.Outcome.TheVariants.{Done, Fault, Cut}
+use Rattle.gm_model.specs.declared.outcomes.Outcome.{Outcome}
+use Rattle.gm_model.specs.declared.outcomes.Outcome.TheVariants.{Done, Fault, Cut}
 use Rattle.gm_listing.specs.declared.outputs.Outputs.{Outputs}
 use Rattle.gm_listing.specs.declared.outputs.Ending.{Ending}
 use Rattle.gm_listing.specs.declared.outputs.Ending.TheVariants.{Turns, Counts}

@@ -5,7 +5,8 @@ ghost use Rattle.gm_base.specs.Places.{place_text};
 ghost use Rattle.gm_listing.specs.Listing.{value_text, name_field, value_field};
 
 use gm_base::{NoMemory, Place};
-use gm_graph::{Graph, Values};
+use gm_columns::Values;
+use gm_graph::Graph;
 use gm_value::Value;
 use itoa::{Buffer, Integer};
 

@@ -10,7 +10,8 @@ use crate::outputs::{Ending, Outputs};
 use crate::scalars::{put_result, put_scalars};
 use crate::tables::put_node_table;
 use gm_base::{NoMemory, Place, Status};
-use gm_graph::{Graph, Outcome};
+use gm_graph::Graph;
+use gm_model::Outcome;
 use gm_value::FaultKind;
 use std::alloc::Global;
 

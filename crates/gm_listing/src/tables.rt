@@ -6,7 +6,8 @@ ghost use Rattle.gm_listing.specs.Listing.{name_field, head_line, value_fields, 
 
 use crate::fields::{put, put_name_field, put_number, put_value_field};
 use gm_base::NoMemory;
-use gm_graph::{Graph, Values};
+use gm_columns::Values;
+use gm_graph::Graph;
 
 // Writes names, each after a space.
 fn put_names(text: &mut Vec<u8>, names: &[&[u8]]) -> Result<(), NoMemory>

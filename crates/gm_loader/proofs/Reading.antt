@@ -9,8 +9,8 @@ use Rattle.gm_value.specs.declared.values.VType.{VType}
 use Rattle.gm_value.specs.declared.values.Value.{Value}
 use Rattle.gm_graph.specs.declared.builds.Shape.{Shape}
 use Rattle.gm_graph.specs.declared.builds.RawGraph.{RawGraph}
-use Rattle.gm_graph.specs.Graphs.{NumberedGraph}
-use Rattle.gm_graph.specs.Columns.{TypedRow}
+use Rattle.gm_model.specs.Graphs.{NumberedGraph}
+use Rattle.gm_columns.specs.Columns.{TypedRow}
 use Rattle.gm_graph.specs.Builds.{IsBuildable, IsBuiltOf, spread_out}
 use Rattle.gm_loader.specs.declared.faults.GraphFault.TheVariants as fault
 use Rattle.gm_loader.specs.declared.faults.LineFault.{LineFault}

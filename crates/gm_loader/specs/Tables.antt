@@ -6,7 +6,7 @@ use Rattle.gm_value.specs.declared.values.Value.{Value}
 use Rattle.gm_value.specs.declared.values.VType.{VType}
 use Rattle.gm_value.specs.declared.values.VType.TheVariants.{I32, I64, Flag, Node}
 use Rattle.gm_graph.specs.declared.builds.Shape.{Shape}
-use Rattle.gm_graph.specs.Columns.{TypedRow}
+use Rattle.gm_columns.specs.Columns.{TypedRow}
 use Rattle.gm_loader.specs.declared.faults.LineFault.{LineFault}
 use Rattle.gm_loader.specs.declared.faults.LineFault.TheVariants.{MissingColumn}
 use Rattle.gm_loader.specs.declared.faults.LineStop.{LineStop}

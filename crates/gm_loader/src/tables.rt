@@ -16,8 +16,9 @@ use crate::limits::Limits;
 use crate::quick::ends_of;
 use crate::sets::NumberSet;
 use gm_base::{Items, NoMemory};
+use gm_columns::Column;
 use gm_fields::{cut_field, cut_line};
-use gm_graph::{Column, RawGraph, Shape};
+use gm_graph::{RawGraph, Shape};
 use gm_value::VType;
 use std::alloc::{AllocError, Global};
 

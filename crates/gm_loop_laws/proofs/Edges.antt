@@ -5,7 +5,7 @@ use Rattle.std.specs.List.{enumerate_from}
 use Rattle.std.proofs.lemmas.Bool.{eqb-true, eqb-false, ne_eqb}
 use Rattle.gm_value.specs.Bag.{IsIn, SameBag, same_nil, same_cons, same_trans}
 use Rattle.gm_value.proofs.BagLaws.{SameBag-refl, SameBag-sym, SameBag-append_left, SameBag-middle}
-use Rattle.gm_graph.specs.Graphs.{NumberedGraph, Edge, Step, IsWithin, IsGraph, node_count, out_steps, in_steps}
+use Rattle.gm_model.specs.Graphs.{NumberedGraph, Edge, Step, IsWithin, IsGraph, node_count, out_steps, in_steps}
 use Rattle.gm_semantics.specs.Faults.{joined}
 use Rattle.gm_semantics.specs.Levels.{numbers_from, nodes}
 use Rattle.gm_loop_laws.proofs.Joins.{map-compose, map-each}

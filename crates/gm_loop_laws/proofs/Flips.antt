@@ -7,7 +7,7 @@ use Rattle.gm_base.specs.declared.places.Place.{Place}
 use Rattle.gm_value.specs.declared.values.Value.TheVariants.{At}
 use Rattle.gm_value.specs.Bag.{IsIn, SameBag}
 use Rattle.gm_value.proofs.BagLaws.{SameBag-map, SameBag-sym}
-use Rattle.gm_graph.specs.Graphs.{NumberedGraph, IsGraph, Step, node_count}
+use Rattle.gm_model.specs.Graphs.{NumberedGraph, IsGraph, Step, node_count}
 use Rattle.gm_ast.specs.declared.tree.Declaration.{Declaration}
 use Rattle.gm_ast.specs.declared.tree.Domain.{Domain}
 use Rattle.gm_ast.specs.declared.tree.Domain.TheVariants.{Nodes, OutNbrs, InNbrs, UpNbrs, DownNbrs}

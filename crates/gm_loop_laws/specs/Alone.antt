@@ -2,7 +2,7 @@
 use Rattle.std.specs.Prelude.{◌≡◌, ℕ, nat_eq, Bool, true, false, ◌&&◌, not, List}
 use Rattle.std.specs.List.{list_all}
 use Rattle.gm_base.specs.declared.places.Place.{Place}
-use Rattle.gm_graph.specs.Graphs.{IsGraph}
+use Rattle.gm_model.specs.Graphs.{IsGraph}
 use Rattle.gm_ast.specs.declared.tree.Declaration.{Declaration}
 use Rattle.gm_ast.specs.declared.tree.Head.{Head}
 use Rattle.gm_ast.specs.declared.tree.Key.{Key}

@@ -7,7 +7,7 @@ use Rattle.gm_semantics.specs.Contributions.{Contribution}
 use Rattle.gm_semantics.specs.declared.faults.Fault.{Fault}
 use Rattle.gm_semantics.specs.declared.slots.Write.{Write}
 use Rattle.gm_semantics.specs.Stores.{Store, write}
-use Rattle.gm_graph.specs.Graphs.{node_count}
+use Rattle.gm_model.specs.Graphs.{node_count}
 use Rattle.gm_ast.specs.declared.tree.Key.{Key}
 use Rattle.gm_value.specs.declared.values.Value.{Value}
 use Rattle.gm_value.specs.declared.values.Value.TheVariants.{At}

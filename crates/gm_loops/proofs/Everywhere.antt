@@ -10,8 +10,8 @@ use Rattle.gm_value.specs.declared.operations.Op1.{Op1}
 use Rattle.gm_value.specs.declared.operations.Op2.{Op2}
 use Rattle.gm_value.specs.declared.faults.FaultKind.{FaultKind}
 use Rattle.gm_value.specs.Operations.{result1, result2}
-use Rattle.gm_graph.specs.Graphs.{node_count}
-use Rattle.gm_graph.specs.Cells.{node_in as cell_node}
+use Rattle.gm_model.specs.Graphs.{node_count}
+use Rattle.gm_columns.specs.Cells.{node_in as cell_node}
 use Rattle.gm_ast.specs.Program.{Expr, Var, Property, Unary, Binary}
 use Rattle.gm_semantics.specs.declared.faults.Fault.{Fault}
 use Rattle.gm_semantics.specs.Faults.{then_with}

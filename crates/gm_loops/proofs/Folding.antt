@@ -11,7 +11,7 @@ use Rattle.gm_value.specs.Numbers.{number_of}
 use Rattle.gm_value.specs.Reductions.{total}
 use Rattle.gm_value.specs.declared.totals.Total.TheVariants.{Small}
 use Rattle.gm_value.specs.Totals.{AreNear, IsTotal}
-use Rattle.gm_graph.specs.Graphs.{Step}
+use Rattle.gm_model.specs.Graphs.{Step}
 use Rattle.gm_ast.specs.declared.surface.ReductionWord.{ReductionWord}
 use Rattle.gm_ast.specs.declared.surface.ReductionWord.TheVariants.{All, Exist}
 use Rattle.gm_ast.specs.declared.tree.Domain.TheVariants.{Nodes}

@@ -1,7 +1,7 @@
 -- The nodes by their numbers, and steps one by one.
 use Rattle.std.proofs.Common.{◌≡◌, ◌∙◌, ◌<◌, ◌+◌, ℕ, zero, suc, true, false, List, [], ◌∷◌, length, map, drop, slice_get, Some, Option, refl, ap, sym, arith}
 use Rattle.std.proofs.lemmas.List.{length-map}
-use Rattle.gm_graph.specs.Graphs.{NumberedGraph, Step, nodes_of, edges_of, node_count}
+use Rattle.gm_model.specs.Graphs.{NumberedGraph, Step, nodes_of, edges_of, node_count}
 use Rattle.gm_semantics.specs.Levels.{numbers_from, nodes, node_steps}
 use Rattle.gm_loops.specs.declared.ranges.Course.{Course}
 use Rattle.gm_loops.specs.declared.ranges.Course.TheVariants.{Any, Above, Below}

@@ -5,7 +5,7 @@ use Rattle.gm_value.specs.declared.values.Value.TheVariants.{At}
 use Rattle.gm_value.specs.declared.operations.Op1.{Op1}
 use Rattle.gm_value.specs.declared.operations.Op2.{Op2}
 use Rattle.gm_value.specs.Operations.{result1, result2}
-use Rattle.gm_graph.specs.Graphs.{node_count}
+use Rattle.gm_model.specs.Graphs.{node_count}
 use Rattle.gm_ast.specs.Program.{Expr}
 use Rattle.gm_semantics.specs.declared.slots.Slot.TheVariants.{Scalar}
 use Rattle.gm_semantics.specs.Expressions.{View, evaluated, plain}

@@ -1,6 +1,6 @@
 -- The steps of a loop or a reduction, as the code goes over them.
 use Rattle.std.specs.Prelude.{◌<◌, ℕ, ⊤, Bool, true, List, [], ◌∷◌, filter, drop, Option, Some, None, option_map}
-use Rattle.gm_graph.specs.Graphs.{NumberedGraph, Step, out_steps, in_steps}
+use Rattle.gm_model.specs.Graphs.{NumberedGraph, Step, out_steps, in_steps}
 use Rattle.gm_semantics.specs.Levels.{node_steps, is_next}
 use Rattle.gm_loops.specs.declared.ranges.Edges.{Edges}
 use Rattle.gm_loops.specs.declared.ranges.Edges.TheVariants.{NoStep, AllNodes, From, To}

@@ -7,7 +7,7 @@ use Rattle.gm_value.specs.Operations.{is_true}
 use Rattle.gm_value.specs.Totals.{IsTotal}
 use Rattle.gm_semantics.specs.declared.faults.Fault.{Fault}
 use Rattle.gm_semantics.specs.Faults.{least, errs, oks, joined}
-use Rattle.gm_graph.specs.Graphs.{Step}
+use Rattle.gm_model.specs.Graphs.{Step}
 use Rattle.gm_ast.specs.declared.tree.Fold.{Fold}
 use Rattle.gm_ast.specs.declared.tree.Head.{Head}
 use Rattle.gm_ast.specs.Program.{Expr}

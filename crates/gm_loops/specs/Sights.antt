@@ -2,7 +2,7 @@
 use Rattle.std.specs.Prelude.{◌≡◌, ◌<◌, ℕ, ⊤, All, pos, List, [], option_map, Option, Some, None, length, slice_get, slice_index_or}
 use Rattle.gm_value.specs.declared.values.Value.{Value}
 use Rattle.gm_value.specs.declared.values.Value.TheVariants.{I32}
-use Rattle.gm_graph.specs.Graphs.{NumberedGraph, node_count}
+use Rattle.gm_model.specs.Graphs.{NumberedGraph, node_count}
 use Rattle.gm_levels.specs.Views.{NodeLevels}
 use Rattle.gm_semantics.specs.Expressions.{View}
 use Rattle.gm_store.specs.Held.{Held, store_of}

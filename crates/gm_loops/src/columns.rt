@@ -4,7 +4,7 @@ ghost use Rattle.std.specs.Prelude.{◌≡◌, ◌<◌, Ok, IfOk, IfSome, length
 ghost use Rattle.gm_base.specs.declared.places.Place.{Place};
 ghost use Rattle.gm_value.specs.declared.values.Value.TheVariants.{I32, Flag};
 ghost use Rattle.gm_value.specs.Operations.{result2};
-ghost use Rattle.gm_graph.specs.Graphs.{node_count};
+ghost use Rattle.gm_model.specs.Graphs.{node_count};
 ghost use Rattle.gm_ast.specs.Program as program;
 ghost use Rattle.gm_ast.specs.Tree.{expr_of};
 ghost use Rattle.gm_semantics.specs.Levels.{numbers_from};

@@ -1,7 +1,7 @@
 //! Parallel loops of sequential phases.
 
 ghost use Rattle.std.specs.Prelude.{◌≡◌, ◌<◌, ◌≤◌, ◌∷◌, ◌++◌, [], List, All, IfOk, OnOk, length, map, slice_index_or, ℕ};
-ghost use Rattle.gm_graph.specs.Graphs.{node_count};
+ghost use Rattle.gm_model.specs.Graphs.{node_count};
 ghost use Rattle.gm_ast.specs.Tree.{expr_of};
 ghost use Rattle.gm_semantics.specs.Iterations as iterations;
 ghost use Rattle.gm_semantics.specs.Iterations.{does};

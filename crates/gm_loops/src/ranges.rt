@@ -1,7 +1,7 @@
 //! The steps of loops and reductions.
 
 ghost use Rattle.std.specs.Prelude.{◌≡◌, ◌<◌, ◌≤◌, ◌+◌, Some, IfSome, OnOk, length, map, slice_get};
-ghost use Rattle.gm_graph.specs.Graphs.{node_count};
+ghost use Rattle.gm_model.specs.Graphs.{node_count};
 ghost use Rattle.gm_semantics.specs.Levels.{is_next};
 ghost use Rattle.gm_semantics.specs.Expressions.{View, steps_of, steps_in};
 ghost use Rattle.gm_loops.specs.Sights.{levels_of, view_of, Fits};

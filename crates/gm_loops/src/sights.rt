@@ -2,7 +2,7 @@
 
 ghost use Rattle.std.specs.Prelude.{◌≡◌, ◌<◌, true, All, IfOk, slice_index_or};
 ghost use Rattle.gm_value.specs.declared.values.Value.TheVariants.{At};
-ghost use Rattle.gm_graph.specs.Graphs.{node_count};
+ghost use Rattle.gm_model.specs.Graphs.{node_count};
 ghost use Rattle.gm_semantics.specs.Levels.{node_in};
 ghost use Rattle.gm_semantics.specs.Expressions.{View, node_of, at_node, degree_of};
 ghost use Rattle.gm_store.specs.Held.{scalar_of, node_of as held_node};

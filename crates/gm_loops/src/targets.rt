@@ -2,7 +2,7 @@
 
 ghost use Rattle.std.specs.Prelude.{◌≡◌, ◌∷◌, [], IfOk, IfSome, Ok};
 ghost use Rattle.gm_value.specs.Reductions.{close};
-ghost use Rattle.gm_graph.specs.Graphs.{node_count};
+ghost use Rattle.gm_model.specs.Graphs.{node_count};
 ghost use Rattle.gm_ast.specs.Tree.{expr_of};
 ghost use Rattle.gm_semantics.specs.Expressions.{evaluated, value};
 ghost use Rattle.gm_semantics.specs.Iterations.{alone, assigned, at_once, slot_of, target_value};

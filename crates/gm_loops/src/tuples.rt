@@ -1,7 +1,7 @@
 //! Argument reductions: several targets that count as one, with a value for each.
 
 ghost use Rattle.std.specs.Prelude.{◌≡◌, [], All, IfOk, None, Ok, map};
-ghost use Rattle.gm_graph.specs.Graphs.{node_count};
+ghost use Rattle.gm_model.specs.Graphs.{node_count};
 ghost use Rattle.gm_ast.specs.Tree.{expr_of};
 ghost use Rattle.gm_semantics.specs.Expressions.{evaluated_all};
 ghost use Rattle.gm_semantics.specs.Iterations.{assigned_all, slots_of, target_value, together};

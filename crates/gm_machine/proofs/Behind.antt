@@ -2,7 +2,7 @@
 use Rattle.std.proofs.Common.{◌≡◌, ℕ, zero, suc, Bool, true, false, ◌&&◌, List, [], ◌∷◌, ◌++◌, Option, Some, None, Result, Ok, Err, slice_set, if◌then◌else◌, take, refl, ap, ◌∙◌, append_assoc}
 use Rattle.gm_value.specs.declared.values.Value.{Value}
 use Rattle.gm_value.specs.Operations.{is_true}
-use Rattle.gm_graph.specs.Graphs.{Step}
+use Rattle.gm_model.specs.Graphs.{Step}
 use Rattle.gm_image.specs.Program.{Line, SetField, Fold, SetRegister, Put, Send, Skip, Each}
 use Rattle.gm_image.specs.Folds.{sets_no_field}
 use Rattle.gm_machine.specs.declared.faults.Fault.{Fault}

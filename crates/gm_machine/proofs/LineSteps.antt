@@ -1,7 +1,7 @@
 -- Steps along lists of expressions and of edges.
 use Rattle.std.proofs.Common.{◌≡◌, ℕ, zero, suc, Option, Some, Result, Ok, Err, List, [], ◌∷◌, ◌++◌, drop, ◌+◌, add-one, sym, ap, ◌∙◌}
 use Rattle.std.specs.Prelude.{slice_get}
-use Rattle.gm_graph.specs.Graphs.{Step, nodes_of, edges_of}
+use Rattle.gm_model.specs.Graphs.{Step, nodes_of, edges_of}
 use Rattle.gm_machine.specs.declared.faults.Fault.{Fault}
 use Rattle.gm_image.specs.Program.{Line}
 use Rattle.gm_machine.specs.Faults.{lesser}

@@ -2,7 +2,7 @@
 use Rattle.std.proofs.Common.{◌≡◌, ◌<◌, ◌≤◌, ℕ, zero, suc, ◌+◌, ◌-◌, ◌*◌, List, [], ◌∷◌, length, drop, refl, ap, ◌∙◌, sym, arith, zero-add}
 use mathlib.Core.Path.{fun_ext}
 use Rattle.gm_image.specs.Program.{Program, Command}
-use Rattle.gm_graph.specs.Graphs.{NumberedGraph}
+use Rattle.gm_model.specs.Graphs.{NumberedGraph}
 use Rattle.gm_machine.specs.Machine.{Control, Stop, Lead, On, ToStep, ToTurn, ToStop, MasterSegment, AtEnd, AtStep, AtTurn, segment, Pause, Stops, Steps, pause, lead_answer, forward, from_line, turn_at, run_from, command_after}
 
 -- the lines below a line

@@ -8,7 +8,7 @@ use Rattle.gm_value.specs.declared.values.Value.{Value}
 use Rattle.gm_machine.specs.declared.batches.MessageHeader.{MessageHeader}
 use Rattle.gm_machine.specs.declared.faults.Fault.{Fault}
 use Rattle.gm_machine.specs.Taking.{Contribution}
-use Rattle.gm_graph.specs.Graphs.{NumberedGraph}
+use Rattle.gm_model.specs.Graphs.{NumberedGraph}
 use Rattle.gm_image.specs.Program.{Program, Block}
 use Rattle.gm_image.specs.Views.{program}
 use Rattle.gm_machine.specs.declared.supersteps.Round.{Round}

@@ -6,7 +6,7 @@ use Rattle.std.specs.Int.{FitsUnsigned}
 use mir.Syntax.{w32}
 use Rattle.std.proofs.lemmas.Bool.{ne_eqb, le-ltb, cases_lt}
 use Rattle.gm_value.specs.declared.values.Value.TheVariants.{At}
-use Rattle.gm_graph.specs.Graphs.{NumberedGraph, Edge, Step, IsGraph, IsWithin, node_count, out_steps, in_steps}
+use Rattle.gm_model.specs.Graphs.{NumberedGraph, Edge, Step, IsGraph, IsWithin, node_count, out_steps, in_steps}
 use Rattle.gm_machine.specs.Expressions.{node_with}
 
 none-from : (base nodes n : ℕ) (es : List Edge) → All (IsWithin nodes) es → nodes ≤ n → filter (λ e. nat_eq e.1.from n) (enumerate_from base es) ≡ []

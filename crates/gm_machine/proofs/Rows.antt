@@ -5,10 +5,10 @@ use Rattle.gm_value.specs.declared.values.Value.{Value}
 use Rattle.gm_value.specs.declared.values.Value.TheVariants.{I32, I64, Flag, At}
 use Rattle.gm_value.specs.declared.reductions.Reduce.{Reduce}
 use Rattle.gm_value.specs.declared.reductions.Reduce.TheVariants.{Sum, Product, Min, Max}
-use Rattle.gm_graph.specs.declared.outcomes.Outcome.{Outcome}
-use Rattle.gm_graph.specs.declared.outcomes.Outcome.TheVariants.{Done, Fault, Cut}
-use Rattle.gm_graph.specs.declared.outcomes.RunEnd.{RunEnd}
-use Rattle.gm_graph.specs.Graphs.{NumberedGraph}
+use Rattle.gm_model.specs.declared.outcomes.Outcome.{Outcome}
+use Rattle.gm_model.specs.declared.outcomes.Outcome.TheVariants.{Done, Fault, Cut}
+use Rattle.gm_model.specs.declared.outcomes.RunEnd.{RunEnd}
+use Rattle.gm_model.specs.Graphs.{NumberedGraph}
 use Rattle.gm_observe.specs.declared.notes.Note.{Note}
 use Rattle.gm_machine.specs.Notes.{noted}
 use Rattle.gm_machine.specs.Taking.{Contribution, settled}

@@ -3,8 +3,8 @@ use Rattle.std.proofs.Common.{◌≡◌, ℕ, Option, Some, None, List, [], ◌�
 use Rattle.std.specs.Prelude.{Result, OnErr}
 use Rattle.std.proofs.lemmas.List.{append-nil}
 use Rattle.gm_value.specs.declared.values.Value.{Value}
-use Rattle.gm_graph.specs.declared.outcomes.RunEnd.{RunEnd}
-use Rattle.gm_graph.specs.Graphs.{NumberedGraph}
+use Rattle.gm_model.specs.declared.outcomes.RunEnd.{RunEnd}
+use Rattle.gm_model.specs.Graphs.{NumberedGraph}
 use Rattle.gm_image.specs.Program.{Program}
 use Rattle.gm_observe.specs.declared.notes.Note.{Note}
 use Rattle.gm_observe.specs.Audience.{told_to_all, IsToldToSome, AreToldUpTo, IsToldInPart, to_some}

@@ -7,7 +7,7 @@ use Rattle.gm_value.specs.declared.values.Value.TheVariants as values
 use Rattle.gm_value.specs.declared.reductions.Reduce.{Reduce}
 use Rattle.gm_value.specs.declared.reductions.Reduce.TheVariants as reduce
 use Rattle.gm_value.specs.declared.operations.Op2.TheVariants as two
-use Rattle.gm_graph.specs.Graphs.{NumberedGraph, Edge}
+use Rattle.gm_model.specs.Graphs.{NumberedGraph, Edge}
 use Rattle.gm_image.specs.declared.images.Kind.{Kind}
 use Rattle.gm_image.specs.Term.{Term, Const, Self, Global, Field, Message, Column, Neighbour, Binary}
 use Rattle.gm_image.specs.Program.{Program, Item, Holder, Scalar, Handler, Target, SetField, Fold, Put, Send, Skip, Each, Out, SetGlobal, Step, Turn, Back, Finish, Node, Edge as EdgeItem}

@@ -7,7 +7,7 @@ use Rattle.gm_value.specs.declared.values.Value.{Value}
 use Rattle.gm_value.specs.declared.reductions.Reduce.{Reduce}
 use Rattle.gm_value.specs.declared.reductions.Reduce.TheVariants as reduce
 use Rattle.gm_value.specs.Bag.{SameBag, same_nil, same_cons, same_swap, same_trans}
-use Rattle.gm_graph.specs.Graphs.{Step}
+use Rattle.gm_model.specs.Graphs.{Step}
 use Rattle.gm_image.specs.declared.rules.ImageRule.TheVariants.{I9}
 use Rattle.gm_image.specs.Program.{Program, Block, Handler, Line, SetField, Fold, SetRegister, Put, Send, Skip, Each}
 use Rattle.gm_image.specs.Parts.{slots_of}

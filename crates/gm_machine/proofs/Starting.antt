@@ -5,8 +5,8 @@ use Rattle.std.proofs.lemmas.List.{take_more, take_more_set, take_all, length-se
 use Rattle.std.proofs.lemmas.List.FromFn.{length-enumerate_from, get_or-enumerate_from}
 use Rattle.gm_value.specs.declared.values.Value.{Value}
 use Rattle.gm_value.specs.Numbers.{zero_of}
-use Rattle.gm_graph.specs.Columns.{cell_at}
-use Rattle.gm_graph.specs.Graphs.{NumberedGraph}
+use Rattle.gm_columns.specs.Columns.{cell_at}
+use Rattle.gm_model.specs.Graphs.{NumberedGraph}
 use Rattle.gm_image.specs.Program.{Program, Item}
 use Rattle.std.specs.Prelude.{slice_get}
 use Rattle.gm_machine.specs.Expressions.{value_at}

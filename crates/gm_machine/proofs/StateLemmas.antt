@@ -1,8 +1,8 @@
 -- The machine's run goes through its states.
 use Rattle.std.proofs.Common.{◌≡◌, ℕ, zero, suc, Option, Some, None, List, refl, sym, ap, ◌∙◌}
 use Rattle.gm_value.specs.declared.values.Value.{Value}
-use Rattle.gm_graph.specs.declared.outcomes.RunEnd.{RunEnd}
-use Rattle.gm_graph.specs.Graphs.{NumberedGraph}
+use Rattle.gm_model.specs.declared.outcomes.RunEnd.{RunEnd}
+use Rattle.gm_model.specs.Graphs.{NumberedGraph}
 use Rattle.gm_image.specs.Program.{Program}
 use Rattle.gm_machine.specs.declared.faults.Fault.{Fault}
 use Rattle.gm_machine.specs.Machine.{Control, Nodes, Pause, Stops, Steps, run_from, Faulted, ends, run_step, superstep, step_ends, start_control, start_nodes, machine}

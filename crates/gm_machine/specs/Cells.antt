@@ -2,8 +2,8 @@
 use Rattle.std.specs.Prelude.{◌≡◌, ⊤, List, map, replicate}
 use Rattle.gm_value.specs.declared.values.Value.{Value}
 use Rattle.gm_value.specs.declared.values.Value.TheVariants.{I32, I64, Flag, At}
-use Rattle.gm_graph.specs.Columns.{IsStorable}
-use Rattle.gm_graph.specs.Cells.{node_in}
+use Rattle.gm_columns.specs.Columns.{IsStorable}
+use Rattle.gm_columns.specs.Cells.{node_in}
 use Rattle.gm_machine.specs.declared.cells.Cells.{Cells}
 use Rattle.gm_machine.specs.declared.cells.Cells.TheVariants.{Uniform, Ints, Longs, Flags, Nodes, Mixed}
 

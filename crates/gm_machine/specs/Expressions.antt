@@ -7,8 +7,8 @@ use Rattle.gm_value.specs.declared.operations.Op1.{Op1}
 use Rattle.gm_value.specs.declared.operations.Op2.{Op2}
 use Rattle.gm_value.specs.Numbers.{number_of}
 use Rattle.gm_value.specs.Operations.{is_true, result1, result2}
-use Rattle.gm_graph.specs.Columns.{cell_at}
-use Rattle.gm_graph.specs.Graphs.{NumberedGraph, Step, node_count, edge_count, out_steps, in_steps}
+use Rattle.gm_columns.specs.Columns.{cell_at}
+use Rattle.gm_model.specs.Graphs.{NumberedGraph, Step, node_count, edge_count, out_steps, in_steps}
 use Rattle.gm_image.specs.Term.{Term, Const, Global, NodeCount, EdgeCount, Field, Self, OutDegree, InDegree, Register, Message, Neighbour, Column, NodeAt, Live, Unary, Binary, And, Or, Choose}
 use Rattle.gm_machine.specs.declared.faults.Fault.{Fault}
 use Rattle.gm_machine.specs.Faults.{then_go, at_place}

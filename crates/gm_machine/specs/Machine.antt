@@ -6,10 +6,10 @@ use Rattle.gm_base.specs.declared.places.Place.{Place}
 use Rattle.gm_value.specs.declared.values.Value.{Value}
 use Rattle.gm_value.specs.Numbers.{zero_of}
 use Rattle.gm_value.specs.Operations.{is_true}
-use Rattle.gm_graph.specs.declared.outcomes.Outcome.{Outcome}
-use Rattle.gm_graph.specs.declared.outcomes.Outcome.TheVariants as outcomes
-use Rattle.gm_graph.specs.declared.outcomes.RunEnd.{RunEnd}
-use Rattle.gm_graph.specs.Graphs.{NumberedGraph, Step}
+use Rattle.gm_model.specs.declared.outcomes.Outcome.{Outcome}
+use Rattle.gm_model.specs.declared.outcomes.Outcome.TheVariants as outcomes
+use Rattle.gm_model.specs.declared.outcomes.RunEnd.{RunEnd}
+use Rattle.gm_model.specs.Graphs.{NumberedGraph, Step}
 use Rattle.gm_image.specs.Term.{Term}
 use Rattle.gm_image.specs.Program as programs
 use Rattle.gm_image.specs.Program.{Program, Block, Item, Holder, Scalar, Node, Edge, Command, SetGlobal, Jump, Test, Turn, Back, Finish}

@@ -1,7 +1,7 @@
 -- The master list's run, as the code holds it.
 use Rattle.std.specs.Prelude.{ℕ, ◌+◌, ◌-◌, ◌*◌, ◌<◌, ⊤, List, length}
 use Rattle.gm_value.specs.declared.values.Value.{Value}
-use Rattle.gm_graph.specs.Graphs.{NumberedGraph}
+use Rattle.gm_model.specs.Graphs.{NumberedGraph}
 use Rattle.gm_image.specs.declared.images.Image.{Image}
 use Rattle.gm_machine.specs.declared.masters.MasterSegment as L
 use Rattle.gm_machine.specs.declared.masters.MasterSegment.TheVariants as segments

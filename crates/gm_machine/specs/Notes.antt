@@ -1,7 +1,7 @@
 -- What is told of the supersteps of a run.
 use Rattle.std.specs.Prelude.{ℕ, List, [], ◌∷◌, length}
 use Rattle.gm_value.specs.declared.values.Value.{Value}
-use Rattle.gm_graph.specs.Graphs.{NumberedGraph, node_count}
+use Rattle.gm_model.specs.Graphs.{NumberedGraph, node_count}
 use Rattle.gm_image.specs.Program.{Program}
 use Rattle.gm_observe.specs.declared.notes.Note.{Note}
 use Rattle.gm_machine.specs.Machine.{Control, Nodes, superstep, step_ends, run_from, start_control, start_nodes}

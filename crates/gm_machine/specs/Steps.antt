@@ -1,7 +1,7 @@
 -- The step of one vertex in a run.
 use Rattle.std.specs.Prelude.{ℕ, ◌≡◌, true, List}
 use Rattle.gm_value.specs.declared.values.Value.{Value}
-use Rattle.gm_graph.specs.Graphs.{NumberedGraph}
+use Rattle.gm_model.specs.Graphs.{NumberedGraph}
 use Rattle.gm_image.specs.Program.{Program}
 use Rattle.gm_machine.specs.Vertex.{Message, After, never_sets, handler_lines, vertex_after}
 use Rattle.gm_machine.specs.Machine.{context_at, block_at}

@@ -7,7 +7,7 @@ use Rattle.gm_value.specs.declared.values.Value.TheVariants.{I32, I64, Flag, At}
 use Rattle.gm_value.specs.declared.reductions.Reduce.{Reduce}
 use Rattle.gm_value.specs.Numbers.{zero_of}
 use Rattle.gm_value.specs.Operations.{is_true}
-use Rattle.gm_graph.specs.Graphs.{NumberedGraph, Step, out_steps, in_steps}
+use Rattle.gm_model.specs.Graphs.{NumberedGraph, Step, out_steps, in_steps}
 use Rattle.gm_image.specs.Program.{Program, Block, Handler, Target, Line, SetField, Fold, SetRegister, Put, Send, Skip, Each, Direction, Out, In}
 use Rattle.gm_image.specs.Folds.{sets_no_field}
 use Rattle.gm_image.specs.Parts.{terms_of, slots_of}

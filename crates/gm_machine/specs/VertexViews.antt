@@ -1,6 +1,6 @@
 -- What a vertex sees and what it changes, as the code holds them.
 use Rattle.std.specs.Prelude.{ℕ, Bool, true, false, Option, Some, None, Result, Ok, Err, ◌≡◌, List, ◌++◌, length, map}
-use Rattle.gm_graph.specs.Graphs.{NumberedGraph}
+use Rattle.gm_model.specs.Graphs.{NumberedGraph}
 use Rattle.gm_image.specs.Program.{Block, Direction, Out, In}
 use Rattle.gm_image.specs.Views.{handler, line}
 use Rattle.gm_machine.specs.declared.bodies.BlockCode as T

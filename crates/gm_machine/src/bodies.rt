@@ -2,7 +2,7 @@
 
 ghost use Rattle.std.specs.Prelude.{◌≡◌, ℕ, true, IfOk, All, map, []};
 ghost use Rattle.gm_value.specs.Numbers.{zero_of};
-ghost use Rattle.gm_graph.specs.Graphs.{HasNode};
+ghost use Rattle.gm_model.specs.Graphs.{HasNode};
 ghost use Rattle.gm_image.specs.Views.{program, handler, line};
 ghost use Rattle.gm_machine.specs.Batches.{IsWithin, message_of};
 ghost use Rattle.gm_machine.specs.VertexViews.{HasColumns, context_of, code_of, state_of, after_line, after_lines, after_behind, direction};

@@ -1,13 +1,13 @@
 //! The cells of a row, typed as long as its values are of one type.
 
 ghost use Rattle.std.specs.Prelude.{◌≡◌, ◌<◌, ◌↔◌, false, IsTrue, IfOk, OnOk, IfSome, replicate, length, slice_index_or, slice_set};
-ghost use Rattle.gm_graph.specs.Cells.{node_in};
-ghost use Rattle.gm_graph.specs.Columns.{IsStorable, CanHold};
+ghost use Rattle.gm_columns.specs.Cells.{node_in};
+ghost use Rattle.gm_columns.specs.Columns.{IsStorable, CanHold};
 ghost use Rattle.gm_value.specs.declared.values.Value.TheVariants.{At};
 ghost use Rattle.gm_machine.specs.Cells.{values_of, Takes};
 
 use gm_base::NoMemory;
-use gm_graph::{Column, Values};
+use gm_columns::{Column, Values};
 use gm_value::{VType, Value};
 use std::alloc::Global;
 

@@ -16,8 +16,9 @@ use crate::fields::Fields;
 use crate::masters::Master;
 use crate::supersteps::Nodes;
 use gm_base::{Items, NoMemory, Place};
-use gm_graph::{Outcome, RunEnd, Values};
+use gm_columns::Values;
 use gm_image::{Image, OutputItem};
+use gm_model::{Outcome, RunEnd};
 use gm_value::{VType, Value};
 use std::alloc::Global;
 

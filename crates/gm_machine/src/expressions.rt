@@ -4,7 +4,7 @@ ghost use Rattle.std.specs.Prelude.{◌≡◌, ◌≤◌, ◌<◌, length, Ok, I
 ghost use Rattle.gm_value.specs.Numbers.{number_of};
 ghost use Rattle.gm_value.specs.declared.values.Value.TheVariants.{I32};
 ghost use Rattle.gm_value.specs.Operations.{is_true, result2};
-ghost use Rattle.gm_graph.specs.Graphs.{out_steps, in_steps};
+ghost use Rattle.gm_model.specs.Graphs.{out_steps, in_steps};
 ghost use Rattle.gm_image.specs.Views.{term};
 ghost use Rattle.gm_image.specs.Term.{NodeAt, Live, And, Or, Choose};
 ghost use Rattle.gm_machine.specs.Faults.{at_place};

@@ -8,7 +8,7 @@ ghost use Rattle.gm_machine.specs.Machine.{row_at, column_of};
 
 use crate::cells::Cells;
 use gm_base::NoMemory;
-use gm_graph::Values;
+use gm_columns::Values;
 use gm_value::{VType, Value};
 use std::alloc::Global;
 

@@ -2,7 +2,7 @@
 
 ghost use Rattle.std.specs.Prelude.{◌≡◌, ◌<◌, ◌++◌, ◌∷◌, [], ℕ, Some, IfOk, OnOk, map, length, slice_get, slice_set};
 ghost use Rattle.gm_value.specs.Numbers.{zero_of};
-ghost use Rattle.gm_graph.specs.Graphs.{HasNode};
+ghost use Rattle.gm_model.specs.Graphs.{HasNode};
 ghost use Rattle.gm_image.specs.Views.{term, line, target};
 ghost use Rattle.gm_image.specs.Program.{SetField, Fold, SetRegister, Put, Send, Skip};
 ghost use Rattle.gm_machine.specs.Expressions.{value, values};

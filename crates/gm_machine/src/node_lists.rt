@@ -1,7 +1,7 @@
 //! The start, the settling of contributions and the end of a run that keeps a list of fields for each node.
 
 ghost use Rattle.std.specs.Prelude.{◌≡◌, ℕ, IfOk, [], map, length};
-ghost use Rattle.gm_graph.specs.Graphs.{HasNode};
+ghost use Rattle.gm_model.specs.Graphs.{HasNode};
 ghost use Rattle.gm_image.specs.Views.{program, output};
 ghost use Rattle.gm_machine.specs.Machine.{properties, column_of, start_fields, done};
 ghost use Rattle.gm_machine.specs.Masters.{pause_of, control, control_of};
@@ -17,8 +17,10 @@ use crate::masters::{Master, MasterStop};
 use crate::settling::{TupleRoom, settle};
 use crate::starts::bind_properties;
 use gm_base::{Items, NoMemory};
-use gm_graph::{Graph, Outcome, RunEnd, Values};
+use gm_columns::Values;
+use gm_graph::Graph;
 use gm_image::{Image, OutputItem};
+use gm_model::{Outcome, RunEnd};
 use gm_value::Value;
 use std::alloc::Global;
 

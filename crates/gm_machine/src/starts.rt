@@ -1,7 +1,7 @@
 //! The nodes before the first superstep.
 
 ghost use Rattle.std.specs.Prelude.{◌≡◌, ◌+◌, OnOk, IfOk, map, length};
-ghost use Rattle.gm_graph.specs.Graphs.{HasNode, node_count};
+ghost use Rattle.gm_model.specs.Graphs.{HasNode, node_count};
 ghost use Rattle.gm_image.specs.Views.{program, input};
 ghost use Rattle.gm_machine.specs.Fields.{IsFull};
 ghost use Rattle.gm_machine.specs.Machine.{properties, with_inputs, row_at, start_nodes};

@@ -1,7 +1,7 @@
 //! The written step of one vertex, for all that run images.
 
 ghost use Rattle.std.specs.Prelude.{◌≡◌, ◌<◌, ◌++◌, None, OnOk, [], length};
-ghost use Rattle.gm_graph.specs.Graphs.{HasNode};
+ghost use Rattle.gm_model.specs.Graphs.{HasNode};
 ghost use Rattle.gm_image.specs.Views.{program};
 ghost use Rattle.gm_machine.specs.Masters.{FitsGraph};
 ghost use Rattle.gm_machine.specs.Faults.{lesser};

@@ -1,7 +1,7 @@
 //! Supersteps: the steps of all nodes, one after another.
 
 ghost use Rattle.std.specs.Prelude.{◌≡◌, ◌<◌, ◌+◌, ◌++◌, ℕ, true, OnOk, IfOk, All, [], map, length, slice_index_or, slice_set};
-ghost use Rattle.gm_graph.specs.Graphs.{HasNode, node_count};
+ghost use Rattle.gm_model.specs.Graphs.{HasNode, node_count};
 ghost use Rattle.gm_image.specs.Views.{program};
 ghost use Rattle.gm_machine.specs.Batches.{IsWithin};
 ghost use Rattle.gm_machine.specs.Fields.{fields_of, IsFull};

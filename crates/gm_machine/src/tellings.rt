@@ -1,7 +1,7 @@
 //! Supersteps of which observers are told.
 
 ghost use Rattle.std.specs.Prelude.{◌≡◌, ◌∷◌, [], OnOk, OnErr, IfOk, map, length};
-ghost use Rattle.gm_graph.specs.Graphs.{node_count};
+ghost use Rattle.gm_model.specs.Graphs.{node_count};
 ghost use Rattle.gm_image.specs.Views.{program};
 ghost use Rattle.gm_machine.specs.Fields.{IsFull};
 ghost use Rattle.gm_machine.specs.Machine.{superstep as superstep_lem};

@@ -9,7 +9,7 @@ use Rattle.std.proofs.lemmas.Option.{slice_get_past, get_or_from_slice_get}
 use Rattle.gm_value.specs.declared.values.Value.{Value}
 use Rattle.gm_value.specs.declared.values.Value.TheVariants.{I32}
 use Rattle.gm_value.specs.Numbers.{zero_of}
-use Rattle.gm_graph.specs.Graphs.{NumberedGraph}
+use Rattle.gm_model.specs.Graphs.{NumberedGraph}
 use Rattle.gm_ast.specs.declared.tree.Declaration.{Declaration}
 use Rattle.gm_ast.specs.declared.tree.Sort.{Sort}
 use Rattle.gm_ast.specs.declared.tree.Sort.TheVariants as Sorts

@@ -5,7 +5,7 @@ use Rattle.std.proofs.Math.Path.{fun_ext}
 use Rattle.std.proofs.lemmas.List.{reverse-append, take_more}
 use Rattle.std.proofs.lemmas.List.Elements.{All-filter, All-map}
 use Rattle.std.proofs.lemmas.Option.{slice_get_within, get_or_from_slice_get}
-use Rattle.gm_graph.specs.Graphs.{NumberedGraph, node_count}
+use Rattle.gm_model.specs.Graphs.{NumberedGraph, node_count}
 use Rattle.gm_semantics.specs.Levels.{numbers_from, nodes, level_of, levels, is_level, is_some_node}
 use Rattle.gm_levels.specs.Views.{NodeLevels}
 use Rattle.gm_meaning.specs.Searches.{AreNodes, AreLevels}

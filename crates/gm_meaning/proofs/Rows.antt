@@ -5,7 +5,7 @@ use Rattle.std.proofs.lemmas.Bool.{lt-ltb, le-ltb, eq-eqb, ne_eqb, cases_lt, cas
 use Rattle.std.proofs.lemmas.List.{get_or_past}
 use Rattle.std.proofs.lemmas.Option.{get_or_from_slice_get}
 use Rattle.gm_value.specs.declared.values.Value.{Value}
-use Rattle.gm_graph.specs.Columns.{cell_at}
+use Rattle.gm_columns.specs.Columns.{cell_at}
 
 -- a cell of a column
 pub cell-got : (columns : List (List Value)) (c r : ℕ) (v : Value) → cell_at columns c r ≡ Some v → slice_get (slice_index_or columns c []) r ≡ Some v

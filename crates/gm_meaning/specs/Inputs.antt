@@ -2,7 +2,7 @@
 use Rattle.std.specs.Prelude.{◌≤◌, ◌+◌, ℕ, nat_lt, List, length, map, Option, Some, None, if◌then◌else◌}
 use Rattle.gm_value.specs.declared.values.Value.{Value}
 use Rattle.gm_value.specs.Numbers.{zero_of}
-use Rattle.gm_graph.specs.Graphs.{NumberedGraph}
+use Rattle.gm_model.specs.Graphs.{NumberedGraph}
 use Rattle.gm_ast.specs.declared.tree.Sort.TheVariants as Sorts
 use Rattle.gm_ast.specs.Program.{Program}
 use Rattle.gm_semantics.specs.Levels.{numbers_from}

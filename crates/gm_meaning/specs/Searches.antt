@@ -1,6 +1,6 @@
 -- The levels of a search, as a run goes over them.
 use Rattle.std.specs.Prelude.{◌≡◌, ◌<◌, ℕ, All, List, Some}
-use Rattle.gm_graph.specs.Graphs.{NumberedGraph, node_count}
+use Rattle.gm_model.specs.Graphs.{NumberedGraph, node_count}
 use Rattle.gm_levels.specs.Views.{NodeLevels}
 use Rattle.gm_semantics.specs.Levels.{level_of, levels}
 use Rattle.gm_loops.specs.Sights.{level_in}

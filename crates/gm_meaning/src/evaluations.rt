@@ -9,8 +9,9 @@ use crate::outcomes::outcome;
 use crate::phases::Phase;
 use gm_ast::forms::{Checked, Work};
 use gm_base::NoMemory;
-use gm_graph::{Graph, Outcome};
+use gm_graph::Graph;
 use gm_loops::{Going, Setting};
+use gm_model::Outcome;
 use gm_value::Value;
 use std::alloc::Global;
 

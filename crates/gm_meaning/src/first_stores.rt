@@ -1,7 +1,7 @@
 //! The values with which a run begins: inputs from the arguments and the graph's columns, and else first values.
 
 ghost use Rattle.std.specs.Prelude.{◌≡◌, ◌<◌, ◌≤◌, ◌+◌, ℕ, [], nat_eq, IfOk, OnOk, length, slice_index_or, if◌then◌else◌};
-ghost use Rattle.gm_graph.specs.Graphs.{node_count};
+ghost use Rattle.gm_model.specs.Graphs.{node_count};
 ghost use Rattle.gm_ast.specs.Tree.{program_of};
 ghost use Rattle.gm_ast.specs.declared.tree.Sort.TheVariants as sorts;
 ghost use Rattle.gm_semantics.specs.Outcomes.{is_of, count_before, input_value, column_value, first_store};

@@ -1,8 +1,8 @@
 //! The outcome of a run.
 
 ghost use Rattle.std.specs.Prelude.{◌≡◌, ◌<◌, ◌≤◌, ◌+◌, IsTrue, IfOk, IfSome, length, map};
-ghost use Rattle.gm_graph.specs.Columns.{CanHold, IsStorable};
-ghost use Rattle.gm_graph.specs.Graphs.{node_count};
+ghost use Rattle.gm_columns.specs.Columns.{CanHold, IsStorable};
+ghost use Rattle.gm_model.specs.Graphs.{node_count};
 ghost use Rattle.gm_ast.specs.Tree.{program_of};
 ghost use Rattle.gm_ast.specs.declared.tree.Sort.TheVariants as sorts;
 ghost use Rattle.gm_semantics.specs.Levels.{nodes};
@@ -16,8 +16,10 @@ use crate::first_stores::{is_of, variable_at};
 use crate::phases::{Course, Phase};
 use gm_ast::tree::{Sort, Tree};
 use gm_base::{Items, NoMemory};
-use gm_graph::{Column, Graph, Outcome, Values};
+use gm_columns::{Column, Values};
+use gm_graph::Graph;
 use gm_loops::Setting;
+use gm_model::Outcome;
 use gm_store::Store;
 use gm_value::{VType, Value};
 use std::alloc::Global;

@@ -1,7 +1,7 @@
 //! A run of a procedure's body so far, and the statements that hold no other.
 
 ghost use Rattle.std.specs.Prelude.{◌≡◌, ◌<◌, ◌≤◌, ℕ, suc, ◌∷◌, [], nat_lt, IsTrue, IfOk, OnOk, All, length, map, option_map};
-ghost use Rattle.gm_graph.specs.Graphs.{node_count};
+ghost use Rattle.gm_model.specs.Graphs.{node_count};
 ghost use Rattle.gm_ast.specs.Program as program;
 ghost use Rattle.gm_ast.specs.Tree.{expr_of, stmt_of};
 ghost use Rattle.gm_semantics.specs.Expressions.{value};

@@ -1,7 +1,7 @@
 //! Breadth-first searches of sequential phases, level by level.
 
 ghost use Rattle.std.specs.Prelude.{◌≡◌, ◌<◌, ◌≤◌, Some, IfOk, All, reverse};
-ghost use Rattle.gm_graph.specs.Graphs.{HasNode};
+ghost use Rattle.gm_model.specs.Graphs.{HasNode};
 ghost use Rattle.gm_ast.specs.Program as program;
 ghost use Rattle.gm_ast.specs.Tree.{expr_of, stmt_of};
 ghost use Rattle.gm_semantics.specs.Expressions.{node_of};

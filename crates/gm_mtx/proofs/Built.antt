@@ -13,8 +13,8 @@ use Rattle.gm_value.specs.declared.values.Value.{Value}
 use Rattle.gm_value.specs.Numbers.{zero_of}
 use Rattle.gm_graph.specs.declared.builds.Shape.{Shape}
 use Rattle.gm_graph.specs.declared.builds.RawGraph.{RawGraph}
-use Rattle.gm_graph.specs.Graphs.{NumberedGraph}
-use Rattle.gm_graph.specs.Columns.{TypedRow}
+use Rattle.gm_model.specs.Graphs.{NumberedGraph}
+use Rattle.gm_columns.specs.Columns.{TypedRow}
 use Rattle.gm_graph.specs.Builds.{IsBuildable, IsBuiltOf, distinct, types_of, spread_out}
 use Rattle.gm_loader.specs.declared.limits.Limits.{Limits}
 use Rattle.gm_loader.specs.GraphText.{columns_of, first_value, HasColumns}

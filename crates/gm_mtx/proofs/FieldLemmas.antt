@@ -5,7 +5,7 @@ use Rattle.std.proofs.lemmas.Bool.Decides.{nat_tests}
 use Rattle.std.proofs.lemmas.List.{map-append, length-map}
 use Rattle.gm_value.specs.declared.values.VType.{VType}
 use Rattle.gm_value.specs.declared.values.Value.{Value}
-use Rattle.gm_graph.specs.Columns.{TypedRow}
+use Rattle.gm_columns.specs.Columns.{TypedRow}
 use Rattle.gm_loader.specs.declared.limits.Limits.{Limits}
 use Rattle.gm_loader.specs.GraphText.{columns_of}
 use Rattle.gm_mtx.specs.declared.faults.LineFault.{LineFault}

@@ -2,8 +2,8 @@
 use Rattle.std.specs.Prelude.{ℕ, List}
 use Rattle.gm_base.specs.declared.statuses.Status.{Status}
 use Rattle.gm_value.specs.declared.values.Value.{Value}
-use Rattle.gm_graph.specs.Graphs.{NumberedGraph}
-use Rattle.gm_graph.specs.declared.outcomes.Outcome.{Outcome}
+use Rattle.gm_model.specs.Graphs.{NumberedGraph}
+use Rattle.gm_model.specs.declared.outcomes.Outcome.{Outcome}
 use Rattle.gm_words.specs.declared.jobs.Options.{Options}
 use Rattle.gm_listing.specs.declared.outputs.Ending.TheVariants.{Turns}
 use Rattle.gm_listing.specs.Listing.{listing, status_of}

@@ -10,7 +10,7 @@ use Rattle.gm_value.specs.declared.reductions.Reduce.TheVariants as R
 use Rattle.gm_value.specs.Numbers.{value_at}
 use Rattle.gm_value.specs.Operations.{is_true, result1, result2}
 use Rattle.gm_value.specs.Reductions.{unit_of, close}
-use Rattle.gm_graph.specs.Graphs.{NumberedGraph, Step, node_count, edge_count, out_steps, in_steps}
+use Rattle.gm_model.specs.Graphs.{NumberedGraph, Step, node_count, edge_count, out_steps, in_steps}
 use Rattle.gm_ast.specs.declared.surface.ReductionWord.{ReductionWord}
 use Rattle.gm_ast.specs.declared.surface.ReductionWord.TheVariants.{Sum, Product, Min, Max, Count, Exist, All}
 use Rattle.gm_ast.specs.declared.tree.Key.{Key}

@@ -11,7 +11,7 @@ use Rattle.gm_value.specs.Numbers.{zero_of}
 use Rattle.gm_value.specs.Operations.{is_true}
 use Rattle.gm_value.specs.Reductions.{close}
 use Rattle.gm_value.specs.Tuples.{close_slots}
-use Rattle.gm_graph.specs.Graphs.{NumberedGraph}
+use Rattle.gm_model.specs.Graphs.{NumberedGraph}
 use Rattle.gm_ast.specs.declared.tree.Key.{Key}
 use Rattle.gm_ast.specs.declared.tree.TotalKey.{TotalKey}
 use Rattle.gm_ast.specs.declared.tree.Target.{Target}

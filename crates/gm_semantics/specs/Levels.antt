@@ -3,7 +3,7 @@ use Rattle.std.specs.Prelude.{ℕ, zero, suc, nat_eq, nat_lt, Bool, true, false,
 use Rattle.std.specs.List.{list_any}
 use Rattle.gm_value.specs.declared.values.Value.{Value}
 use Rattle.gm_value.specs.declared.values.Value.TheVariants.{At}
-use Rattle.gm_graph.specs.Graphs.{NumberedGraph, Step, node_count, in_steps}
+use Rattle.gm_model.specs.Graphs.{NumberedGraph, Step, node_count, in_steps}
 
 -- n numbers from k on
 abbrev pub numbers_from : ℕ → ℕ → List ℕ

@@ -3,9 +3,9 @@ use Rattle.std.specs.Prelude.{ℕ, nat_lt, Bool, if◌then◌else◌, List, [], 
 use Rattle.gm_value.specs.declared.values.VType.{VType}
 use Rattle.gm_value.specs.declared.values.Value.{Value}
 use Rattle.gm_value.specs.Numbers.{zero_of}
-use Rattle.gm_graph.specs.Graphs.{NumberedGraph}
-use Rattle.gm_graph.specs.declared.outcomes.Outcome.{Outcome}
-use Rattle.gm_graph.specs.declared.outcomes.Outcome.TheVariants.{Done, Fault, Cut}
+use Rattle.gm_model.specs.Graphs.{NumberedGraph}
+use Rattle.gm_model.specs.declared.outcomes.Outcome.{Outcome}
+use Rattle.gm_model.specs.declared.outcomes.Outcome.TheVariants.{Done, Fault, Cut}
 use Rattle.gm_ast.specs.declared.tree.Declaration.{Declaration}
 use Rattle.gm_ast.specs.declared.tree.Sort.{Sort}
 use Rattle.gm_ast.specs.declared.tree.Sort.TheVariants as Sorts

@@ -1,8 +1,8 @@
 //! The cells of a row, typed as long as its values are of one type.
 
 ghost use Rattle.std.specs.Prelude.{◌≡◌, ◌<◌, ◌↔◌, ◌∷◌, ◌++◌, [], IsTrue, IfOk, replicate, length, slice_index_or, slice_set};
-ghost use Rattle.gm_graph.specs.Cells.{node_in};
-ghost use Rattle.gm_graph.specs.Columns.{IsStorable};
+ghost use Rattle.gm_columns.specs.Cells.{node_in};
+ghost use Rattle.gm_columns.specs.Columns.{IsStorable};
 ghost use Rattle.gm_value.specs.declared.values.Value.TheVariants.{At};
 ghost use Rattle.gm_store.specs.Cells.{values_of, Takes};
 

@@ -7,8 +7,8 @@
 use Rattle.std.specs.Prelude.{◌≡◌, true, false, [], ◌∷◌, Some, None, refl, codes}
 use Rattle.gm_value.specs.declared.values.VType.TheVariants as V
 use Rattle.gm_value.specs.declared.values.Value.TheVariants.{Flag, At}
-use Rattle.gm_graph.specs.Graphs.{NumberedGraph}
-use Rattle.gm_graph.specs.declared.outcomes.Outcome.TheVariants.{Done}
+use Rattle.gm_model.specs.Graphs.{NumberedGraph}
+use Rattle.gm_model.specs.declared.outcomes.Outcome.TheVariants.{Done}
 use Rattle.gm_ast.specs.declared.tree.Sort.TheVariants as Sort
 use Rattle.gm_ast.specs.declared.tree.Stage.TheVariants.{Operator}
 use Rattle.gm_ast.specs.declared.tree.Target.TheVariants as Target

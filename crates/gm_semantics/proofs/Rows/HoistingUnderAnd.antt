@@ -5,8 +5,8 @@ use Rattle.gm_value.specs.declared.values.VType.TheVariants as V
 use Rattle.gm_value.specs.declared.values.Value.TheVariants.{I32, At}
 use Rattle.gm_value.specs.declared.operations.Op2.TheVariants as Op2
 use Rattle.gm_value.specs.declared.faults.FaultKind.TheVariants.{NilNode}
-use Rattle.gm_graph.specs.Graphs.{NumberedGraph}
-use Rattle.gm_graph.specs.declared.outcomes.Outcome.TheVariants.{Fault}
+use Rattle.gm_model.specs.Graphs.{NumberedGraph}
+use Rattle.gm_model.specs.declared.outcomes.Outcome.TheVariants.{Fault}
 use Rattle.gm_ast.specs.declared.tree.Sort.TheVariants as Sort
 use Rattle.gm_ast.specs.declared.tree.Stage.TheVariants.{Operator}
 use Rattle.gm_ast.specs.Program.{Const, Var, Property, Binary, Both, Return, Program, sequence}

@@ -18,8 +18,8 @@ use Rattle.gm_value.specs.declared.values.VType.TheVariants as V
 use Rattle.gm_value.specs.declared.values.Value.TheVariants.{I32, Flag}
 use Rattle.gm_value.specs.declared.operations.Op2.TheVariants as Op2
 use Rattle.gm_value.specs.declared.reductions.Reduce.TheVariants as Reduce
-use Rattle.gm_graph.specs.Graphs.{NumberedGraph}
-use Rattle.gm_graph.specs.declared.outcomes.Outcome.TheVariants.{Done}
+use Rattle.gm_model.specs.Graphs.{NumberedGraph}
+use Rattle.gm_model.specs.declared.outcomes.Outcome.TheVariants.{Done}
 use Rattle.gm_ast.specs.declared.tree.Sort.TheVariants as Sort
 use Rattle.gm_ast.specs.declared.tree.Stage.TheVariants.{Operator, Total}
 use Rattle.gm_ast.specs.declared.tree.Domain.TheVariants as Domain

@@ -3,7 +3,7 @@ use Rattle.std.specs.Prelude.{ℕ, List}
 use Rattle.gm_base.specs.declared.places.Place.{Place}
 use Rattle.gm_value.specs.declared.values.VType.{VType}
 use Rattle.gm_value.specs.declared.values.Value.{Value}
-use Rattle.gm_graph.specs.Graphs.{NumberedGraph, Edge}
+use Rattle.gm_model.specs.Graphs.{NumberedGraph, Edge}
 use Rattle.gm_ast.specs.declared.surface.ReductionWord.{ReductionWord}
 use Rattle.gm_ast.specs.declared.tree.Declaration.{Declaration}
 use Rattle.gm_ast.specs.declared.tree.Domain.{Domain}

@@ -3,8 +3,8 @@
 use Rattle.std.specs.Prelude.{◌≡◌, true, [], ◌∷◌, pos, Some, refl, codes}
 use Rattle.gm_value.specs.declared.values.VType.TheVariants as V
 use Rattle.gm_value.specs.declared.values.Value.TheVariants.{I32, Flag}
-use Rattle.gm_graph.specs.Graphs.{NumberedGraph}
-use Rattle.gm_graph.specs.declared.outcomes.Outcome.TheVariants.{Done}
+use Rattle.gm_model.specs.Graphs.{NumberedGraph}
+use Rattle.gm_model.specs.declared.outcomes.Outcome.TheVariants.{Done}
 use Rattle.gm_ast.specs.declared.surface.ReductionWord.TheVariants as Word
 use Rattle.gm_ast.specs.declared.tree.Sort.TheVariants as Sort
 use Rattle.gm_ast.specs.declared.tree.Stage.TheVariants.{Operator, Total}

@@ -2,7 +2,7 @@
 use Rattle.std.proofs.Common.{◌∙◌, true, refl}
 use Rattle.std.specs.Prelude.{slice_set}
 use Rattle.std.proofs.lemmas.List.{length-set}
-use Rattle.gm_graph.specs.Graphs.{node_count}
+use Rattle.gm_model.specs.Graphs.{node_count}
 use Rattle.gm_core.proofs.CoreChanges.{marks-noted}
 use Rattle.gm_core.proofs.effects.note.Goals as goal
 

@@ -2,7 +2,7 @@
 use Rattle.std.proofs.Common.{◌≡◌, ◌<◌, ◌∙◌, ◌&&◌, true, false, not, nat_eq, [], length, ap, arith}
 use Rattle.std.specs.Prelude.{slice_index_or, if◌then◌else◌}
 use Rattle.std.specs.List.{list_all}
-use Rattle.gm_graph.specs.Graphs.{node_count}
+use Rattle.gm_model.specs.Graphs.{node_count}
 use Rattle.gm_core.specs.Cores.{owner, is_in, below}
 use Rattle.gm_core.specs.CoreViews.{row_at}
 use Rattle.gm_core.proofs.CoreChanges.{read-is}

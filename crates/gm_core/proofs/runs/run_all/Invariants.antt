@@ -1,6 +1,6 @@
 -- What is left of the events goes on from here.
 use Rattle.std.proofs.Common.{◌≡◌, drop}
-use Rattle.gm_graph.specs.Graphs.{node_count}
+use Rattle.gm_model.specs.Graphs.{node_count}
 use Rattle.gm_image.specs.Views.{program}
 use Rattle.gm_core.specs.Cores.{effects, first_illegal}
 use Rattle.gm_core.specs.CoreViews.{core_of, IsWide}

@@ -1,7 +1,7 @@
 -- The owners are those of the formula.
 use Rattle.std.proofs.Common.{◌≡◌, ◌∙◌, ℕ, List, None, ap, subst}
 use Rattle.std.specs.Prelude.{IfOk, OnOk, IfErr}
-use Rattle.gm_graph.specs.Graphs.{node_count}
+use Rattle.gm_model.specs.Graphs.{node_count}
 use Rattle.gm_image.specs.Views.{program}
 use Rattle.gm_core.specs.Cores.{start, effects, first_illegal}
 use Rattle.gm_core.specs.Owners.{owners_by}

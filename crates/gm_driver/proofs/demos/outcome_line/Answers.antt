@@ -1,6 +1,6 @@
 use Rattle.std.proofs.Common.{◌≡◌, ◌≤◌, ◌<◌, ◌∙◌, List, [], ◌∷◌, length, get_or, ap, sym, arith}
 use Rattle.gm_value.specs.declared.values.Value.{Value}
-use Rattle.gm_graph.specs.declared.outcomes.Outcome.TheVariants.{Done}
+use Rattle.gm_model.specs.declared.outcomes.Outcome.TheVariants.{Done}
 use Rattle.gm_driver.proofs.DemoLemmas.{other-unended}
 use Rattle.gm_driver.proofs.demos.outcome_line.Goals as goal
 

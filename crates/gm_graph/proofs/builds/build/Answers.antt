@@ -1,5 +1,5 @@
 use Rattle.std.proofs.Common.{arith, refl, sym, ap, map, ◌≡◌, ◌∙◌, length, List}
-use Rattle.gm_graph.specs.Columns.{TypedRow}
+use Rattle.gm_columns.specs.Columns.{TypedRow}
 use Rattle.gm_graph.proofs.Building.{map-from, map-to, edges-within}
 use Rattle.gm_graph.proofs.Assembly.{numbering, numbering-as, lent-few, nodes-few, extra-few, from-known, to-known, extra-known, rows-held, has-rows, ends-length, within-as, grouped-as, lengths-as, numbers-as, columns-as, spread-as}
 use Rattle.gm_graph.proofs.Typing.{node-types, edge-types}

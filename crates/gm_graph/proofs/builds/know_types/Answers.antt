@@ -2,7 +2,7 @@ use Rattle.std.proofs.Common.{List, get_or, subst}
 use Rattle.std.specs.Prelude.{All}
 use Rattle.std.proofs.lemmas.List.{take_all}
 use Rattle.std.proofs.lemmas.List.Elements.{All-more}
-use Rattle.gm_graph.specs.Columns.{TypedRow, CanHold}
+use Rattle.gm_columns.specs.Columns.{TypedRow, CanHold}
 use Rattle.gm_graph.proofs.builds.know_types.Goals as goal
 
 pub loop-column-preserved : goal.loop-column-preserved

@@ -1,5 +1,5 @@
 use Rattle.std.proofs.Common.{◌≡◌, rules, sym, ap, ◌∙◌, map, replicate, w32, w64, to_z, of_z}
-use Rattle.gm_graph.specs.Cells.{node_in}
+use Rattle.gm_columns.specs.Cells.{node_in}
 use Rattle.gm_value.specs.declared.values.Value.TheVariants.{I32, I64, Flag}
 use Rattle.gm_machine.proofs.Copies.{map-replicate}
 use Rattle.gm_machine.proofs.cells.filled.Goals as goal

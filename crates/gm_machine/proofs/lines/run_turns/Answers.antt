@@ -1,6 +1,6 @@
 -- One more turn.
 use Rattle.std.proofs.Common.{None, map}
-use Rattle.gm_graph.specs.Graphs.{Step}
+use Rattle.gm_model.specs.Graphs.{Step}
 use Rattle.gm_image.specs.Views.{line}
 use Rattle.gm_machine.specs.VertexViews.{context_of, state_of, direction}
 use Rattle.gm_machine.specs.Vertex.{turns_after, steps}

@@ -2,7 +2,7 @@
 use Rattle.std.proofs.Common.{◌≡◌, ◌∙◌, List, map, ap}
 use Rattle.std.specs.Option.{option_map}
 use Rattle.gm_value.specs.declared.values.Value.{Value}
-use Rattle.gm_graph.specs.declared.outcomes.Outcome.TheVariants.{Done}
+use Rattle.gm_model.specs.declared.outcomes.Outcome.TheVariants.{Done}
 use Rattle.gm_image.specs.Program.{Item}
 use Rattle.gm_image.specs.Views.{output}
 use Rattle.gm_machine.specs.Expressions.{value_at}

@@ -1,6 +1,6 @@
 -- From superstep to superstep.
 use Rattle.std.proofs.Common.{◌≡◌, ◌-◌, ◌∙◌, [], refl, ap, arith}
-use Rattle.gm_graph.specs.Graphs.{NumberedGraph}
+use Rattle.gm_model.specs.Graphs.{NumberedGraph}
 use Rattle.gm_image.specs.Program.{Program}
 use Rattle.gm_image.specs.Views.{program}
 use Rattle.gm_machine.specs.Machine.{Control, Nodes, Ended, Faulted, Cut, ends, run_step}

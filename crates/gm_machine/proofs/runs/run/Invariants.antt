@@ -1,6 +1,6 @@
 -- What is left of the run ends as the whole run does, and observers were told the notes in front of those that are left.
 use Rattle.std.proofs.Common.{◌≡◌, ◌-◌, ◌≤◌, length, map}
-use Rattle.gm_graph.specs.Graphs.{node_count}
+use Rattle.gm_model.specs.Graphs.{node_count}
 use Rattle.gm_image.specs.Views.{program}
 use Rattle.gm_machine.specs.Fields.{IsFull}
 use Rattle.gm_machine.specs.Machine.{machine}

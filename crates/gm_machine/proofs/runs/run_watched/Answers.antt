@@ -1,6 +1,6 @@
 -- No handler of a sound image sets a field, and no run takes more supersteps than its bound.
 use Rattle.std.proofs.Common.{◌≤◌, ap, sym, subst}
-use Rattle.gm_graph.specs.declared.outcomes.RunEnd.{RunEnd}
+use Rattle.gm_model.specs.declared.outcomes.RunEnd.{RunEnd}
 use Rattle.gm_image.specs.declared.images.Image.{Image}
 use Rattle.gm_image.specs.Views.{program}
 use Rattle.gm_machine.specs.States.{most_supersteps}

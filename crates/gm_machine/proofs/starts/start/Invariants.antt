@@ -1,7 +1,7 @@
 -- The nodes so far have their first fields.
 use Rattle.std.proofs.Common.{◌≡◌, length, map, take}
 use Rattle.std.specs.List.{enumerate_from}
-use Rattle.gm_graph.specs.Graphs.{node_count}
+use Rattle.gm_model.specs.Graphs.{node_count}
 use Rattle.gm_image.specs.Views.{program}
 use Rattle.gm_machine.specs.Fields.{fields_of, IsFull}
 use Rattle.gm_machine.specs.Machine.{start_fields}

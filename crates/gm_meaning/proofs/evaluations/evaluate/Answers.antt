@@ -1,5 +1,5 @@
 use Rattle.std.proofs.Common.{◌≡◌, ◌∙◌, refl, ap}
-use Rattle.gm_graph.specs.declared.outcomes.Outcome.{Outcome}
+use Rattle.gm_model.specs.declared.outcomes.Outcome.{Outcome}
 use Rattle.gm_ast.specs.declared.tree.Tree.{Tree}
 use Rattle.gm_ast.specs.Program.{Program}
 use Rattle.gm_ast.specs.Tree.{program_of}

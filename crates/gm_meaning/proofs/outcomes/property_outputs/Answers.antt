@@ -1,7 +1,7 @@
 use Rattle.std.proofs.Common.{◌∙◌, ◌+◌, ◌-◌, ◌++◌, ◌∷◌, [], ℕ, List, Vec, map, ap, sym, Global}
 use Rattle.std.specs.Prelude.{filter}
 use Rattle.gm_value.specs.declared.values.Value.{Value}
-use Rattle.gm_graph.specs.declared.columns.Values.{Values}
+use Rattle.gm_columns.specs.declared.columns.Values.{Values}
 use Rattle.gm_ast.specs.declared.tree.Sort.TheVariants as Sorts
 use Rattle.gm_semantics.specs.Levels.{numbers_from, nodes}
 use Rattle.gm_semantics.specs.Outcomes.{is_of}

@@ -1,5 +1,5 @@
 use Rattle.std.proofs.Common.{arith, ◌∙◌, sym, ap, length, map}
-use Rattle.gm_graph.specs.Columns.{TypedRow, cell_at}
+use Rattle.gm_columns.specs.Columns.{TypedRow, cell_at}
 use Rattle.gm_graph.proofs.Views.{out-edge, rows-below, value-along}
 use Rattle.gm_graph.proofs.graphs.Graph.out_value.Goals as goal
 

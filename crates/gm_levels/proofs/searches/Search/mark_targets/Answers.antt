@@ -1,6 +1,6 @@
 use Rattle.std.proofs.Common.{arith}
 use Rattle.std.proofs.lemmas.Option.{get_or_from_slice_get, slice_get_within}
-use Rattle.gm_graph.specs.Graphs.{nodes_of, out_steps}
+use Rattle.gm_model.specs.Graphs.{nodes_of, out_steps}
 use Rattle.gm_levels.proofs.Marking.{marked-none, marked-more, marked-targets}
 use Rattle.gm_levels.proofs.searches.Search.mark_targets.Goals as goal
 

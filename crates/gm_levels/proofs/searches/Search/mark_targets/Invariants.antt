@@ -1,5 +1,5 @@
 use Rattle.std.proofs.Common.{take}
-use Rattle.gm_graph.specs.Graphs.{nodes_of, out_steps}
+use Rattle.gm_model.specs.Graphs.{nodes_of, out_steps}
 use Rattle.gm_levels.specs.Searches.{AreMarked}
 use Rattle.gm_levels.proofs.searches.Search.mark_targets.Given as goal
 

@@ -1,6 +1,6 @@
 use Rattle.std.proofs.Common.{◌≡◌, ◌∙◌, ◌≤◌, ◌+◌, ◌<◌, ℕ, Bool, List, [], ◌∷◌, drop, get_or, length, map, None, Option, take, refl, ap, sym, subst}
 use Rattle.std.proofs.lemmas.List.{take_all}
-use Rattle.gm_graph.specs.Graphs.{Step}
+use Rattle.gm_model.specs.Graphs.{Step}
 use Rattle.gm_ast.specs.declared.tree.Stmt as S
 use Rattle.gm_ast.specs.Program as P
 use Rattle.gm_ast.specs.Tree.{expr_of, stmt_of}

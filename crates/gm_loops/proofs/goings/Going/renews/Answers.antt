@@ -1,6 +1,6 @@
 use Rattle.std.proofs.Common.{◌≡◌, ◌∙◌, ◌<◌, Ok, Result, refl, ap, sym, length, arith}
 use Rattle.gm_ast.specs.Tree.{expr_of}
-use Rattle.gm_graph.specs.Graphs.{node_count}
+use Rattle.gm_model.specs.Graphs.{node_count}
 use Rattle.gm_semantics.specs.declared.faults.Fault.{Fault}
 use Rattle.gm_semantics.specs.Stores.{Store}
 use Rattle.gm_store.specs.Cells.{values_of}

@@ -1,4 +1,4 @@
-use Rattle.gm_graph.specs.Graphs.{out_steps, in_steps}
+use Rattle.gm_model.specs.Graphs.{out_steps, in_steps}
 use Rattle.gm_loops.proofs.Steps.{length-node_steps, step-node_steps, step-parts}
 use Rattle.gm_loops.proofs.ranges.Range.hop.Goals as goal
 

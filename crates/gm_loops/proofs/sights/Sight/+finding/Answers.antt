@@ -3,7 +3,7 @@ use Rattle.std.proofs.lemmas.Option.{IfSome_then}
 use Rattle.gm_value.specs.declared.values.Value.{Value}
 use Rattle.gm_value.specs.Operations.{is_true}
 use Rattle.gm_value.specs.Totals.{IsTotal}
-use Rattle.gm_graph.specs.Graphs.{Step}
+use Rattle.gm_model.specs.Graphs.{Step}
 use Rattle.gm_ast.specs.Program.{Expr}
 use Rattle.gm_ast.specs.Tree.{expr_of}
 use Rattle.gm_semantics.specs.declared.faults.Fault.{Fault}

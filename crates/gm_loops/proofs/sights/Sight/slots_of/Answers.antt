@@ -1,7 +1,7 @@
 use Rattle.std.proofs.Common.{◌≡◌, ◌∙◌, ◌+◌, ◌∷◌, ◌++◌, [], List, Ok, drop, get_or, ap, sym, subst}
 use Rattle.std.specs.Prelude.{All, IfOk}
 use Rattle.std.proofs.lemmas.List.Elements.{All-push}
-use Rattle.gm_graph.specs.Graphs.{node_count}
+use Rattle.gm_model.specs.Graphs.{node_count}
 use Rattle.gm_ast.specs.declared.tree.Target.{Target}
 use Rattle.gm_ast.specs.declared.tree.Target.TheVariants as T
 use Rattle.gm_semantics.specs.declared.slots.Slot.{Slot}

@@ -1,6 +1,6 @@
 use Rattle.std.proofs.Common.{◌≡◌, drop}
 use Rattle.std.specs.Prelude.{All}
-use Rattle.gm_graph.specs.Graphs.{node_count}
+use Rattle.gm_model.specs.Graphs.{node_count}
 use Rattle.gm_semantics.specs.Iterations.{slots_of}
 use Rattle.gm_store.specs.Held.{HasSlot}
 use Rattle.gm_loops.specs.Bounds.{targets_bound}

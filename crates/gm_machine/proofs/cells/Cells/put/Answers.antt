@@ -1,7 +1,7 @@
 use Rattle.std.proofs.Common.{◌≡◌, rules, refl, subst, ap, sym, ◌∙◌, map, set, w32, w64, to_z, of_z}
 use Rattle.std.proofs.lemmas.List.{map-set}
 use Rattle.gm_value.specs.declared.values.Value.TheVariants.{I32, I64, Flag}
-use Rattle.gm_graph.specs.Cells.{node_in}
+use Rattle.gm_columns.specs.Cells.{node_in}
 use Rattle.gm_machine.specs.Cells.{Takes}
 use Rattle.gm_machine.specs.declared.cells.Cells.{Cells}
 use Rattle.gm_machine.proofs.Copies.{set-replicate}

@@ -1,7 +1,7 @@
 use Rattle.std.proofs.Common.{◌≡◌, ◌∙◌, ◌<◌, ◌≤◌, ◌-◌, ℕ, suc, true, List, length, get_or, map, Ok, refl, ap, sym, subst, arith, rules}
 use Rattle.std.specs.Prelude.{box_value}
 use Rattle.gm_value.specs.Operations.{is_true}
-use Rattle.gm_graph.specs.Graphs.{node_count}
+use Rattle.gm_model.specs.Graphs.{node_count}
 use Rattle.gm_ast.specs.declared.tree.Stmt.{Stmt}
 use Rattle.gm_ast.specs.Program as P
 use Rattle.gm_ast.specs.Program.{sequence}

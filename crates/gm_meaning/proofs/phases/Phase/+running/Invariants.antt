@@ -1,7 +1,7 @@
 use Rattle.std.proofs.Common.{◌≡◌, ◌≤◌, ◌-◌, suc, drop, map}
 use Rattle.gm_ast.specs.Program.{sequence}
 use Rattle.gm_ast.specs.Tree.{expr_of, stmt_of}
-use Rattle.gm_graph.specs.Graphs.{node_count}
+use Rattle.gm_model.specs.Graphs.{node_count}
 use Rattle.gm_semantics.specs.Levels.{nodes, numbers_from}
 use Rattle.gm_semantics.specs.Statements.{sequential, repeated, in_turns}
 use Rattle.gm_loops.specs.Bounds.{bound_of}

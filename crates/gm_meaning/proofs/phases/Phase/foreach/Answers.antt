@@ -1,5 +1,5 @@
 use Rattle.std.proofs.Common.{arith}
-use Rattle.gm_graph.specs.Graphs.{node_count}
+use Rattle.gm_model.specs.Graphs.{node_count}
 use Rattle.gm_meaning.proofs.Levels.{numbers-below}
 use Rattle.gm_meaning.proofs.phases.Phase.foreach.Goals as goal
 

@@ -3,8 +3,8 @@
 ghost use Rattle.std.specs.Prelude.{◌≡◌, ◌<◌, ◌==◌, [], ◌∷◌, ◌++◌, All, Some, length, slice_get, OnOk, OnErr};
 ghost use Rattle.gm_value.specs.declared.values.Value.TheVariants.{At};
 ghost use Rattle.gm_value.specs.declared.values.VType.TheVariants.{Node};
-ghost use Rattle.gm_graph.specs.Columns.{CanHold, IsStorable};
-ghost use Rattle.gm_graph.specs.Cells.{node_in, typed_row};
+ghost use Rattle.gm_columns.specs.Columns.{CanHold, IsStorable};
+ghost use Rattle.gm_columns.specs.Cells.{node_in, typed_row};
 
 use gm_base::NoMemory;
 use gm_value::{VType, Value};
@@ -31,11 +31,11 @@ pub struct Column {
 
 impl Model for Column {
     ghost use Rattle.gm_value.specs.declared.values.VType.TheVariants.{Node};
-    ghost use Rattle.gm_graph.specs.Columns.{TypedRow};
+    ghost use Rattle.gm_columns.specs.Columns.{TypedRow};
 
     ghost Value = { TypedRow };
 
-    ghost use Rattle.gm_graph.specs.Cells.{typed_row};
+    ghost use Rattle.gm_columns.specs.Cells.{typed_row};
 
     ghost view = { λ column. typed_row column.cells };
 }
@@ -167,7 +167,7 @@ impl Model for Values {
 
     ghost Value = { List GmValue };
 
-    ghost use Rattle.gm_graph.specs.Cells.{finished_values};
+    ghost use Rattle.gm_columns.specs.Cells.{finished_values};
 
     ghost view = { λ it. finished_values it.finished };
 }

@@ -1,8 +1,8 @@
 use Rattle.std.proofs.Common.{subst}
 use Rattle.std.specs.Prelude.{All}
-use Rattle.gm_graph.specs.Columns.{TypedRow, CanHold}
-use Rattle.gm_graph.proofs.Typing.{cells-held}
-use Rattle.gm_graph.proofs.columns.Column.vtype.Goals as goal
+use Rattle.gm_columns.specs.Columns.{TypedRow, CanHold}
+use Rattle.gm_columns.proofs.Holding.{cells-held}
+use Rattle.gm_columns.proofs.columns.Column.vtype.Goals as goal
 
 pub returns-clause-held : goal.returns-clause-held
 returns-clause-held c =

@@ -1,7 +1,7 @@
 //! How a run of a procedure over a graph ends.
 
-use crate::columns::Values;
 use gm_base::{Items, Place};
+use gm_columns::Values;
 use gm_value::{FaultKind, Value};
 
 /// How a run ends.

@@ -3,11 +3,11 @@ use Rattle.std.specs.Prelude.{ℕ, nat_lt, List, map, Some, None, if◌then◌el
 use Rattle.gm_value.specs.declared.values.Value.{Value}
 use Rattle.gm_value.specs.declared.values.VType.TheVariants.{I32, I64, Flag, Node}
 use Rattle.gm_value.specs.declared.values.Value.TheVariants.{I32, I64, Flag, At}
-use Rattle.gm_graph.specs.declared.columns.Cells.{Cells}
-use Rattle.gm_graph.specs.declared.columns.Cells.TheVariants.{Ints, Longs, Flags, Nodes}
-use Rattle.gm_graph.specs.declared.columns.Finished.{Finished}
-use Rattle.gm_graph.specs.declared.columns.Finished.TheVariants.{Typed, Mixed}
-use Rattle.gm_graph.specs.Columns.{TypedRow}
+use Rattle.gm_columns.specs.declared.columns.Cells.{Cells}
+use Rattle.gm_columns.specs.declared.columns.Cells.TheVariants.{Ints, Longs, Flags, Nodes}
+use Rattle.gm_columns.specs.declared.columns.Finished.{Finished}
+use Rattle.gm_columns.specs.declared.columns.Finished.TheVariants.{Typed, Mixed}
+use Rattle.gm_columns.specs.Columns.{TypedRow}
 
 -- the node whose index a cell holds, or NIL in a cell of the greatest number
 abbrev pub node_in : ℕ → Value

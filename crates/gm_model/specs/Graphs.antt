@@ -4,7 +4,7 @@ use Rattle.std.specs.List.Sorted.{IsStrictlyIncreasing}
 use Rattle.std.specs.List.{enumerate_from}
 use Rattle.std.specs.Option.{option_and_then}
 use Rattle.gm_value.specs.declared.values.Value.{Value}
-use Rattle.gm_graph.specs.Columns.{cell_at}
+use Rattle.gm_columns.specs.Columns.{cell_at}
 
 -- an edge, from a node to a node, each by its index
 pub record Edge : Type 0 where
