@@ -2,21 +2,18 @@
 
 ghost use Rattle.std.specs.Prelude.{◌≡◌, ◌<◌, ◌==◌, [], ◌∷◌, ◌++◌, All, Some, length, slice_get, OnOk, OnErr};
 ghost use Rattle.gm_value.specs.declared.values.Value.TheVariants.{At};
-ghost use Rattle.gm_value.specs.declared.values.VType.TheVariants.{Node};
 ghost use Rattle.gm_columns.specs.Columns.{CanHold, IsStorable};
-ghost use Rattle.gm_columns.specs.Cells.{node_in, typed_row};
+ghost use Rattle.gm_columns.specs.TypedRows.{typed_row};
 
+use crate::nodes::{cell_of, node_in};
 use gm_base::NoMemory;
 use gm_value::{VType, Value};
 use std::alloc::Global;
 use std::marker::Model;
 
-// The place of NIL in a row of node indices.
-const NIL: u32 = u32::MAX;
-
 // The values of a column, by their type.
 #[derive(Debug, Drop)]
-enum Cells {
+enum TypedCells {
     Ints(Vec<i32>),
     Longs(Vec<i64>),
     Flags(Vec<bool>),
@@ -26,7 +23,7 @@ enum Cells {
 /// A column of values of one type, by row from 0. Contracts see the type and the list of the values.
 #[derive(Debug, Drop)]
 pub struct Column {
-    cells: Cells,
+    cells: TypedCells,
 }
 
 impl Model for Column {
@@ -35,20 +32,20 @@ impl Model for Column {
 
     ghost Value = { TypedRow };
 
-    ghost use Rattle.gm_columns.specs.Cells.{typed_row};
+    ghost use Rattle.gm_columns.specs.TypedRows.{typed_row};
 
     ghost view = { λ column. typed_row column.cells };
 }
 
-impl Cells {
+impl TypedCells {
     fn vtype(&self) -> VType
         ensures { result ≡ (typed_row self.now).vtype }
     {
         match self {
-            Cells::Ints(_) => VType::I32,
-            Cells::Longs(_) => VType::I64,
-            Cells::Flags(_) => VType::Flag,
-            Cells::Nodes(_) => VType::Node,
+            TypedCells::Ints(_) => VType::I32,
+            TypedCells::Longs(_) => VType::I64,
+            TypedCells::Flags(_) => VType::Flag,
+            TypedCells::Nodes(_) => VType::Node,
         }
     }
 }
@@ -60,10 +57,10 @@ impl Column {
         ensures no_rows { result.values ≡ [] }
     {
         let cells = match vtype {
-            VType::I32 => Cells::Ints(Vec::new(alloc)),
-            VType::I64 => Cells::Longs(Vec::new(alloc)),
-            VType::Flag => Cells::Flags(Vec::new(alloc)),
-            VType::Node => Cells::Nodes(Vec::new(alloc)),
+            VType::I32 => TypedCells::Ints(Vec::new(alloc)),
+            VType::I64 => TypedCells::Longs(Vec::new(alloc)),
+            VType::Flag => TypedCells::Flags(Vec::new(alloc)),
+            VType::Node => TypedCells::Nodes(Vec::new(alloc)),
         };
         Column { cells }
     }
@@ -81,10 +78,10 @@ impl Column {
         ensures { result ≡ length self.now.values }
     {
         match &self.cells {
-            Cells::Ints(cells) => cells.len(),
-            Cells::Longs(cells) => cells.len(),
-            Cells::Flags(cells) => cells.len(),
-            Cells::Nodes(cells) => cells.len(),
+            TypedCells::Ints(cells) => cells.len(),
+            TypedCells::Longs(cells) => cells.len(),
+            TypedCells::Flags(cells) => cells.len(),
+            TypedCells::Nodes(cells) => cells.len(),
         }
     }
 
@@ -102,10 +99,10 @@ impl Column {
         ensures held { CanHold self.now.vtype result }
     {
         match &self.cells {
-            Cells::Ints(cells) => Value::I32(cells[row]),
-            Cells::Longs(cells) => Value::I64(cells[row]),
-            Cells::Flags(cells) => Value::Flag(cells[row]),
-            Cells::Nodes(cells) => node_in(cells[row]),
+            TypedCells::Ints(cells) => Value::I32(cells[row]),
+            TypedCells::Longs(cells) => Value::I64(cells[row]),
+            TypedCells::Flags(cells) => Value::Flag(cells[row]),
+            TypedCells::Nodes(cells) => node_in(cells[row]),
         }
     }
 
@@ -117,34 +114,14 @@ impl Column {
         ensures unchanged { OnErr result (self.new ≡ self.old) }
     {
         match (&mut self.cells, value) {
-            (Cells::Ints(cells), Value::I32(cell)) => cells.push(cell)?,
-            (Cells::Longs(cells), Value::I64(cell)) => cells.push(cell)?,
-            (Cells::Flags(cells), Value::Flag(cell)) => cells.push(cell)?,
-            (Cells::Nodes(cells), Value::At(node)) => cells.push(cell_of(node))?,
+            (TypedCells::Ints(cells), Value::I32(cell)) => cells.push(cell)?,
+            (TypedCells::Longs(cells), Value::I64(cell)) => cells.push(cell)?,
+            (TypedCells::Flags(cells), Value::Flag(cell)) => cells.push(cell)?,
+            (TypedCells::Nodes(cells), Value::At(node)) => cells.push(cell_of(node))?,
             _ => unreachable!(),
         }
         Ok(())
     }
-}
-
-// The node whose index a cell holds, or NIL.
-fn node_in(cell: u32) -> Value
-    ensures node { result ≡ node_in cell }
-    ensures held { CanHold Node result }
-{
-    if cell < NIL {
-        Value::At(Some(cell))
-    } else {
-        Value::At(None)
-    }
-}
-
-// The cell that holds a node's index, or NIL.
-fn cell_of(node: Option<u32>) -> u32
-    requires { IsStorable (At node) }
-    ensures { node_in result ≡ At node }
-{
-    node.unwrap_or(NIL)
 }
 
 // Finished values: of one type in a column, or of any types one by one.
@@ -167,7 +144,7 @@ impl Model for Values {
 
     ghost Value = { List GmValue };
 
-    ghost use Rattle.gm_columns.specs.Cells.{finished_values};
+    ghost use Rattle.gm_columns.specs.TypedRows.{finished_values};
 
     ghost view = { λ it. finished_values it.finished };
 }

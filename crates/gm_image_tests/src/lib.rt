@@ -8,6 +8,8 @@ mod image_texts;
 #[cfg(test)]
 mod machine;
 #[cfg(test)]
+mod node_steps;
+#[cfg(test)]
 mod owners;
 #[cfg(test)]
 mod replies;

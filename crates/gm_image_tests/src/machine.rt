@@ -18,7 +18,7 @@ use std::alloc::{AllocError, Global};
 use std::test::Fail;
 
 // The image that the text of this name spells. It has no columns.
-fn image_of(alloc: Global, name: &str) -> Result<Image, Fail>
+pub(crate) fn image_of(alloc: Global, name: &str) -> Result<Image, Fail>
     ensures { IfOk result (λ image. image.columns ≡ []) }
 {
     let mut image = read_image(alloc, text_of(name).as_bytes())?;
@@ -45,7 +45,7 @@ fn two_nodes(alloc: Global) -> Result<RawGraph, NoMemory>
 }
 
 // Three nodes point at the last one, and the third at the first.
-fn four_nodes(alloc: Global) -> Result<RawGraph, NoMemory>
+pub(crate) fn four_nodes(alloc: Global) -> Result<RawGraph, NoMemory>
     ensures buildable { IfOk result IsBuildable }
     ensures columns { IfOk result (λ raw. raw.edge_columns ≡ []) }
 {
@@ -63,7 +63,7 @@ fn four_nodes(alloc: Global) -> Result<RawGraph, NoMemory>
 }
 
 // The graph of some edges without columns.
-fn graph_of(alloc: Global, raw: RawGraph) -> Result<Graph, NoMemory>
+pub(crate) fn graph_of(alloc: Global, raw: RawGraph) -> Result<Graph, NoMemory>
     requires buildable { IsBuildable raw }
     requires columns { raw.edge_columns ≡ [] }
     ensures { IfOk result (λ g. HasColumns g 0) }
@@ -108,7 +108,11 @@ fn values_in(alloc: Global, values: &Values) -> Result<Vec<Value>, AllocError> {
 }
 
 // Writes a list of values as a line.
-fn put_values(alloc: Global, text: &mut String, values: &[Value]) -> Result<(), AllocError> {
+pub(crate) fn put_values(
+    alloc: Global,
+    text: &mut String,
+    values: &[Value],
+) -> Result<(), AllocError> {
     let line = format!(in alloc; "{values:?}\n")?;
     text.push_str(line.as_str())?;
     Ok(())

@@ -17,8 +17,8 @@ use Rattle.gm_semantics.specs.declared.faults.Fault.{Fault}
 use Rattle.gm_semantics.specs.Faults.{then_with}
 use Rattle.gm_semantics.specs.Levels.{node_in, numbers_from}
 use Rattle.gm_semantics.specs.Expressions.{Evaluated, View, at_node, evaluated, located, node_held, node_of, node_read, one_of, plain, two_of}
-use Rattle.gm_store.specs.declared.cells.Cells.{Cells}
-use Rattle.gm_store.specs.Cells.{values_of}
+use Rattle.gm_columns.specs.declared.cells.Cells.{Cells}
+use Rattle.gm_columns.specs.Cells.{values_of}
 use Rattle.gm_loops.specs.Columns.{here, Applies1, Applies2, Each, IsColumn}
 use Rattle.gm_loops.proofs.Looping.{get-numbers, length-numbers}
 

@@ -23,8 +23,8 @@ use Rattle.gm_semantics.specs.declared.faults.Fault.{Fault}
 use Rattle.gm_semantics.specs.Expressions.{Evaluated, View, closed, early, element, entered, evaluated, members_of, plain, reduction, settled, steps_of}
 use Rattle.gm_semantics.specs.Faults.{errs, joined, least, oks, unless_fault}
 use Rattle.gm_semantics.specs.Levels.{node_in, nodes, numbers_from}
-use Rattle.gm_store.specs.declared.cells.Cells.{Cells}
-use Rattle.gm_store.specs.Cells.{values_of}
+use Rattle.gm_columns.specs.declared.cells.Cells.{Cells}
+use Rattle.gm_columns.specs.Cells.{values_of}
 use Rattle.gm_loops.specs.Columns.{IsColumn}
 use Rattle.gm_loops.specs.Renewals.{PassesAll}
 use Rattle.gm_loops.proofs.Elements.{passed-element}

@@ -19,7 +19,7 @@ use Rattle.gm_semantics.specs.Iterations.{Iteration, Loop, Outermost, as_it_is, 
 use Rattle.gm_semantics.specs.Levels.{numbers_from}
 use Rattle.gm_semantics.specs.Loops.{iteration, left_at, loop_done, own_left, parallel}
 use Rattle.gm_semantics.specs.Stores.{Store, overlaid, write}
-use Rattle.gm_store.specs.Cells.{values_of}
+use Rattle.gm_columns.specs.Cells.{values_of}
 use Rattle.gm_store.specs.Held.{replaced, shape_of}
 use Rattle.gm_totals.specs.declared.totals.Totals.{Totals}
 use Rattle.gm_totals.specs.Standing.{StandsFor}

@@ -10,8 +10,8 @@ use Rattle.gm_ast.specs.Program.{Expr}
 use Rattle.gm_semantics.specs.declared.slots.Slot.TheVariants.{Scalar}
 use Rattle.gm_semantics.specs.Expressions.{View, evaluated, plain}
 use Rattle.gm_semantics.specs.Stores.{write}
-use Rattle.gm_store.specs.declared.cells.Cells.{Cells}
-use Rattle.gm_store.specs.Cells.{values_of}
+use Rattle.gm_columns.specs.declared.cells.Cells.{Cells}
+use Rattle.gm_columns.specs.Cells.{values_of}
 use Rattle.gm_loops.specs.declared.columns.Operand.{Operand}
 use Rattle.gm_loops.specs.declared.columns.Operand.TheVariants.{Held, Made}
 

@@ -7,7 +7,7 @@ use Rattle.gm_ast.specs.Program.{Expr}
 use Rattle.gm_semantics.specs.Expressions.{View, evaluated, plain}
 use Rattle.gm_semantics.specs.Iterations.{Outermost, begun, view_in}
 use Rattle.gm_semantics.specs.Stores.{Store}
-use Rattle.gm_store.specs.declared.cells.Cells.{Cells}
+use Rattle.gm_columns.specs.declared.cells.Cells.{Cells}
 use Rattle.gm_loops.specs.declared.around.Around.{Around}
 use Rattle.gm_loops.specs.Around.{loop_of}
 use Rattle.gm_loops.specs.Columns.{IsColumn}

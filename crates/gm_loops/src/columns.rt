@@ -8,7 +8,7 @@ ghost use Rattle.gm_model.specs.Graphs.{node_count};
 ghost use Rattle.gm_ast.specs.Program as program;
 ghost use Rattle.gm_ast.specs.Tree.{expr_of};
 ghost use Rattle.gm_semantics.specs.Levels.{numbers_from};
-ghost use Rattle.gm_store.specs.Cells.{values_of};
+ghost use Rattle.gm_columns.specs.Cells.{values_of};
 ghost use Rattle.gm_loops.specs.Columns.{cells_of, Applies1, Applies2, IsColumn};
 ghost use Rattle.gm_loops.specs.Sights.{view_of, Fits};
 
@@ -16,7 +16,8 @@ use crate::scopes::Scope;
 use crate::sights::Sight;
 use gm_ast::tree::Expr;
 use gm_base::NoMemory;
-use gm_store::{Cells, Store};
+use gm_columns::Cells;
+use gm_store::Store;
 use gm_value::{Op1, Op2, VType, Value, apply1, apply2};
 use std::alloc::Global;
 

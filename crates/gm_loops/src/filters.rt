@@ -27,7 +27,7 @@ use crate::scopes::Scope;
 use crate::shorts::Deed;
 use gm_ast::tree::{Expr, Key};
 use gm_base::NoMemory;
-use gm_store::Cells;
+use gm_columns::Cells;
 
 // Whether the column of a filter, if there is one, does not pass a node.
 #[inline(always)]

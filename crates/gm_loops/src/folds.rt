@@ -9,7 +9,7 @@ ghost use Rattle.gm_ast.specs.Program as program;
 ghost use Rattle.gm_ast.specs.Tree.{expr_of};
 ghost use Rattle.gm_semantics.specs.Expressions.{evaluated, members_of, plain, reduce_of};
 ghost use Rattle.gm_semantics.specs.Faults.{joined};
-ghost use Rattle.gm_store.specs.Cells.{values_of};
+ghost use Rattle.gm_columns.specs.Cells.{values_of};
 ghost use Rattle.gm_loops.specs.Sights.{view_of, Fits};
 
 use crate::faultless::sound;
@@ -19,7 +19,8 @@ use crate::scopes::Scope;
 use crate::sights::Sight;
 use gm_ast::surface::ReductionWord;
 use gm_ast::tree::{Domain, Expr, Fold, Head};
-use gm_store::{Cells, Store};
+use gm_columns::Cells;
+use gm_store::Store;
 use gm_value::{Total, VType, Value, total_unit, totals_have_room};
 
 // The total of a reduction of all values of a column.

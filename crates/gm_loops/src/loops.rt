@@ -23,9 +23,10 @@ use crate::own::{keep_own, set_all};
 use crate::turns::{keep_least, sooner};
 use gm_ast::tree::{Expr, Key};
 use gm_base::NoMemory;
+use gm_columns::Cells;
 use gm_semantics::faults::Fault;
 use gm_semantics::slots::Write;
-use gm_store::{Cells, Store};
+use gm_store::Store;
 use gm_totals::Totals;
 use std::alloc::Global;
 

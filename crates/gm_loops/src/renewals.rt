@@ -19,8 +19,8 @@ use crate::parts::is_true;
 use crate::scopes::Scope;
 use gm_ast::tree::{Expr, Target};
 use gm_base::NoMemory;
+use gm_columns::Cells;
 use gm_graph::Graph;
-use gm_store::Cells;
 
 // A property's values at all nodes.
 #[derive(Drop)]

@@ -44,12 +44,12 @@ use Rattle.gm_machine.proofs.OrderLaws.{AreBy, lines-by, handler-by, runs-by, fi
 use Rattle.gm_machine.proofs.SingleSteps.{firsts_of, closed_first, in_list, taken-single}
 
 -- exact totals: those of two bags together
-abbrev joined : Reduce → Option ℤ → Option ℤ → Option ℤ
+abbrev pub joined : Reduce → Option ℤ → Option ℤ → Option ℤ
 joined r None y = y
 joined r (Some a) None = Some a
 joined r (Some a) (Some b) = Some (combined r a b)
 
-exact-append : (r : Reduce) (xs ys : List Value) → exact_of r (xs ++ ys) ≡ joined r (exact_of r xs) (exact_of r ys)
+pub exact-append : (r : Reduce) (xs ys : List Value) → exact_of r (xs ++ ys) ≡ joined r (exact_of r xs) (exact_of r ys)
 exact-append r [] ys = refl
 exact-append r (v ∷ xs) ys = ap (λ o. Some (more_exact r (number_of v) o)) (exact-append r xs ys) ∙ by (exact_of r xs) (exact_of r ys) where
   by : (x y : Option ℤ) → Some (more_exact r (number_of v) (joined r x y)) ≡ joined r (Some (more_exact r (number_of v) x)) y

@@ -5,7 +5,9 @@ use Rattle.std.proofs.lemmas.Bool.{cases_eq}
 use Rattle.std.proofs.lemmas.List.{get_or-set_same, get_or-set_other, get_or-replicate, get_or_default, get_or_past, get_or-map, length-set, length-map, length-replicate, map-append, same_lists, take_more, take_more_set, drop_more, drop-set-lt, drop_all, take_all, append-nil}
 use Rattle.std.proofs.lemmas.List.FromFn.{length-map-range_with_len, get_or-map-range_with_len}
 use Rattle.std.proofs.lemmas.List.Elements.{All-cons, All-head, All-tail, All-set, All-get_or, All-weaker}
+use Rattle.gm_value.specs.declared.values.VType.{VType}
 use Rattle.gm_value.specs.declared.values.Value.{Value}
+use Rattle.gm_value.specs.Numbers.{zero_of}
 use Rattle.gm_value.specs.declared.values.Value.TheVariants.{At}
 use Rattle.gm_machine.specs.Expressions.{value_at}
 use Rattle.gm_machine.specs.Machine.{row_at, column_of}
@@ -189,3 +191,19 @@ read-more columns node i v into within room is before k d below =
     subst Q (sym same) here)
     (λ (differs : k ≡ i → ⊥). let less : k < i = omega arith in get_or-set_other into i k v d differs ∙ before k d less)
     (cases_eq k i)
+
+-- the fields of nodes in columns of zeros
+row-zero : (types : List VType) (nodes k : ℕ) → k < nodes → row_at (map (λ t. replicate nodes (zero_of t)) types) k ≡ map zero_of types
+row-zero [] nodes k below = refl
+row-zero (t ∷ types) nodes k below =
+    ap (λ v. v ∷ row_at (map (λ t. replicate nodes (zero_of t)) types) k) (get_or-replicate nodes k (zero_of t) (At None) below)
+    ∙ ap (λ vs. zero_of t ∷ vs) (row-zero types nodes k below)
+
+pub rows-zero : (types : List VType) (nodes : ℕ) (columns : List (List Value)) → columns ≡ map (λ t. replicate nodes (zero_of t)) types → by_node nodes columns ≡ replicate nodes (map zero_of types)
+rows-zero types nodes columns is =
+    ap (by_node nodes) is
+    ∙ same_lists (by_node nodes (map (λ t. replicate nodes (zero_of t)) types)) (replicate nodes (map zero_of types))
+    (length-by_node nodes (map (λ t. replicate nodes (zero_of t)) types) ∙ sym (length-replicate nodes (map zero_of types)))
+    (λ k d h.
+    let below : k < nodes = omega (arith, h, length-by_node nodes (map (λ t. replicate nodes (zero_of t)) types)) in
+    get_or-by_node nodes (map (λ t. replicate nodes (zero_of t)) types) k d below ∙ row-zero types nodes k below ∙ sym (get_or-replicate nodes k (map zero_of types) d below))

@@ -102,7 +102,7 @@ abbrev pub least_right : List (Option Fault) → Option Fault
 least_right [] = None
 least_right (g ∷ gs) = lesser g (least_right gs)
 
-lesser-none : (f : Option Fault) → lesser f None ≡ f
+pub lesser-none : (f : Option Fault) → lesser f None ≡ f
 lesser-none None = refl
 lesser-none (Some f) = refl
 

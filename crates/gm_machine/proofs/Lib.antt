@@ -8,6 +8,7 @@ pub mod SoundHandlers
 pub mod SoundFolds
 pub mod SoundPuts
 pub mod CombiningLemmas
+pub mod HandedTotals
 pub mod Samples
 mod Rows
 pub mod Messages
@@ -22,10 +23,10 @@ pub mod Handlers
 pub mod VertexSteps
 pub mod OneStep
 pub mod InboxSteps
+pub mod InboxLemmas
 pub mod MasterLemmas
 pub mod StateLemmas
 pub mod StateBounds
-pub mod Copies
 pub mod FieldRows
 pub mod Widths
 pub mod NodeSteps

@@ -1,174 +1,305 @@
--- The steps of all nodes, one after another.
-use Rattle.std.proofs.Common.{◌≡◌, ◌<◌, ◌≤◌, ◌+◌, ℕ, Bool, true, false, Option, None, List, [], ◌∷◌, ◌++◌, map, length, take, drop, set, get_or, sym, ap, ◌∙◌, arith, append_assoc, nat_eq, cond, refl}
-use Rattle.std.specs.Prelude.{All, slice_range}
-use Rattle.std.specs.List.{enumerate_from, flat_map}
-use Rattle.std.proofs.lemmas.List.Elements.{All-same, All-filter}
-use Rattle.std.proofs.lemmas.List.{take_more_set, drop-set-lt, drop_more, drop_all, take_all, append-nil}
+-- The steps of many nodes, one after another.
+use Rattle.std.proofs.Common.{◌≡◌, ◌<◌, ◌≤◌, ◌+◌, ◌-◌, ℕ, zero, suc, Option, None, List, [], ◌∷◌, ◌++◌, map, length, take, drop, set, get_or, sym, ap, ◌∙◌, arith, append_assoc, refl, subst, ⊎_elim, ◌⊎◌, inl, inr}
+use Rattle.std.specs.Prelude.{All}
+use Rattle.std.specs.List.{flat_map, range_with_len}
+use Rattle.std.proofs.lemmas.List.{length-append, length-drop, length-take-le, take-append-drop, append-nil, drop_more, drop_all, set_at, get_or_at, map_push}
+use Rattle.std.proofs.lemmas.List.Concat.{flat_map-append}
+use Rattle.std.proofs.lemmas.List.Elements.{All-same}
+use Rattle.std.proofs.lemmas.List.FromFn.{length-map-range_with_len, get_or-map-range_with_len}
 use Rattle.gm_value.specs.declared.values.Value.{Value}
-use Rattle.gm_machine.specs.declared.batches.MessageHeader.{MessageHeader}
-use Rattle.gm_machine.specs.declared.faults.Fault.{Fault}
-use Rattle.gm_machine.specs.Taking.{Contribution}
 use Rattle.gm_model.specs.Graphs.{NumberedGraph}
 use Rattle.gm_image.specs.Program.{Program, Block}
 use Rattle.gm_image.specs.Views.{program}
-use Rattle.gm_machine.specs.declared.supersteps.Round.{Round}
-use Rattle.gm_machine.specs.Batches.{message_of, IsWithin}
-use Rattle.gm_machine.specs.Faults.{lesser, least_from}
-use Rattle.gm_machine.specs.Inboxes.{to_node, AreStarts, AreGrouped}
-use Rattle.gm_machine.proofs.InboxSteps.{starts-ordered}
-use Rattle.gm_machine.specs.Machine.{Nodes, Stepped, inbox, context_at, block_at, step_of, all_steps, superstep}
-use Rattle.gm_machine.specs.VertexViews.{code_of}
-use Rattle.gm_machine.specs.Taking.{settled}
-use Rattle.gm_machine.specs.Supersteps.{Together, node_after, together}
+use Rattle.gm_machine.specs.declared.batches.MessageHeader.{MessageHeader}
+use Rattle.gm_machine.specs.declared.faults.Fault.{Fault}
+use Rattle.gm_machine.specs.declared.fields.FieldColumns.{FieldColumns}
+use Rattle.gm_machine.specs.declared.node_steps.Nodes.{Nodes}
+use Rattle.gm_machine.specs.declared.node_steps.Round.{Round}
+use Rattle.gm_machine.specs.declared.steps.Sent.{Sent}
+use Rattle.gm_machine.specs.Batches.{IsWithin}
+use Rattle.gm_machine.specs.Duties.{node_of, between, Steps, StepsTo}
+use Rattle.gm_machine.specs.Faults.{lesser, least_from, least_fault}
+use Rattle.gm_machine.specs.Fields.{HeldFields, fields_of, columns_of, held}
+use Rattle.gm_machine.specs.Inboxes.{headers_at, messages_at, AreByPlace}
+use Rattle.gm_machine.specs.Machine as machine
+use Rattle.gm_machine.specs.Machine.{Stepped, inbox, context_at, block_at, step_of, all_steps, superstep}
+use Rattle.gm_machine.specs.NodeSteps.{round_after, RunsTo}
+use Rattle.gm_machine.specs.Taking.{Contribution, Settled, settled}
 use Rattle.gm_machine.specs.Vertex.{Message, After, vertex_after}
+use Rattle.gm_machine.specs.VertexViews.{code_of}
+use Rattle.gm_machine.proofs.BagLemmas.{enumerated, map-map, flat_map-map}
+use Rattle.gm_machine.proofs.FieldRows.{length-by_node}
+use Rattle.gm_machine.proofs.LeastLaws.{lesser-none, lesser-assoc}
 
--- the messages of the headers to a node are its inbox
-pub inbox-headers : (values : List Value) (headers : List MessageHeader) (node : ℕ) → map (message_of values) (to_node node headers) ≡ inbox (map (message_of values) headers) node
-inbox-headers values [] node = refl
-inbox-headers values (h ∷ headers) node = one (nat_eq h.to node) (inbox-headers values headers node)
-  where
-    one : (b : Bool) → map (message_of values) (to_node node headers) ≡ inbox (map (message_of values) headers) node →
-        map (message_of values) (cond b (h ∷ to_node node headers) (to_node node headers))
-        ≡ cond b (message_of values h ∷ inbox (map (message_of values) headers) node) (inbox (map (message_of values) headers) node)
-    one true same = ap (λ ms. message_of values h ∷ ms) same
-    one false same = same
+-- The places between two.
 
--- what a node's inbox asks of sorted headers and starts, as they are read, and which headers it has
-pub inbox-room : (nodes node : ℕ) (headers sorted sorted' : List MessageHeader) (starts starts' : List ℕ) → sorted' ≡ sorted → starts' ≡ starts → AreStarts nodes headers starts →
-    length sorted ≡ get_or starts nodes 0 → node < nodes →
-    (node + 1 < length starts') × (get_or starts' node 0 ≤ get_or starts' (node + 1) 0) × (get_or starts' (node + 1) 0 ≤ length sorted')
-inbox-room nodes node headers sorted sorted' starts starts' sorted_is starts_is are size below =
-    let up : node + 1 ≤ nodes = omega arith in
-    let last : nodes ≤ nodes = omega arith in
-    let low : get_or starts' node 0 ≡ get_or starts node 0 = ap (λ xs. get_or xs node 0) starts_is in
-    let high : get_or starts' (node + 1) 0 ≡ get_or starts (node + 1) 0 = ap (λ xs. get_or xs (node + 1) 0) starts_is in (
-      omega (arith, are.long, ap length starts_is),
-      omega (arith, low, high, are.each node below),
-      omega (arith, high, starts-ordered nodes headers starts are (node + 1) nodes up last, size, ap length sorted_is),
-    )
+range-last : (a n j : ℕ) → a + n ≡ j → range_with_len a (suc n) ≡ range_with_len a n ++ j ∷ []
+range-last a zero j e = let same : a ≡ j = omega arith in ap (λ k. k ∷ []) same
+range-last a (suc n) j e = ap (λ l. a ∷ l) (range-last (a + 1) n j (omega arith))
 
-pub inbox-is : (nodes node : ℕ) (headers sorted sorted' slice : List MessageHeader) (starts starts' : List ℕ) → sorted' ≡ sorted → starts' ≡ starts → AreGrouped nodes headers starts sorted →
-    node < nodes → slice ≡ slice_range sorted' (get_or starts' node 0) (get_or starts' (node + 1) 0) → slice ≡ to_node node headers
-inbox-is nodes node headers sorted sorted' slice starts starts' sorted_is starts_is grouped below is =
-    is
-    ∙ ap (λ hs. slice_range hs (get_or starts' node 0) (get_or starts' (node + 1) 0)) sorted_is
-    ∙ ap (λ xs. slice_range sorted (get_or xs node 0) (get_or xs (node + 1) 0)) starts_is
-    ∙ grouped node below
+between-more : (from k : ℕ) → from ≤ k → between from (k + 1) ≡ between from k ++ k ∷ []
+between-more from k le =
+    ap (range_with_len from) (let e : (k + 1) - from ≡ suc (k - from) = omega arith in e) ∙ range-last from (k - from) k (omega arith)
 
--- the step of a node with the headers of its messages is its step in the superstep
-pub node-steps : (r : Round) (headers slice : List MessageHeader) (node : ℕ) (fields : List Value) → slice ≡ to_node node headers →
-    node_after r slice node fields ≡ step_of (program r.image.now) r.graph.now (code_of r.code) r.globals.now (map (message_of r.values.now) headers) (node, fields)
-node-steps r headers slice node fields is =
-    ap (λ ms. vertex_after (program r.image.now) (code_of r.code) (context_at r.graph.now r.globals.now node) ms fields)
-    (ap (map (message_of r.values.now)) is ∙ inbox-headers r.values.now headers node)
+between-none : (from : ℕ) → between from from ≡ []
+between-none from = ap (range_with_len from) (let e : from - from ≡ 0 = omega arith in e)
 
--- they stand within the values as all headers do
-pub inbox-within : (values : List Value) (headers slice : List MessageHeader) (node : ℕ) → slice ≡ to_node node headers → All (IsWithin values) headers → All (IsWithin values) slice
-inbox-within values headers slice node is within =
-    All-same (IsWithin values) slice (to_node node headers) is (All-filter (λ h. nat_eq h.to node) (IsWithin values) headers within)
+least-push : (f : Option Fault) (gs : List (Option Fault)) (g : Option Fault) → least_from f (gs ++ g ∷ []) ≡ lesser (least_from f gs) g
+least-push f [] g = refl
+least-push f (h ∷ gs) g = least-push (lesser f h) gs g
 
-abbrev pub fields_in : List After → List (List Value)
-fields_in all = map (λ a. a.state.fields) all
+map-range : {A : Type 0} (f f' : ℕ → A) (a n : ℕ) → ((i : ℕ) → a ≤ i → i < a + n → f i ≡ f' i) → map f (range_with_len a n) ≡ map f' (range_with_len a n)
+map-range f f' a zero same = refl
+map-range f f' a (suc n) same =
+    ap (λ x. x ∷ map f (range_with_len (a + 1) n)) (same a (omega arith) (omega arith))
+    ∙ ap (λ l. f' a ∷ l) (map-range f f' (a + 1) n (λ i low high. same i (omega arith) (omega arith)))
 
-abbrev pub messages_in : List After → List Message
-messages_in all = flat_map (λ a. a.state.messages) all
+flat-range : {A : Type 0} (f f' : ℕ → List A) (a n : ℕ) → ((i : ℕ) → a ≤ i → i < a + n → f i ≡ f' i) → flat_map f (range_with_len a n) ≡ flat_map f' (range_with_len a n)
+flat-range f f' a zero same = refl
+flat-range f f' a (suc n) same =
+    ap (λ x. x ++ flat_map f (range_with_len (a + 1) n)) (same a (omega arith) (omega arith))
+    ∙ ap (λ l. f' a ++ l) (flat-range f f' (a + 1) n (λ i low high. same i (omega arith) (omega arith)))
 
-abbrev pub puts_in : List After → List Contribution
-puts_in all = flat_map (λ a. a.state.puts) all
+-- The steps from a place on.
+module _ (after : ℕ → After) (from : ℕ) (old : List (List Value)) where
+  abbrev fields_at : ℕ → List Value
+  fields_at place = (after place).state.fields
 
-abbrev pub faults_in : List After → List (Option Fault)
-faults_in all = map (λ a. a.fault) all
+  -- none was taken yet
+  pub runs-none : (messages : List Message) (puts : List Contribution) (fault : Option Fault) → RunsTo after from from old old messages messages puts puts fault fault
+  runs-none messages puts fault = record {
+    fields = sym (ap (λ l. take from old ++ (map fields_at l ++ drop from old)) (between-none from) ∙ take-append-drop from old);
+    sent = sym (ap (λ l. messages ++ flat_map (λ place. (after place).state.messages) l) (between-none from) ∙ append-nil messages);
+    put = sym (ap (λ l. puts ++ flat_map (λ place. (after place).state.puts) l) (between-none from) ∙ append-nil puts);
+    least = sym (ap (λ l. lesser fault (least_fault (map (λ place. (after place).fault) l))) (between-none from) ∙ lesser-none fault);
+  }
 
-module _ (step : (ℕ × List Value) → After) where
-  -- the steps of the nodes from one on
-  abbrev pub steps_from : ℕ → List (List Value) → List After
-  steps_from i fields = map step (enumerate_from i fields)
+  -- the fields before a place, some of which are new
+  abbrev front : ℕ → List (List Value)
+  front k = take from old ++ map fields_at (between from k)
 
-  -- the first i nodes have run: the others still have their fields, and their steps are left
-  pub record IsSteppedTo (i : ℕ) (old now : List (List Value)) (messages : List Message) (puts : List Contribution) (fault : Option Fault) : Type 0 where
-    pub fields_are : take i now ++ fields_in (steps_from i (drop i now)) ≡ fields_in (steps_from 0 old)
-    pub messages_are : messages ++ messages_in (steps_from i (drop i now)) ≡ messages_in (steps_from 0 old)
-    pub puts_are : puts ++ puts_in (steps_from i (drop i now)) ≡ puts_in (steps_from 0 old)
-    pub fault_is : least_from fault (faults_in (steps_from i (drop i now))) ≡ least_from None (faults_in (steps_from 0 old))
+  length-front : (k : ℕ) → from ≤ k → k < length old → length (front k) ≡ k
+  length-front k le within =
+      let room : from ≤ length old = omega arith in
+      omega (arith, length-append (take from old) (map fields_at (between from k)), length-take-le from old room, length-map-range_with_len fields_at from (k - from))
 
-  pub stepped-more : (i : ℕ) (old now new : List (List Value)) (messages messages' : List Message) (puts puts' : List Contribution) (fault fault' : Option Fault) → i < length now →
-      new ≡ set now i (step (i, get_or now i [])).state.fields →
-      messages' ≡ messages ++ (step (i, get_or now i [])).state.messages →
-      puts' ≡ puts ++ (step (i, get_or now i [])).state.puts →
-      fault' ≡ lesser fault (step (i, get_or now i [])).fault →
-      IsSteppedTo i old now messages puts fault → IsSteppedTo (i + 1) old new messages' puts' fault'
-  stepped-more i old now new messages messages' puts puts' fault fault' within new_is messages_is puts_is fault_is before =
-      let a : After = step (i, get_or now i []) in
-      let l : i < i + 1 = omega arith in
-      let rest : drop i now ≡ get_or now i [] ∷ drop (i + 1) now = drop_more now i [] within in
-      let kept : drop (i + 1) new ≡ drop (i + 1) now = ap (drop (i + 1)) new_is ∙ drop-set-lt (i + 1) now i a.state.fields l in
-      let left : List After = steps_from (i + 1) (drop (i + 1) now) in
+  split : (k : ℕ) (now : List (List Value)) → k < length old → now ≡ take from old ++ (map fields_at (between from k) ++ drop k old) →
+      now ≡ front k ++ get_or old k [] ∷ drop (k + 1) old
+  split k now within is =
+      is
+      ∙ sym (append_assoc (take from old) (map fields_at (between from k)) (drop k old))
+      ∙ ap (λ l. front k ++ l) (drop_more old k [] within)
+
+  -- a node that has not taken its step has its old fields
+  pub runs-kept : (k : ℕ) (now : List (List Value)) (messages messages' : List Message) (puts puts' : List Contribution) (fault fault' : Option Fault) → from ≤ k → k < length old →
+      RunsTo after from k old now messages messages' puts puts' fault fault' → get_or now k [] ≡ get_or old k []
+  runs-kept k now messages messages' puts puts' fault fault' le within so_far =
+      ap (λ l. get_or l k []) (split k now within so_far.fields)
+      ∙ get_or_at (front k) (get_or old k []) (drop (k + 1) old) [] k (length-front k le within)
+
+  -- one more step
+  pub runs-more : (k : ℕ) (now new : List (List Value)) (messages held messages' : List Message) (puts given puts' : List Contribution) (fault least fault' : Option Fault) → from ≤ k → k < length old →
+      new ≡ set now k (after k).state.fields → messages' ≡ held ++ (after k).state.messages → puts' ≡ given ++ (after k).state.puts → fault' ≡ lesser least (after k).fault →
+      RunsTo after from k old now messages held puts given fault least → RunsTo after from (k + 1) old new messages messages' puts puts' fault fault'
+  runs-more k now new messages held messages' puts given puts' fault least fault' le within new_is messages_is puts_is fault_is so_far =
+      let one : After = after k in
+      let done : List (List Value) = map fields_at (between from k) in
+      let rest : List (List Value) = drop (k + 1) old in
+      let faults : List (Option Fault) = map (λ place. (after place).fault) (between from k) in
+      let more : between from (k + 1) ≡ between from k ++ k ∷ [] = between-more from k le in
       record {
-        fields_are =
-            ap (λ fs. take (i + 1) new ++ fields_in (steps_from (i + 1) fs)) kept
-            ∙ ap (λ fs. fs ++ fields_in left) (ap (take (i + 1)) new_is ∙ take_more_set now i a.state.fields within)
-            ∙ append_assoc (take i now) (a.state.fields ∷ []) (fields_in left)
-            ∙ ap (λ fs. take i now ++ fields_in (steps_from i fs)) (sym rest)
-            ∙ before.fields_are;
-        messages_are =
-            ap (λ fs. messages' ++ messages_in (steps_from (i + 1) fs)) kept
-            ∙ ap (λ ms. ms ++ messages_in left) messages_is
-            ∙ append_assoc messages a.state.messages (messages_in left)
-            ∙ ap (λ fs. messages ++ messages_in (steps_from i fs)) (sym rest)
-            ∙ before.messages_are;
-        puts_are =
-            ap (λ fs. puts' ++ puts_in (steps_from (i + 1) fs)) kept
-            ∙ ap (λ ps. ps ++ puts_in left) puts_is
-            ∙ append_assoc puts a.state.puts (puts_in left)
-            ∙ ap (λ fs. puts ++ puts_in (steps_from i fs)) (sym rest)
-            ∙ before.puts_are;
-        fault_is =
-            ap (λ fs. least_from fault' (faults_in (steps_from (i + 1) fs))) kept
-            ∙ ap (λ f. least_from f (faults_in left)) fault_is
-            ∙ ap (λ fs. least_from fault (faults_in (steps_from i fs))) (sym rest)
-            ∙ before.fault_is;
+        fields =
+            new_is
+            ∙ ap (λ l. set l k one.state.fields) (split k now within so_far.fields)
+            ∙ set_at (front k) (get_or old k []) rest one.state.fields k (length-front k le within)
+            ∙ append_assoc (take from old) done (one.state.fields ∷ rest)
+            ∙ ap (λ l. take from old ++ l) (
+            sym (append_assoc done (one.state.fields ∷ []) rest)
+            ∙ ap (λ l. l ++ rest) (sym (map_push fields_at (between from k) k) ∙ ap (map fields_at) (sym more)));
+        sent =
+            messages_is
+            ∙ ap (λ l. l ++ one.state.messages) so_far.sent
+            ∙ append_assoc messages (flat_map (λ place. (after place).state.messages) (between from k)) one.state.messages
+            ∙ ap (λ l. messages ++ l) (pushed (λ place. (after place).state.messages));
+        put =
+            puts_is
+            ∙ ap (λ l. l ++ one.state.puts) so_far.put
+            ∙ append_assoc puts (flat_map (λ place. (after place).state.puts) (between from k)) one.state.puts
+            ∙ ap (λ l. puts ++ l) (pushed (λ place. (after place).state.puts));
+        least =
+            fault_is
+            ∙ ap (λ f. lesser f one.fault) so_far.least
+            ∙ lesser-assoc fault (least_fault faults) one.fault
+            ∙ ap (lesser fault) (sym (least-push None faults one.fault) ∙ ap least_fault (sym (map_push (λ place. (after place).fault) (between from k) k) ∙ ap (map (λ place. (after place).fault)) (sym more)));
       }
+    where
+      pushed : {A : Type 0} (f : ℕ → List A) → flat_map f (between from k) ++ f k ≡ flat_map f (between from (k + 1))
+      pushed f =
+          ap (λ l. flat_map f (between from k) ++ l) (sym (append-nil (f k)))
+          ∙ sym (flat_map-append f (between from k) (k ∷ []))
+          ∙ ap (flat_map f) (sym (between-more from k le))
 
-  -- all nodes have run
-  pub stepped-all : (i : ℕ) (old now : List (List Value)) (messages : List Message) (puts : List Contribution) (fault : Option Fault) → length now ≤ i →
-      IsSteppedTo i old now messages puts fault → record { fields = now; messages = messages; puts = puts; fault = fault } ≡ together (steps_from 0 old)
-  stepped-all i old now messages puts fault end to =
-      let all : List After = steps_from 0 old in
-      let none : drop i now ≡ [] = drop_all i now end in
-      let made : List (List Value) → List Message → List Contribution → Option Fault → Together = λ fs ms ps f. record { fields = fs; messages = ms; puts = ps; fault = f } in
-      let fields_are : now ≡ fields_in all =
-      sym (append-nil now) ∙ ap (λ fs. fs ++ []) (sym (take_all i now end)) ∙ ap (λ fs. take i now ++ fields_in (steps_from i fs)) (sym none) ∙ to.fields_are in
-      let messages_are : messages ≡ messages_in all = sym (append-nil messages) ∙ ap (λ fs. messages ++ messages_in (steps_from i fs)) (sym none) ∙ to.messages_are in
-      let puts_are : puts ≡ puts_in all = sym (append-nil puts) ∙ ap (λ fs. puts ++ puts_in (steps_from i fs)) (sym none) ∙ to.puts_are in
-      let fault_is : fault ≡ least_from None (faults_in all) = ap (λ fs. least_from fault (faults_in (steps_from i fs))) (sym none) ∙ to.fault_is in
-      ap (λ fs. made fs messages puts fault) fields_are
-      ∙ ap (λ ms. made (fields_in all) ms puts fault) messages_are
-      ∙ ap (λ ps. made (fields_in all) (messages_in all) ps fault) puts_are
-      ∙ ap (made (fields_in all) (messages_in all) (puts_in all)) fault_is
+-- the step of a node that has not taken it is one from the old fields
+pub round-kept : (r : Round) (from place : ℕ) (old now : List (List Value)) (messages messages' : List Message) (puts puts' : List Contribution) (fault fault' : Option Fault) → from ≤ place → place < length old →
+    RunsTo (round_after r old) from place old now messages messages' puts puts' fault fault' → round_after r now place ≡ round_after r old place
+round-kept r from place old now messages messages' puts puts' fault fault' le within so_far =
+    ap (λ fields. vertex_after (program r.image.now) (code_of r.code) (context_at r.graph.now r.globals.now (node_of r.nodes place)) (messages_at r.values.now r.sorted.now r.starts.now place) fields)
+    (runs-kept (round_after r old) from old place now messages messages' puts puts' fault fault' le within so_far)
 
--- what a superstep leaves, by what the steps of its nodes leave together
-abbrev pub leaves_by : ℕ → List Value → ℕ → ℕ → Together → Stepped
-leaves_by places globals supersteps messages t =
-    let put = settled places t.puts globals in
+-- one more step, from the fields as they are now
+pub round-more : (r : Round) (from place : ℕ) (old now new : List (List Value)) (messages held messages' : List Message) (puts given puts' : List Contribution) (fault least one fault' : Option Fault) → from ≤ place → place < length old →
+    new ≡ set now place (round_after r now place).state.fields → messages' ≡ held ++ (round_after r now place).state.messages → puts' ≡ given ++ (round_after r now place).state.puts → one ≡ (round_after r now place).fault → fault' ≡ lesser least one →
+    RunsTo (round_after r old) from place old now messages held puts given fault least → RunsTo (round_after r old) from (place + 1) old new messages messages' puts puts' fault fault'
+round-more r from place old now new messages held messages' puts given puts' fault least one fault' le within new_is messages_is puts_is one_is fault_is so_far =
+    let same : round_after r now place ≡ round_after r old place = round-kept r from place old now messages held puts given fault least le within so_far in
+    runs-more (round_after r old) from old place now new messages held messages' puts given puts' fault least fault' le within
+    (new_is ∙ ap (λ (a : After). set now place a.state.fields) same)
+    (messages_is ∙ ap (λ (a : After). held ++ a.state.messages) same)
+    (puts_is ∙ ap (λ (a : After). given ++ a.state.puts) same)
+    (fault_is ∙ ap (lesser least) (one_is ∙ ap (λ (a : After). a.fault) same))
+    so_far
+
+-- what a place's headers ask of headers by place, and that their values are there
+pub place-known : (places place : ℕ) (values : List Value) (sorted : List MessageHeader) (starts : List ℕ) → AreByPlace places values sorted starts → place < places → (starts ≡ []) ⊎ (place + 1 < length starts)
+place-known places place values sorted starts are below = ⊎_elim
+    (λ (none : starts ≡ []). inl none)
+    (λ (long : length starts ≡ places + 1). inr (let e : place + 1 < length starts = omega arith in e))
+    are.long
+
+pub place-within : (places place : ℕ) (values : List Value) (sorted headers : List MessageHeader) (starts : List ℕ) → AreByPlace places values sorted starts → place < places → headers ≡ headers_at sorted starts place → All (IsWithin values) headers
+place-within places place values sorted headers starts are below is = All-same (IsWithin values) headers (headers_at sorted starts place) is (are.within place below)
+
+-- the same steps, one by one
+pub runs-same : (after after' : ℕ → After) (from to : ℕ) (old new : List (List Value)) (messages messages' : List Message) (puts puts' : List Contribution) (fault fault' : Option Fault) →
+    ((place : ℕ) → from ≤ place → place < to → after place ≡ after' place) →
+    RunsTo after from to old new messages messages' puts puts' fault fault' → RunsTo after' from to old new messages messages' puts puts' fault fault'
+runs-same after after' from to old new messages messages' puts puts' fault fault' same runs =
+    let each : (i : ℕ) → from ≤ i → i < from + (to - from) → after i ≡ after' i = λ i low high. same i low (omega (arith, low, high)) in
     record {
-      nodes = record { fields = t.fields; sent = t.messages; supersteps = supersteps + 1; messages = messages + length t.messages };
-      globals = put.values;
-      fault = lesser t.fault put.fault;
+      fields = runs.fields ∙ ap (λ l. take from old ++ (l ++ drop to old)) (map-range (λ i. (after i).state.fields) (λ i. (after' i).state.fields) from (to - from) (λ i low high. ap (λ (a : After). a.state.fields) (each i low high)));
+      sent = runs.sent ∙ ap (λ l. messages ++ l) (flat-range (λ i. (after i).state.messages) (λ i. (after' i).state.messages) from (to - from) (λ i low high. ap (λ (a : After). a.state.messages) (each i low high)));
+      put = runs.put ∙ ap (λ l. puts ++ l) (flat-range (λ i. (after i).state.puts) (λ i. (after' i).state.puts) from (to - from) (λ i low high. ap (λ (a : After). a.state.puts) (each i low high)));
+      least = runs.least ∙ ap (λ l. lesser fault (least_fault l)) (map-range (λ i. (after i).fault) (λ i. (after' i).fault) from (to - from) (λ i low high. ap (λ (a : After). a.fault) (each i low high)));
     }
 
+-- the steps from fields and behind lists that were read
+pub runs-read : (after : List (List Value) → ℕ → After) (from to : ℕ) (read old new : List (List Value)) (held messages messages' : List Message) (given puts puts' : List Contribution) (fault fault' : Option Fault) → read ≡ old → held ≡ messages → given ≡ puts →
+    RunsTo (after read) from to read new held messages' given puts' fault fault' → RunsTo (after old) from to old new messages messages' puts puts' fault fault'
+runs-read after from to read old new held messages messages' given puts puts' fault fault' old_is messages_are puts_are runs =
+    subst (λ fields. RunsTo (after fields) from to fields new messages messages' puts puts' fault fault') old_is
+    (subst (λ ms. RunsTo (after read) from to read new ms messages' puts puts' fault fault') messages_are
+    (subst (λ ps. RunsTo (after read) from to read new held messages' ps puts' fault fault') puts_are runs))
+
+-- the step of a node by its place, with the block and the messages that the code found
+pub place-same : (p : Program) (g : NumberedGraph) (globals : List Value) (nodes : Nodes) (b b' : Block) (place : ℕ) (some waiting : List Message) (fields : List Value) → b ≡ b' → some ≡ waiting →
+    vertex_after p b (context_at g globals (node_of nodes place)) some fields ≡ vertex_after p b' (context_at g globals (node_of nodes place)) waiting fields
+place-same p g globals nodes b b' place some waiting fields b_is waiting_is =
+    ap (λ (c : Block). vertex_after p c (context_at g globals (node_of nodes place)) some fields) b_is
+    ∙ ap (λ ms. vertex_after p b' (context_at g globals (node_of nodes place)) ms fields) waiting_is
+
+-- they are the steps that a call answers for
+pub runs-steps : (after : List (List Value) → ℕ → After) (from to width : ℕ) (old new : List (List Value)) (held held' : HeldFields) (sent sent' : Sent) →
+    record { width = width; rows = old } ≡ held → held' ≡ record { width = width; rows = new } → from < to → to ≤ length old →
+    RunsTo (after old) from to old new sent.messages sent'.messages sent.puts sent'.puts sent.fault sent'.fault →
+    StepsTo (after held.rows) from to held held' sent sent'
+runs-steps after from to width old new held held' sent sent' held_is new_is ahead within runs =
+    subst (λ (h : HeldFields). StepsTo (after h.rows) from to h held' sent sent') held_is (record {
+      ahead = ahead;
+      within = within;
+      taken = record {
+        width = ap (λ (h : HeldFields). h.width) new_is;
+        fields = ap (λ (h : HeldFields). h.rows) new_is ∙ runs.fields;
+        messages = runs.sent;
+        puts = runs.put;
+        fault = runs.least;
+      };
+    })
+
+-- they leave as many nodes
+pub steps-long : (after : ℕ → After) (from to : ℕ) (old new : HeldFields) (sent sent' : Sent) → StepsTo after from to old new sent sent' → length new.rows ≡ length old.rows
+steps-long after from to old new sent sent' steps =
+    let done : List (List Value) = map (λ place. (after place).state.fields) (between from to) in
+    let front : length (take from old.rows) ≡ from = length-take-le from old.rows (omega (arith, steps.ahead, steps.within)) in
+    let middle : length done ≡ to - from = length-map-range_with_len (λ place. (after place).state.fields) from (to - from) in
+    let rest : length (drop to old.rows) ≡ length old.rows - to = length-drop to old.rows in
+    ap length steps.taken.fields
+    ∙ length-append (take from old.rows) (done ++ drop to old.rows)
+    ∙ omega (arith, front, middle, rest, length-append done (drop to old.rows), steps.ahead, steps.within)
+
+-- the steps at all places of columns
+pub steps-whole : (after : List (List Value) → ℕ → After) (to count : ℕ) (read old new : FieldColumns) (given : HeldFields) (sent sent' : Sent) → read ≡ old → held new ≡ given → count ≤ to → old.nodes ≡ count →
+    StepsTo (after (fields_of read)) 0 to (held read) given sent sent' → Steps (after (fields_of old)) 0 old.nodes (held old) (held new) sent sent'
+steps-whole after to count read old new given sent sent' read_is given_is all nodes_are steps =
+    let at : StepsTo (after (fields_of old)) 0 to (held old) given sent sent' = subst (λ (f : FieldColumns). StepsTo (after (fields_of f)) 0 to (held f) given sent sent') read_is steps in
+    let size : to ≡ old.nodes = omega (arith, at.within, all, nodes_are, length-by_node old.nodes (columns_of old)) in
+    subst (λ (n : ℕ). Steps (after (fields_of old)) 0 n (held old) (held new) sent sent') size
+    (subst (λ (h : HeldFields). Steps (after (fields_of old)) 0 to (held old) h sent sent') (sym given_is) at.taken)
+
+-- and as many nodes of columns
+pub nodes-whole : (after : ℕ → After) (to : ℕ) (read old new : FieldColumns) (given : HeldFields) (sent sent' : Sent) → read ≡ old → held new ≡ given →
+    StepsTo after 0 to (held read) given sent sent' → new.nodes ≡ old.nodes
+nodes-whole after to read old new given sent sent' read_is given_is steps =
+    sym (length-by_node new.nodes (columns_of new))
+    ∙ ap (λ (h : HeldFields). length h.rows) given_is
+    ∙ steps-long after 0 to (held read) given sent sent' steps
+    ∙ length-by_node read.nodes (columns_of read)
+    ∙ ap (λ (f : FieldColumns). f.nodes) read_is
+
+-- Supersteps.
+
+-- the steps at all places are the steps of all nodes
+pub all-places : (p : Program) (g : NumberedGraph) (b : Block) (globals : List Value) (waiting : List (List Message)) (sent : List Message) (fields : List (List Value)) (count : ℕ) → count ≡ length fields →
+    waiting ≡ map (inbox sent) (range_with_len 0 count) →
+    map (λ node. vertex_after p b (context_at g globals node) (get_or waiting node []) (get_or fields node [])) (between 0 count) ≡ all_steps p g b globals sent fields
+all-places p g b globals waiting sent fields count long is =
+    let step : (ℕ × List Value) → After = step_of p g b globals sent in
+    let size : count - 0 ≡ length fields = omega arith in
+    map-range (λ node. vertex_after p b (context_at g globals node) (get_or waiting node []) (get_or fields node [])) (λ node. step (node, get_or fields node [])) 0 (count - 0)
+    (λ node low high. ap (λ ms. vertex_after p b (context_at g globals node) ms (get_or fields node []))
+    (ap (λ l. get_or l node []) is ∙ get_or-map-range_with_len (inbox sent) 0 count node node [] (omega arith) (let e : 0 + node ≡ node = omega arith in e)))
+    ∙ sym (map-map (λ node. (node, get_or fields node [])) step (range_with_len 0 (count - 0)))
+    ∙ ap (map step) (ap (λ n. map (λ node. (node, get_or fields node [])) (range_with_len 0 n)) size
+    ∙ sym (enumerated [] fields 0 fields (λ k. ap (λ n. get_or fields n []) (let e : 0 + k ≡ k = omega arith in e))))
+
 -- a superstep, with its parts as the code finds them
-pub superstep-is : (p : Program) (g : NumberedGraph) (q places : ℕ) (b : Block) (globals seen new : List Value) (sent held : List Message) (puts : List Contribution) (s : Nodes) (t : Together) (put fault : Option Fault) (supersteps messages : ℕ) →
-    b ≡ block_at p q → places ≡ length p.places → held ≡ s.sent → seen ≡ globals → puts ≡ t.puts →
-    t ≡ together (all_steps p g b seen held s.fields) →
-    record { values = new; fault = put } ≡ settled places puts globals →
-    sent ≡ t.messages → supersteps ≡ s.supersteps + 1 → messages ≡ s.messages + length t.messages → fault ≡ lesser t.fault put →
-    record { nodes = record { fields = t.fields; sent = sent; supersteps = supersteps; messages = messages }; globals = new; fault = fault } ≡ superstep p g q globals s
-superstep-is p g q places b globals seen new sent held puts s t put fault supersteps messages b_is places_is held_is seen_is puts_is t_is put_is sent_is supersteps_is messages_is fault_is =
-    let made : List Message → ℕ → ℕ → List Value → Option Fault → Stepped = λ ms k m vs f. record { nodes = record { fields = t.fields; sent = ms; supersteps = k; messages = m }; globals = vs; fault = f } in
-    ap (λ ms. made ms supersteps messages new fault) sent_is
-    ∙ ap (λ k. made t.messages k messages new fault) supersteps_is
-    ∙ ap (λ m. made t.messages (s.supersteps + 1) m new fault) messages_is
-    ∙ ap (made t.messages (s.supersteps + 1) (s.messages + length t.messages) new) fault_is
-    ∙ ap (λ x. made t.messages (s.supersteps + 1) (s.messages + length t.messages) x.values (lesser t.fault x.fault)) (put_is ∙ ap (λ ps. settled places ps globals) puts_is)
-    ∙ ap (λ n. leaves_by n globals s.supersteps s.messages t) places_is
-    ∙ ap (leaves_by (length p.places) globals s.supersteps s.messages) (t_is ∙ ap (λ vs. together (all_steps p g b vs held s.fields)) seen_is ∙ ap (λ ms. together (all_steps p g b globals ms s.fields)) held_is ∙ ap (λ c. together (all_steps p g c globals s.sent s.fields)) b_is)
+pub superstep-is : (p : Program) (g : NumberedGraph) (q count : ℕ) (globals new : List Value) (s : machine.Nodes) (after : ℕ → After) (held held' : HeldFields) (sent sent' : Sent) (put fault : Option Fault) (supersteps messages : ℕ) →
+    held.rows ≡ s.fields → count ≡ length held.rows → sent.messages ≡ [] → sent.puts ≡ [] → sent.fault ≡ None →
+    map after (between 0 count) ≡ all_steps p g (block_at p q) globals s.sent s.fields →
+    Steps after 0 count held held' sent sent' →
+    record { values = new; fault = put } ≡ settled (length p.places) sent'.puts globals →
+    supersteps ≡ s.supersteps + 1 → messages ≡ s.messages + length sent'.messages → fault ≡ lesser sent'.fault put →
+    record { nodes = record { fields = held'.rows; sent = sent'.messages; supersteps = supersteps; messages = messages }; globals = new; fault = fault } ≡ superstep p g q globals s
+superstep-is p g q count globals new s after held held' sent sent' put fault supersteps messages rows_are long no_messages no_puts no_fault all_is steps put_is supersteps_is messages_is fault_is =
+    let all : List After = all_steps p g (block_at p q) globals s.sent s.fields in
+    let made : List (List Value) → List Message → ℕ → ℕ → Settled → Option Fault → Stepped = λ fs ms k m t f. record { nodes = record { fields = fs; sent = ms; supersteps = k; messages = m }; globals = t.values; fault = f } in
+    let fields_are : held'.rows ≡ map (λ a. a.state.fields) all =
+    steps.fields
+    ∙ ap (λ l. map (λ place. (after place).state.fields) (between 0 count) ++ l) (drop_all count held.rows (omega arith))
+    ∙ append-nil (map (λ place. (after place).state.fields) (between 0 count))
+    ∙ sym (map-map after (λ a. a.state.fields) (between 0 count))
+    ∙ ap (map (λ a. a.state.fields)) all_is in
+    let sent_is : sent'.messages ≡ flat_map (λ a. a.state.messages) all =
+    steps.messages
+    ∙ ap (λ l. l ++ flat_map (λ place. (after place).state.messages) (between 0 count)) no_messages
+    ∙ sym (flat_map-map after (λ a. a.state.messages) (between 0 count))
+    ∙ ap (flat_map (λ a. a.state.messages)) all_is in
+    let puts_are : sent'.puts ≡ flat_map (λ a. a.state.puts) all =
+    steps.puts
+    ∙ ap (λ l. l ++ flat_map (λ place. (after place).state.puts) (between 0 count)) no_puts
+    ∙ sym (flat_map-map after (λ a. a.state.puts) (between 0 count))
+    ∙ ap (flat_map (λ a. a.state.puts)) all_is in
+    let least_is : sent'.fault ≡ least_fault (map (λ a. a.fault) all) =
+    steps.fault
+    ∙ ap (λ f. lesser f (least_fault (map (λ place. (after place).fault) (between 0 count)))) no_fault
+    ∙ ap least_fault (sym (map-map after (λ a. a.fault) (between 0 count)))
+    ∙ ap (λ l. least_fault (map (λ a. a.fault) l)) all_is in
+    let settles : record { values = new; fault = put } ≡ settled (length p.places) (flat_map (λ a. a.state.puts) all) globals = put_is ∙ ap (λ ps. settled (length p.places) ps globals) puts_are in
+    let t : Settled = record { values = new; fault = put } in
+    let last : Settled = settled (length p.places) (flat_map (λ a. a.state.puts) all) globals in
+    ap (λ fs. made fs sent'.messages supersteps messages t fault) fields_are
+    ∙ ap (λ k. made (map (λ a. a.state.fields) all) sent'.messages k messages t fault) supersteps_is
+    ∙ ap (λ m. made (map (λ a. a.state.fields) all) sent'.messages (s.supersteps + 1) m t fault) messages_is
+    ∙ ap (λ f. made (map (λ a. a.state.fields) all) sent'.messages (s.supersteps + 1) (s.messages + length sent'.messages) t f) fault_is
+    ∙ ap (λ ms. made (map (λ a. a.state.fields) all) ms (s.supersteps + 1) (s.messages + length ms) t (lesser sent'.fault put)) sent_is
+    ∙ ap (λ f. made (map (λ a. a.state.fields) all) (flat_map (λ a. a.state.messages) all) (s.supersteps + 1) (s.messages + length (flat_map (λ a. a.state.messages) all)) t (lesser f put)) least_is
+    ∙ ap (λ (x : Settled). made (map (λ a. a.state.fields) all) (flat_map (λ a. a.state.messages) all) (s.supersteps + 1) (s.messages + length (flat_map (λ a. a.state.messages) all)) x (lesser (least_fault (map (λ a. a.fault) all)) x.fault)) settles

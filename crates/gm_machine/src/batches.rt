@@ -1,6 +1,6 @@
 //! Messages in flat rows.
 
-ghost use Rattle.std.specs.Prelude.{◌≡◌, ◌<◌, ◌≤◌, ◌==◌, Some, [], ◌∷◌, ◌++◌, OnOk, OnErr, length, map, slice_get, slice_index_or};
+ghost use Rattle.std.specs.Prelude.{◌≡◌, ◌<◌, ◌≤◌, ◌==◌, ℕ, Some, [], ◌∷◌, ◌++◌, OnOk, OnErr, IfOk, length, map, take, drop, slice_get, slice_index_or, slice_range};
 ghost use Rattle.gm_machine.specs.Vertex.{Message};
 
 use gm_base::NoMemory;
@@ -36,6 +36,29 @@ impl Model for Batch {
     ghost view = { λ b. map (message_of b.values.items) b.headers.items };
 
     ghost invariant = { λ b. All (IsWithin b.values.items) b.headers.items };
+}
+
+// Adds one message of another list.
+fn add_from(batch: &mut Batch, other: &Batch, i: usize) -> Result<(), NoMemory>
+    requires { i < length other.now }
+    ensures added { OnOk result ((d : Message) → batch.new ≡ batch.old ++ slice_index_or other.now i d ∷ []) }
+    ensures unchanged { OnErr result (batch.new ≡ batch.old) }
+{
+    batch.add(other.to(i), other.kind(i), other.values(i))?;
+    Ok(())
+}
+
+// The messages from one up to another, in a list of their own.
+fn part(alloc: Global, messages: &Batch, from: usize, to: usize) -> Result<Batch, NoMemory>
+    requires ordered { from ≤ to }
+    requires within { to ≤ length messages.now }
+    ensures { IfOk result (λ b. b ≡ slice_range messages.now from to) }
+{
+    let mut some = Batch::empty(alloc);
+    for i in from..to {
+        add_from(&mut some, messages, i)?;
+    }
+    Ok(some)
 }
 
 impl Batch {
@@ -96,5 +119,31 @@ impl Batch {
     {
         let header = self.headers[i];
         &self.values[header.start..header.end]
+    }
+
+    /// Adds the messages of another list behind these, in their order. Where there is not enough memory only the first of
+    /// them were added.
+    pub fn append(&mut self, more: &Batch) -> Result<(), NoMemory>
+        ensures appended { OnOk result (self.new ≡ self.old ++ more.now) }
+        ensures part { OnErr result ((count : ℕ) × (self.new ≡ self.old ++ take count more.now)) }
+    {
+        for i in 0..more.messages() {
+            add_from(self, more, i)?;
+        }
+        Ok(())
+    }
+
+    /// Takes so many messages from the front, as a list of their own. Where there is not enough memory the list stays as
+    /// it was. It takes time and memory for all messages of the list.
+    pub fn take_front(&mut self, alloc: Global, count: usize) -> Result<Batch, NoMemory>
+        requires { count ≤ length self.old }
+        ensures front { IfOk result (λ front. front ≡ take count self.old) }
+        ensures rest { OnOk result (self.new ≡ drop count self.old) }
+        ensures unchanged { OnErr result (self.new ≡ self.old) }
+    {
+        let front = part(alloc, self, 0, count)?;
+        let rest = part(alloc, self, count, self.messages())?;
+        *self = rest;
+        Ok(front)
     }
 }

@@ -12,7 +12,7 @@ ghost use Rattle.gm_machine.specs.Supersteps.{nodes_of};
 
 use crate::expressions::value_at;
 use crate::faults::Fault;
-use crate::fields::Fields;
+use crate::fields::FieldColumns;
 use crate::masters::Master;
 use crate::supersteps::Nodes;
 use gm_base::{Items, NoMemory, Place};
@@ -51,7 +51,7 @@ pub(crate) fn scalars(
 fn properties(
     alloc: Global,
     outputs: &[OutputItem],
-    fields: &Fields,
+    fields: &FieldColumns,
 ) -> Result<Vec<Values>, NoMemory>
     requires { IsFull (length fields.now.rows.items) fields.now }
     ensures { IfOk result (λ columns. columns.items ≡ map (λ i. column_of (fields_of fields.now) i.slot) (properties (map output outputs.now))) }
@@ -81,7 +81,7 @@ fn done(
     image: &Image,
     globals: &Vec<Value>,
     turns: u64,
-    fields: &Fields,
+    fields: &FieldColumns,
 ) -> Result<Outcome, NoMemory>
     requires { IsFull (length fields.now.rows.items) fields.now }
     ensures { IfOk result (λ outcome. outcome ≡ done (program image.now) (control globals.now.items turns) (fields_of fields.now)) }

@@ -2,21 +2,42 @@
 
 ghost use Rattle.std.specs.Prelude.{◌≡◌, ◌<◌, ◌≤◌, ℕ, OnOk, IfOk, All, None, [], map, length, replicate, slice_index_or, slice_set};
 ghost use Rattle.gm_value.specs.declared.values.Value.TheVariants.{At};
-ghost use Rattle.gm_machine.specs.Cells.{values_of};
+ghost use Rattle.gm_value.specs.Numbers.{zero_of};
+ghost use Rattle.gm_columns.specs.Cells.{values_of};
 ghost use Rattle.gm_machine.specs.Fields.{with_row, fields_of, columns_of, IsFull};
 ghost use Rattle.gm_machine.specs.Machine.{row_at, column_of};
 
-use crate::cells::Cells;
 use gm_base::NoMemory;
-use gm_columns::Values;
+use gm_columns::{Cells, Values};
 use gm_value::{VType, Value};
 use std::alloc::Global;
+use std::marker::Model;
+use std::mem;
 
 // The fields of so many nodes: a row of cells for each field.
 #[derive(Drop)]
-pub(crate) struct Fields {
+pub(crate) struct FieldColumns {
     nodes: usize,
     rows: Vec<Cells>,
+}
+
+/// The fields of some nodes. A node is named by its place among them.
+#[derive(Drop)]
+pub struct Fields {
+    pub(crate) columns: FieldColumns,
+}
+
+impl Model for Fields {
+    ghost use Rattle.gm_machine.specs.Fields.{HeldFields};
+
+    ghost Value = { HeldFields };
+
+    ghost use Rattle.std.specs.Prelude.{length};
+    ghost use Rattle.gm_machine.specs.Fields.{fields_of, IsFull};
+
+    ghost view = { λ f. record { width = length f.columns.rows.items; rows = fields_of f.columns } };
+
+    ghost invariant = { λ f. IsFull (length f.columns.rows.items) f.columns };
 }
 
 // Puts the values of a node, one of each row, into a list.
@@ -83,10 +104,65 @@ fn nothing(alloc: Global, nodes: usize) -> Result<Values, NoMemory>
 }
 
 impl Fields {
+    /// The fields of so many nodes, each of which is the zero of its type.
+    pub fn new(alloc: Global, types: &[VType], nodes: usize) -> Result<Fields, NoMemory>
+        ensures width { IfOk result (λ f. f.width ≡ length types.now) }
+        ensures rows { IfOk result (λ f. f.rows ≡ replicate nodes (map zero_of types.now)) }
+    {
+        let columns = FieldColumns::new(alloc, types, nodes)?;
+        Ok(Fields { columns })
+    }
+
+    /// How many nodes there are.
+    pub fn len(&self) -> usize
+        ensures { result ≡ length self.now.rows }
+    {
+        self.columns.nodes
+    }
+
+    /// Puts the fields of the node at a place into a list.
+    pub fn load(&self, place: usize, into: &mut Vec<Value>) -> Result<(), NoMemory>
+        requires { place < length self.now.rows }
+        ensures { OnOk result (into.new.items ≡ slice_index_or self.now.rows place []) }
+    {
+        self.columns.load(place, into)
+    }
+
+    /// Puts new fields of the node at a place in the place of the old ones. Where there is not enough memory no fields
+    /// are left.
+    pub fn store(&mut self, alloc: Global, place: usize, from: &[Value]) -> Result<(), NoMemory>
+        requires place { place < length self.old.rows }
+        requires wide { length from.now ≡ self.old.width }
+        ensures width { OnOk result (self.new.width ≡ self.old.width) }
+        ensures rows { OnOk result (self.new.rows ≡ slice_set self.old.rows place from.now) }
+    {
+        let mut columns = mem::replace(&mut self.columns, FieldColumns::none(alloc));
+        columns.store(alloc, place, from)?;
+        self.columns = columns;
+        Ok(())
+    }
+}
+
+impl FieldColumns {
+    // No fields of no nodes. It keeps the allocator and takes no memory.
+    pub(crate) fn none(alloc: Global) -> FieldColumns
+        ensures { IsFull 0 result }
+    {
+        FieldColumns {
+            nodes: 0,
+            rows: Vec::new(alloc),
+        }
+    }
+
     // A row for each of some types, with the type's zero at each node.
-    pub(crate) fn new(alloc: Global, types: &[VType], nodes: usize) -> Result<Fields, NoMemory>
+    pub(crate) fn new(
+        alloc: Global,
+        types: &[VType],
+        nodes: usize,
+    ) -> Result<FieldColumns, NoMemory>
         ensures nodes { IfOk result (λ f. f.nodes ≡ nodes) }
         ensures full { IfOk result (λ f. IsFull (length types.now) f) }
+        ensures zero { IfOk result (λ f. map values_of f.rows.items ≡ map (λ t. replicate nodes (zero_of t)) types.now) }
     {
         let mut rows = Vec::new(alloc);
         for t in types {
@@ -95,7 +171,7 @@ impl Fields {
                 nodes,
             })?;
         }
-        Ok(Fields { nodes, rows })
+        Ok(FieldColumns { nodes, rows })
     }
 
     // Puts the fields of a node into a list.

@@ -2,6 +2,7 @@
 //! when it is called.
 
 ghost use Rattle.gm_machine.specs.Combining.{StepTakesTotals};
+ghost use Rattle.gm_machine.specs.HandedTotals.{StepTakesHandedTotals};
 ghost use Rattle.gm_machine.specs.Laws.{StepTakesBags, SoundStepTakesBags, SoundPutsAreBags};
 ghost use Rattle.gm_machine.specs.States.{StatesEndAsTheRun, StatesEndInTime, SuperstepsAreBounded};
 
@@ -22,6 +23,12 @@ pub fn puts_have_no_order()
 /// the others as a bag.
 pub fn totals_stand_for_messages()
     ensures { StepTakesTotals }
+{}
+
+/// In the step of a vertex of a sound image messages of a combinable kind may be left out, where others of the kind that
+/// have their exact total come in their place. It is the same step but for the order of what is sent and put.
+pub fn totals_are_handed_in()
+    ensures { StepTakesHandedTotals }
 {}
 
 /// The states after one superstep, after two and so on come to the end of the whole run, and come to it as soon as the

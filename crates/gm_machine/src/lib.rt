@@ -3,7 +3,6 @@
 
 mod batches;
 mod bodies;
-mod cells;
 mod contributions;
 mod ends;
 mod expressions;
@@ -14,20 +13,26 @@ mod laws;
 mod lines;
 mod masters;
 mod node_lists;
+mod node_steps;
 mod runs;
 mod settling;
 mod starts;
 mod steps;
 mod supersteps;
 mod tellings;
+mod totals;
 
 pub use batches::Batch;
 pub use contributions::{ContributionPart, Contributions};
 pub use faults::{Fault, lesser};
+pub use fields::Fields;
+pub use inboxes::Inbox;
 pub use laws::{
-    inboxes_have_no_order, puts_have_no_order, states_reach_the_end, totals_stand_for_messages,
+    inboxes_have_no_order, puts_have_no_order, states_reach_the_end, totals_are_handed_in,
+    totals_stand_for_messages,
 };
 pub use masters::{Master, MasterStop, master_run};
 pub use node_lists::{end_of_lists, settle_puts, start_fields};
+pub use node_steps::{Duty, Nodes, steps_of_nodes};
 pub use runs::{run_one, run_watched};
 pub use steps::{Sent, vertex_step};

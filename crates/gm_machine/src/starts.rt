@@ -9,7 +9,7 @@ ghost use Rattle.gm_machine.specs.Starts.{IsBound};
 ghost use Rattle.gm_machine.specs.Supersteps.{nodes_of};
 
 use crate::batches::Batch;
-use crate::fields::Fields;
+use crate::fields::FieldColumns;
 use crate::lines::{reset, write};
 use crate::supersteps::Nodes;
 use gm_base::NoMemory;
@@ -81,7 +81,7 @@ pub(crate) fn start(alloc: Global, image: &Image, graph: &Graph) -> Result<Nodes
     let types = image.fields.as_slice();
     let inputs = image.inputs.as_slice();
     let nodes = graph.node_count();
-    let mut fields = Fields::new(alloc, types, nodes as usize)?;
+    let mut fields = FieldColumns::new(alloc, types, nodes as usize)?;
     let mut row = Vec::new(alloc);
     for node in 0..nodes {
         reset(&mut row, types)?;

@@ -24,11 +24,6 @@ get_or-same zero v j = refl
 get_or-same (suc n) v zero = refl
 get_or-same (suc n) v (suc j) = get_or-same n v j
 
--- the copy of a value that is one after a function
-pub map-replicate : {X Y : Type 0} (f : X → Y) (n : ℕ) (x : X) → map f (replicate n x) ≡ replicate n (f x)
-map-replicate f zero x = refl
-map-replicate f (suc n) x = ap (λ ys. f x ∷ ys) (map-replicate f n x)
-
 -- a scalar is written
 pub scalar-written : (edge : ℕ → ℕ → Value) (h : Held) (x : ℕ) (v : Value) → x < length h.scalars →
     store_of edge (put h (Scalar x) v) ≡ S.write (store_of edge h) (Scalar x) v
@@ -97,9 +92,3 @@ pub row-added : (edge : ℕ → ℕ → Value) (h : Held) (v : Value) →
 row-added edge h v =
     ap (λ f. let s : S.Store = record { scalar = scalar_of h; node = f; edge = edge } in s)
     (fun_ext (λ q. fun_ext (λ m. ap (λ r. value_in r m) (get_or-push_by h.rows (uniform_row h.nodes v) no_row q) ∙ uniform-by h.nodes v (get_or h.rows q no_row) m (nat_eq (length h.rows) q))))
-
--- a copy of a value is written over a copy
-pub set-replicate : {X : Type 0} (n : ℕ) (v : X) (i : ℕ) → set (replicate n v) i v ≡ replicate n v
-set-replicate zero v i = refl
-set-replicate (suc n) v zero = refl
-set-replicate (suc n) v (suc i) = ap (λ vs. v ∷ vs) (set-replicate n v i)

@@ -6,11 +6,9 @@
 //! in the writes. What the store holds is the store of `gm_semantics`.
 #![tactic(auto)]
 
-mod cells;
 mod laws;
 mod rows;
 mod store;
 
-pub use cells::Cells;
 pub use laws::{logged_writes_are_reversible, rolling_back_restores};
 pub use store::Store;

@@ -1,11 +1,11 @@
 //! Rows: the values of a property by node.
 
 ghost use Rattle.std.specs.Prelude.{◌≡◌, ◌<◌, ◌≤◌, length, OnOk, OnErr};
-ghost use Rattle.gm_store.specs.Cells.{values_of};
+ghost use Rattle.gm_columns.specs.Cells.{values_of};
 ghost use Rattle.gm_store.specs.Held.{uniform_row, value_in, with_value};
 
-use crate::cells::Cells;
 use gm_base::NoMemory;
+use gm_columns::Cells;
 use gm_value::Value;
 use std::alloc::Global;
 use std::marker::Model;
@@ -22,7 +22,7 @@ impl Model for Row {
 
     ghost Value = { HeldRow };
 
-    ghost use Rattle.gm_store.specs.Cells.{values_of};
+    ghost use Rattle.gm_columns.specs.Cells.{values_of};
 
     ghost view = { λ row. record { values = values_of row.cells; other = row.other } };
 }

@@ -3,12 +3,12 @@
 ghost use Rattle.std.specs.Prelude.{◌≡◌, ◌<◌, ◌≤◌, ◌+◌, ℕ, [], ◌∷◌, ◌++◌, All, OnOk, OnErr, length, slice_index_or, take, drop};
 ghost use Rattle.gm_semantics.specs.Stores.{write, fill};
 ghost use Rattle.gm_semantics.specs.declared.slots.Slot.TheVariants.{Scalar};
-ghost use Rattle.gm_store.specs.Cells.{values_of};
+ghost use Rattle.gm_columns.specs.Cells.{values_of};
 ghost use Rattle.gm_store.specs.Held.{replaced, uniform_row, scalar_of, node_of, held_at, store_of, shape_of, HasSlot, undone, Reversible};
 
-use crate::cells::Cells;
 use crate::rows::Row;
 use gm_base::NoMemory;
+use gm_columns::Cells;
 use gm_semantics::slots::{Slot, Write};
 use gm_value::Value;
 use std::alloc::Global;

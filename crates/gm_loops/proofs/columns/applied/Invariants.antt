@@ -2,7 +2,7 @@ use Rattle.std.proofs.Common.{◌≡◌, Ok}
 use Rattle.std.specs.Prelude.{slice_index_or}
 use Rattle.gm_value.specs.declared.values.Value.{Value}
 use Rattle.gm_value.specs.Operations.{result2}
-use Rattle.gm_store.specs.Cells.{values_of}
+use Rattle.gm_columns.specs.Cells.{values_of}
 use Rattle.gm_loops.specs.Columns.{Each}
 use Rattle.gm_loops.proofs.columns.applied.Given as goal
 

@@ -2,8 +2,8 @@ use Rattle.std.proofs.Common.{◌≡◌, ◌∙◌, ℕ, Ok, [], ◌∷◌, List
 use Rattle.gm_value.specs.declared.values.Value.{Value}
 use Rattle.gm_value.specs.declared.values.Value.TheVariants.{I32, Flag}
 use Rattle.gm_value.specs.Operations.{result2}
-use Rattle.gm_store.specs.Cells.{values_of}
-use Rattle.gm_store.specs.declared.cells.Cells.TheVariants.{Flags}
+use Rattle.gm_columns.specs.Cells.{values_of}
+use Rattle.gm_columns.specs.declared.cells.Cells.TheVariants.{Flags}
 use Rattle.gm_loops.proofs.Everywhere.{each-push}
 use Rattle.gm_loops.proofs.Parting.{map-append}
 use Rattle.gm_loops.proofs.columns.comparisons.Goals as goal

@@ -4,7 +4,7 @@ use Rattle.gm_value.specs.declared.values.Value.{Value}
 use Rattle.gm_value.specs.declared.values.Value.TheVariants.{Flag}
 use Rattle.gm_value.specs.Operations.{is_true}
 use Rattle.gm_semantics.specs.Expressions.{plain}
-use Rattle.gm_store.specs.declared.cells.Cells.TheVariants.{Flags}
+use Rattle.gm_columns.specs.declared.cells.Cells.TheVariants.{Flags}
 use Rattle.gm_loops.specs.Columns.{IsColumn}
 use Rattle.gm_loops.proofs.filters.is_over.Goals as goal
 

@@ -4,7 +4,7 @@ use Rattle.gm_value.specs.declared.values.Value.{Value}
 use Rattle.gm_value.specs.Totals.{IsTotal}
 use Rattle.gm_semantics.specs.Expressions.{members_of, reduce_of}
 use Rattle.gm_semantics.specs.Faults.{joined}
-use Rattle.gm_store.specs.Cells.{values_of}
+use Rattle.gm_columns.specs.Cells.{values_of}
 use Rattle.gm_loops.proofs.Elements.{one-member}
 use Rattle.gm_loops.proofs.Folding.{no-members}
 use Rattle.gm_loops.proofs.folds.total_one_by_one.Goals as goal

@@ -2,7 +2,7 @@ use Rattle.std.proofs.Common.{◌≤◌, ◌+◌, length, map, drop}
 use Rattle.gm_value.specs.Totals.{IsTotal}
 use Rattle.gm_semantics.specs.Expressions.{members_of, reduce_of}
 use Rattle.gm_semantics.specs.Faults.{joined}
-use Rattle.gm_store.specs.Cells.{values_of}
+use Rattle.gm_columns.specs.Cells.{values_of}
 use Rattle.gm_loops.proofs.folds.total_one_by_one.Given as goal
 
 -- the total is that of the values from the k-th on, and there are no more members than values

@@ -4,8 +4,8 @@ use Rattle.std.proofs.lemmas.List.{length-map}
 use Rattle.std.proofs.lemmas.List.Elements.{All-get_or}
 use Rattle.gm_value.specs.declared.values.Value.TheVariants.{At}
 use Rattle.std.specs.Prelude.{None}
-use Rattle.gm_machine.specs.declared.cells.Cells.{Cells}
-use Rattle.gm_machine.specs.Cells.{values_of}
+use Rattle.gm_columns.specs.declared.cells.Cells.{Cells}
+use Rattle.gm_columns.specs.Cells.{values_of}
 use Rattle.gm_machine.proofs.FieldRows.{HasValue, map-read, row-more}
 use Rattle.gm_machine.proofs.fields.load.Goals as goal
 

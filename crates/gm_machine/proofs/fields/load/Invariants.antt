@@ -1,6 +1,6 @@
 -- The values of the rows so far.
 use Rattle.std.proofs.Common.{◌≡◌, map, take}
-use Rattle.gm_machine.specs.Cells.{values_of}
+use Rattle.gm_columns.specs.Cells.{values_of}
 use Rattle.gm_machine.specs.Machine.{row_at}
 use Rattle.gm_machine.proofs.fields.load.Given as goal
 

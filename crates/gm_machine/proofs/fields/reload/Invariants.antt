@@ -1,7 +1,7 @@
 -- The first values are those of the node.
 use Rattle.std.proofs.Common.{◌≡◌, ◌<◌, ℕ, get_or, length, map}
 use Rattle.gm_value.specs.declared.values.Value.{Value}
-use Rattle.gm_machine.specs.Cells.{values_of}
+use Rattle.gm_columns.specs.Cells.{values_of}
 use Rattle.gm_machine.specs.Machine.{row_at}
 use Rattle.gm_machine.proofs.fields.reload.Given as goal
 

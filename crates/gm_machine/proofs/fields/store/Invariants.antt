@@ -1,6 +1,6 @@
 -- The rows so far have their new values.
 use Rattle.std.proofs.Common.{map}
-use Rattle.gm_machine.specs.Cells.{values_of}
+use Rattle.gm_columns.specs.Cells.{values_of}
 use Rattle.gm_machine.proofs.FieldRows.{IsStoredTo}
 use Rattle.gm_machine.proofs.fields.store.Given as goal
 

@@ -1,8 +1,8 @@
 -- A row is written where it stands.
 use Rattle.std.proofs.Common.{◌∙◌, List, [], map, set, sym, ap}
 use Rattle.std.proofs.lemmas.List.{map-set}
-use Rattle.gm_machine.specs.declared.cells.Cells.{Cells}
-use Rattle.gm_machine.specs.Cells.{values_of}
+use Rattle.gm_columns.specs.declared.cells.Cells.{Cells}
+use Rattle.gm_columns.specs.Cells.{values_of}
 use Rattle.gm_machine.proofs.FieldRows.{map-read}
 use Rattle.gm_machine.proofs.fields.write.Goals as goal
 

@@ -3,7 +3,7 @@ use Rattle.gm_ast.specs.Tree.{expr_of}
 use Rattle.gm_model.specs.Graphs.{node_count}
 use Rattle.gm_semantics.specs.declared.faults.Fault.{Fault}
 use Rattle.gm_semantics.specs.Stores.{Store}
-use Rattle.gm_store.specs.Cells.{values_of}
+use Rattle.gm_columns.specs.Cells.{values_of}
 use Rattle.gm_loops.specs.Around.{body_of, loop_of}
 use Rattle.gm_loops.specs.LoopEnds.{nodes_in}
 use Rattle.gm_loops.specs.Renewals.{Renews}

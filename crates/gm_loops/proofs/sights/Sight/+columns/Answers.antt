@@ -1,8 +1,8 @@
 use Rattle.std.proofs.Common.{ℕ, rules}
 use Rattle.gm_ast.specs.Tree.{expr_of}
 use Rattle.gm_semantics.specs.Expressions.{View}
-use Rattle.gm_store.specs.Cells.{values_of}
-use Rattle.gm_store.specs.declared.cells.Cells.{Cells}
+use Rattle.gm_columns.specs.Cells.{values_of}
+use Rattle.gm_columns.specs.declared.cells.Cells.{Cells}
 use Rattle.gm_loops.specs.Columns.{cells_of, Applies1, Applies2, IsColumn}
 use Rattle.gm_loops.specs.Sights.{view_of}
 use Rattle.gm_loops.proofs.Everywhere.{column-one, column-two, found-then}

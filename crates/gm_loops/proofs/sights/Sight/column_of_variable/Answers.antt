@@ -1,6 +1,6 @@
 use Rattle.std.proofs.Common.{refl}
 use Rattle.gm_loops.specs.Sights.{view_of}
-use Rattle.gm_store.specs.declared.cells.Cells.TheVariants.{Nodes}
+use Rattle.gm_columns.specs.declared.cells.Cells.TheVariants.{Nodes}
 use Rattle.gm_loops.proofs.Everywhere.{column-iterator}
 use Rattle.gm_loops.proofs.sights.Sight.column_of_variable.Goals as goal
 

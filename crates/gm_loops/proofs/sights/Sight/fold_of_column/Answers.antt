@@ -4,8 +4,8 @@ use Rattle.gm_value.specs.Totals.{IsTotal}
 use Rattle.gm_ast.specs.Tree.{expr_of}
 use Rattle.gm_semantics.specs.Expressions.{View, closed, members_of, reduce_of}
 use Rattle.gm_semantics.specs.Faults.{joined}
-use Rattle.gm_store.specs.declared.cells.Cells.{Cells}
-use Rattle.gm_store.specs.Cells.{values_of}
+use Rattle.gm_columns.specs.declared.cells.Cells.{Cells}
+use Rattle.gm_columns.specs.Cells.{values_of}
 use Rattle.gm_loops.specs.declared.sights.Sight.{Sight}
 use Rattle.gm_loops.specs.Columns.{cells_of, IsColumn}
 use Rattle.gm_loops.specs.Sights.{view_of}

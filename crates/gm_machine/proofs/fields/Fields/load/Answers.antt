@@ -1,19 +1,11 @@
--- The node's values in all rows are its fields.
-use Rattle.std.proofs.Common.{◌∙◌, [], map, sym, ap}
-use Rattle.gm_machine.specs.Cells.{values_of}
-use Rattle.gm_machine.specs.Fields.{columns_of}
-use Rattle.gm_machine.specs.Machine.{row_at}
-use Rattle.gm_machine.proofs.FieldRows.{get_or-by_node}
+-- The nodes of the rows are those of the columns.
+use Rattle.std.proofs.Common.{◌≡◌, ◌∙◌, length, sym, ap, arith}
+use Rattle.gm_machine.specs.Fields.{HeldFields, columns_of}
+use Rattle.gm_machine.proofs.FieldRows.{length-by_node}
 use Rattle.gm_machine.proofs.fields.Fields.load.Goals as goal
 
-pub returns-then-len : goal.returns-then-len
-returns-then-len c =
-    c.reload.ensures
-    ∙ ap (λ rows. row_at (map values_of rows) c.args.node) c.deref.ensures.value
-    ∙ sym (get_or-by_node c.args.self.now.nodes (columns_of c.args.self.now) c.args.node [] c.requires.node)
-
-pub returns : goal.returns
-returns c =
-    c.in_ok-load.ensures
-    ∙ ap (λ rows. row_at (map values_of rows) c.args.node) c.deref-2.ensures.value
-    ∙ sym (get_or-by_node c.args.self.now.nodes (columns_of c.args.self.now) c.args.node [] c.requires.node)
+pub load-requires-clause-node : goal.load-requires-clause-node
+load-requires-clause-node c =
+    let long : c.self.inside.columns.nodes ≡ length c.args.self.now.rows =
+    sym (length-by_node c.self.inside.columns.nodes (columns_of c.self.inside.columns)) ∙ ap (λ (h : HeldFields). length h.rows) c.self.view_is in
+    omega (arith, long, c.requires)

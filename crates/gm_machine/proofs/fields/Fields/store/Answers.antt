@@ -1,23 +1,14 @@
--- The node's new values stand in all rows.
-use Rattle.std.proofs.Common.{◌≡◌, ◌∙◌, length, map, sym, ap, subst}
-use Rattle.std.proofs.lemmas.List.{length-map}
-use Rattle.gm_machine.specs.Cells.{values_of}
-use Rattle.gm_machine.specs.Fields.{by_node, AreFull}
-use Rattle.gm_machine.proofs.FieldRows.{length-with_row, full-with_row, by_node-with_row}
+-- The nodes of the rows are those of the columns.
+use Rattle.std.proofs.Common.{◌≡◌, ◌∙◌, length, sym, ap, arith}
+use Rattle.gm_machine.specs.declared.fields.FieldColumns.{FieldColumns}
+use Rattle.gm_machine.specs.Fields.{HeldFields, columns_of}
+use Rattle.gm_machine.proofs.FieldRows.{length-by_node}
 use Rattle.gm_machine.proofs.fields.Fields.store.Goals as goal
 
-pub returns-clause-full : goal.returns-clause-full
-returns-clause-full c =
-    let old = c.args.self.now.rows.items in
-    let new = c.store.new.rows.items in
-    record {
-      wide = sym (length-map new values_of) ∙ ap length c.in_ok-store.ensures ∙ length-with_row (map values_of old) c.args.node c.args.from.now ∙ length-map old values_of ∙ c.requires.full.wide;
-      full = subst (AreFull c.args.self.now.nodes) (sym c.in_ok-store.ensures) (full-with_row c.args.self.now.nodes c.args.node (map values_of old) c.args.from.now c.requires.full.full);
-    }
-
-pub returns-clause-fields : goal.returns-clause-fields
-returns-clause-fields c =
-    let old = c.args.self.now.rows.items in
-    let long : length c.args.from.now ≡ length (map values_of old) = sym (length-map old values_of ∙ c.requires.full.wide) in
-    ap (by_node c.args.self.now.nodes) c.in_ok-store.ensures
-    ∙ by_node-with_row c.args.self.now.nodes c.args.node (map values_of old) c.args.from.now c.requires.full.full c.requires.node long
+pub store-requires-clause-node : goal.store-requires-clause-node
+store-requires-clause-node c =
+    let long : c.replace-columns.result.nodes ≡ length c.args.self.now.rows =
+    ap (λ (f : FieldColumns). f.nodes) c.replace-columns.ensures.value
+    ∙ sym (length-by_node c.self.inside.columns.nodes (columns_of c.self.inside.columns))
+    ∙ ap (λ (h : HeldFields). length h.rows) c.self.view_is in
+    omega (arith, long, c.requires.place)

@@ -1,6 +1,6 @@
 use Rattle.std.proofs.Common.{◌≡◌, ap, ◌∙◌, ◌<◌, ℕ, sym, subst, length, set, get_or}
 use Rattle.std.proofs.lemmas.List.{get_or_read}
-use Rattle.gm_store.specs.Cells.{values_of}
+use Rattle.gm_columns.specs.Cells.{values_of}
 use Rattle.gm_store.specs.Held.{Held, Row, no_row, replaced, store_of}
 use Rattle.gm_store.proofs.Writing.{row-replaced}
 use Rattle.gm_store.proofs.store.Store.replace.Goals as goal

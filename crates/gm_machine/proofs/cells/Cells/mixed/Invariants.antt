@@ -1,7 +1,0 @@
-use Rattle.std.proofs.Common.{◌≡◌, take}
-use Rattle.gm_machine.specs.Cells.{values_of}
-use Rattle.gm_machine.proofs.cells.Cells.mixed.Given as goal
-
--- the values so far are those of the first nodes
-abbrev pub invariant-loop-node : goal.invariant-loop-node
-invariant-loop-node l = l.values.items ≡ take l.node (values_of l.self)
