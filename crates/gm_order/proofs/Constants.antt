@@ -11,7 +11,6 @@ use Rattle.gm_value.specs.declared.values.VType.{VType}
 use Rattle.gm_value.specs.declared.values.VType.TheVariants.{I32, I64, Flag, Node}
 use Rattle.gm_value.specs.declared.values.Value.{Value}
 use Rattle.gm_value.specs.declared.values.Value.TheVariants as V
-use Rattle.gm_value.specs.declared.operations.Op1.TheVariants as Op1
 use Rattle.gm_value.specs.declared.operations.Op2.{Op2}
 use Rattle.gm_value.specs.Numbers.{type_of, number_of, fits, least_of, greatest_of}
 use Rattle.gm_ast.specs.declared.tree.Head.{Head}
@@ -35,7 +34,7 @@ use Rattle.gm_ast.specs.Program.{Expr}
 use Rattle.gm_ast.specs.Judged.{Judged, Answer, judge, ok_of, refused, refused_unless, then_answer}
 use Rattle.gm_ast.specs.Names.{Env, is, used, both, iterated, inside, keyed, counted, later, declared_as, an_iterator}
 use Rattle.gm_ast.specs.Kinds.{Part, part_of, narrow, narrowed, as_int, as_long, int_of, taken, joint, settled, settled_as, is_empty, is_number, is_flag, accepts, fitted}
-use Rattle.gm_ast.specs.Typing.{typed, condition, start_of, ranged, named_as, named_part, member_part, method_part, query_of, stands_for_node, cast_part, prefix_part, paired, paired_after, large_of, compares_any, is_arithmetic, is_value, compared_as, operation, operation_by, infix_part, choice_by, choice_part, fold_of, folded, of_numbers_as, of_conditions, reduction_part, reduction_rule, reducer_at, fold_numbers, head_with}
+use Rattle.gm_ast.specs.Typing.{typed, condition, start_of, ranged, named_as, named_part, member_part, method_part, query_of, stands_for_node, cast_part, prefix_part, paired, paired_after, large_of, compares_any, is_arithmetic, is_value, compared_as, operation, operation_by, infix_part, choice_by, choice_part, folded, of_numbers_as, of_conditions, reduction_part, reduction_rule, reducer_at, fold_numbers, head_with}
 use Rattle.gm_forms.proofs.Named.{both-true}
 use Rattle.gm_ready.specs.Spelled.{constants_fit}
 use Rattle.gm_ready.proofs.Judging.{IfPart, if-by, if-both, if-good, if-then, if-else}

@@ -1,17 +1,15 @@
 -- What typing keeps of expressions, where their parts have it.
 use Rattle.std.proofs.Common.{◌≡◌, ℕ, Bool, true, false, List, [], ◌∷◌, ◌++◌, inl, inr, refl, Option, Some, None, Ok, Err}
-use Rattle.std.specs.Prelude.{◌+◌, ◌&&◌, ◌||◌, if◌then◌else◌}
+use Rattle.std.specs.Prelude.{◌&&◌, ◌||◌, if◌then◌else◌}
 use Rattle.gm_base.specs.declared.places.Place.{Place}
 use Rattle.gm_base.specs.declared.rules.Rule.{Rule}
 use Rattle.gm_base.specs.declared.rules.Rule.TheVariants.{T7, T8, T10}
 use Rattle.gm_value.specs.declared.values.VType.{VType}
 use Rattle.gm_value.specs.declared.values.VType.TheVariants.{I32, I64, Flag, Node}
-use Rattle.gm_value.specs.declared.operations.Op1.TheVariants as Op1
 use Rattle.gm_value.specs.declared.operations.Op1.{Op1}
 use Rattle.gm_value.specs.declared.operations.Op2.{Op2}
 use Rattle.gm_value.specs.declared.values.Value.{Value}
 use Rattle.gm_ast.specs.declared.tree.Direction.{Direction}
-use Rattle.gm_ast.specs.declared.tree.Head.{Head}
 use Rattle.gm_ast.specs.declared.tree.Key.{Key}
 use Rattle.gm_ast.specs.declared.tree.Sort.{Sort}
 use Rattle.gm_ast.specs.declared.tree.Sort.TheVariants as Sorts
@@ -20,9 +18,7 @@ use Rattle.gm_ast.specs.declared.kinds.Kind.{Kind}
 use Rattle.gm_ast.specs.declared.kinds.Kind.TheVariants as Kinds
 use Rattle.gm_ast.specs.declared.kinds.Query.{Query}
 use Rattle.gm_ast.specs.declared.kinds.Query.TheVariants as Queries
-use Rattle.gm_ast.specs.declared.kinds.Reducer.{Reducer}
 use Rattle.gm_ast.specs.declared.surface.ReductionWord.{ReductionWord}
-use Rattle.gm_ast.specs.declared.surface.ReductionWord.TheVariants.{Sum, Product, Min, Max, Count, Exist, All}
 use Rattle.gm_ast.specs.declared.surface.Prefix.{Prefix}
 use Rattle.gm_ast.specs.declared.surface.Prefix.TheVariants as Prefixes
 use Rattle.gm_ast.specs.declared.surface.Infix.{Infix}
@@ -31,13 +27,13 @@ use Rattle.gm_ast.specs.Surface.{SurfaceHead, SurfaceExpr, Always, Number, Truth
 use Rattle.gm_ast.specs.Program as P
 use Rattle.gm_ast.specs.Program.{Expr}
 use Rattle.gm_ast.specs.Judged.{Judged, Answer, judge, ok_of, refused, refused_unless, then_answer}
-use Rattle.gm_ast.specs.Names.{Env, is, used, both, iterated, inside, keyed, counted, later, declared_as, an_iterator}
-use Rattle.gm_ast.specs.Kinds.{Part, part_of, narrow, narrowed, as_int, as_long, int_of, taken, joint, settled, settled_as, is_empty, is_number, is_flag, accepts, fitted}
-use Rattle.gm_ast.specs.Typing.{typed, condition, start_of, ranged, named_as, named_part, member_part, method_part, query_of, stands_for_node, cast_part, prefix_part, paired, paired_after, large_of, compares_any, is_arithmetic, is_value, compared_as, operation, operation_by, infix_part, choice_by, choice_part, fold_of, folded, of_numbers_as, of_conditions, reduction_part, reduction_rule, reducer_at, fold_numbers, head_with}
+use Rattle.gm_ast.specs.Names.{Env, is, used, both, later}
+use Rattle.gm_ast.specs.Kinds.{Part, part_of, narrowed, as_int, as_long, int_of, taken, joint, settled, settled_as, is_empty, is_number, is_flag, accepts, fitted}
+use Rattle.gm_ast.specs.Typing.{typed, condition, start_of, named_as, named_part, member_part, method_part, query_of, stands_for_node, cast_part, prefix_part, paired, paired_after, large_of, compares_any, is_arithmetic, is_value, compared_as, operation, operation_by, infix_part, choice_by, choice_part}
 use Rattle.gm_ready.proofs.Judging.{IfPart, if-by, if-both, if-good, if-then, if-else}
 use Rattle.gm_order.proofs.Parts.{anything}
 use Rattle.gm_order.specs.Places.{ascend, closing, places_in}
-use Rattle.gm_order.proofs.Befores.{Among, among-left, among-right, ascend-tail, ascend-left, ascend-right}
+use Rattle.gm_order.proofs.Befores.{Among, ascend-tail, ascend-left, ascend-right}
 
 -- a fact on expressions at some places that goes from parts to what is made of them
 pub record IsKept (Q : List Place → Expr → Type 0) : Type 0 where
@@ -240,7 +236,7 @@ module _ (Q : List Place → Expr → Type 0) (kept : IsKept Q) where
       typed-kept (Reduction at word h filter body close) up env m =
           let ps = places_in filter in
           let qs = places_in body in
-          let rest = ps ++ (qs ++ closing at close) in
+          let rest = ps ++ (qs ++ closing word at close) in
           let back = ascend-tail h.owner.place rest (ascend-tail h.iterator.place (h.owner.place ∷ rest) (ascend-tail at (h.iterator.place ∷ (h.owner.place ∷ rest)) up)) in
-          folds at word h filter body close up (typed-kept filter (ascend-left ps (qs ++ closing at close) back))
-          (typed-kept body (ascend-left qs (closing at close) (ascend-right ps (qs ++ closing at close) back))) env m
+          folds at word h filter body close up (typed-kept filter (ascend-left ps (qs ++ closing word at close) back))
+          (typed-kept body (ascend-left qs (closing word at close) (ascend-right ps (qs ++ closing word at close) back))) env m

@@ -1,5 +1,5 @@
 -- The program of a text is ordered.
-use Rattle.std.proofs.Common.{◌≡◌, ◌+◌, ℕ, true, List, [], ◌∷◌, ◌++◌, refl, subst, ◌∙◌}
+use Rattle.std.proofs.Common.{◌≡◌, ℕ, true, List, [], ◌∷◌, ◌++◌, refl, subst, ◌∙◌}
 use Rattle.gm_ast.specs.declared.tree.Variable.{Variable}
 use Rattle.gm_ast.specs.Surface.{SurfaceName, SurfaceGroup, SurfaceProcedure}
 use Rattle.gm_ast.specs.Program.{Program}
@@ -10,7 +10,6 @@ use Rattle.gm_ast.specs.Procedures.{nothing_known, with_parameters, env_of_outpu
 use Rattle.gm_forms.specs.Order.{is_ordered}
 use Rattle.gm_ready.proofs.Judging.{IfPart}
 use Rattle.gm_order.specs.Places.{ascend, places_of_each, places_of_group, places_of, places_of_procedure}
-use Rattle.gm_order.specs.Totals.{has_totals_behind}
 use Rattle.gm_order.specs.Laws.{HasProgram}
 use Rattle.gm_order.proofs.Befores.{ascend-tail, ascend-right}
 use Rattle.gm_order.proofs.Shapes.{procedure-shaped}
@@ -35,7 +34,7 @@ body-ascends p h =
     let outs = places_of_each places_of_group p.outputs in
     ascend-right outs (places_of p.body) (ascend-right ins (outs ++ places_of p.body) (ascend-tail p.name.place (ins ++ (outs ++ places_of p.body)) h))
 
-pub text-ordered : (text : List ℕ) (p : Program) → HasProgram text p → uncanonical p ≡ [] → has_totals_behind p ≡ true → is_ordered p ≡ true
-text-ordered text p s canonical behind =
-    subst (IfPart (λ q. uncanonical q ≡ [] → has_totals_behind q ≡ true → is_ordered q ≡ true)) s.is
-    (elaborated-ordered s.tree (body-ascends s.tree (text-ascends text s.tree s.spelled)) (procedure-shaped s.spelled.spelled) (body-depth s.tree)) canonical behind
+pub text-ordered : (text : List ℕ) (p : Program) → HasProgram text p → uncanonical p ≡ [] → is_ordered p ≡ true
+text-ordered text p s canonical =
+    subst (IfPart (λ q. uncanonical q ≡ [] → is_ordered q ≡ true)) s.is
+    (elaborated-ordered s.tree (body-ascends s.tree (text-ascends text s.tree s.spelled)) (procedure-shaped s.spelled.spelled) (body-depth s.tree)) canonical

@@ -1,6 +1,6 @@
 -- Faults in the bodies of parallel loops of a text stand in order.
 use Rattle.std.proofs.Common.{◌≡◌, ◌+◌, ◌<◌, ◌≤◌, ℕ, pos, Bool, true, false, List, [], ◌∷◌, ◌++◌, map, refl, sym, ap, subst, ◌∙◌, arith, Option, Some, None}
-use Rattle.std.specs.Prelude.{◌&&◌, nat_eq, is_none, Ok}
+use Rattle.std.specs.Prelude.{nat_eq, is_none, Ok}
 use Rattle.std.specs.Cmp.Derive.{both_true}
 use Rattle.std.proofs.lemmas.Bool.{false≢true}
 use Rattle.gm_base.specs.declared.places.Place.{Place}
@@ -17,10 +17,8 @@ use Rattle.gm_ast.specs.declared.tree.Sort.{Sort}
 use Rattle.gm_ast.specs.declared.tree.Sort.TheVariants as Sorts
 use Rattle.gm_ast.specs.declared.tree.Target.{Target}
 use Rattle.gm_ast.specs.declared.tree.Target.TheVariants as T
-use Rattle.gm_ast.specs.declared.tree.TotalKey.{TotalKey}
 use Rattle.gm_ast.specs.declared.kinds.Goal.{Goal}
 use Rattle.gm_ast.specs.declared.kinds.Role.TheVariants.{Local}
-use Rattle.gm_ast.specs.declared.surface.LoopWord.{LoopWord}
 use Rattle.gm_ast.specs.declared.surface.LoopWord.TheVariants as Loop
 use Rattle.gm_ast.specs.Surface.{SurfaceName, SurfaceType, SurfaceTarget, SurfaceExpr, SurfaceStmt}
 use Rattle.gm_ast.specs.Surface as S
@@ -29,21 +27,20 @@ use Rattle.gm_ast.specs.Program.{Expr, Stmt}
 use Rattle.gm_ast.specs.Canonical as C
 use Rattle.gm_ast.specs.Canonical.{Around, is_parallel, within, reads_broken, all_broken, option_broken, forms_broken, assignment_broken, parallel_only, not_inner, range_broken}
 use Rattle.gm_ast.specs.Loops.{target_place}
-use Rattle.gm_ast.specs.Judged.{Judged, Answer, judge, beside, noted, ok_of, refused_unless, then_answer}
-use Rattle.gm_ast.specs.Keys.{Fault, fault_lt, total_fault, all_before}
-use Rattle.gm_ast.specs.Names.{Env, known_as, both, judged_each, iterated, inside, later, operators_of, numbered, declared_as, an_iterator}
+use Rattle.gm_ast.specs.Judged.{Judged, judge, beside, noted, ok_of, refused_unless, then_answer}
+use Rattle.gm_ast.specs.Keys.{Fault, fault_lt, total_fault}
+use Rattle.gm_ast.specs.Names.{Env, known_as, both, iterated, inside, later, operators_of, numbered, declared_as, an_iterator}
 use Rattle.gm_ast.specs.Kinds.{Part, fitted}
 use Rattle.gm_ast.specs.Typing.{typed, start_of, ranged, head_with}
-use Rattle.gm_ast.specs.Statements.{group_target, in_group, goal, fits_goal, reduces, first_wanted, total_at, fits_each, all_answers, combined, one_of, incremented, goals, typed_all, goals_together, reduced, names_graph, grouped, assigned, deferred, assignment, returned, at_iterator, type_broken, sort_of, vtype_of, variable_of, declared_all, plain_declarations, declarations_as, declared_plainly, edge_declared, edge_owner, declared_value, declared_typed, declared_with, following, loops_of, loop_of, test, graph_searched, rooted, search_of, searched, checked}
+use Rattle.gm_ast.specs.Statements.{group_target, in_group, goal, fits_goal, reduces, first_wanted, total_at, fits_each, all_answers, combined, one_of, incremented, typed_all, goals_together, reduced, names_graph, grouped, assigned, deferred, assignment, returned, at_iterator, type_broken, sort_of, vtype_of, variable_of, declared_all, plain_declarations, declarations_as, edge_declared, edge_owner, declared_value, declared_typed, declared_with, following, loop_of, test, graph_searched, rooted, search_of, searched, checked}
 use Rattle.gm_forms.proofs.Named.{both-true}
-use Rattle.gm_forms.specs.Order.{lie_before, rest_in, hoisted_in, hoists_in_order, faults_in, in_order, faults_in_option, option_in_order, faults_in_all, hoisted_in_all, all_in_order, target_faults, targets_faults, faults_of, body_in_order, loop_in_order}
+use Rattle.gm_forms.specs.Order.{lie_before, rest_in, hoisted_in, hoists_in_order, faults_in, in_order, faults_in_all, hoisted_in_all, all_in_order, target_faults, targets_faults, faults_of, body_in_order, loop_in_order}
 use Rattle.gm_ready.proofs.Judging.{IfPart, if-by, if-both, if-good, if-then, append-empty}
 use Rattle.gm_order.specs.Places.{ascend, places_of_each, places_in, places_of_target, place_of_option, places_of}
-use Rattle.gm_order.specs.Totals.{totals_behind, all_behind, body_behind}
 use Rattle.gm_order.proofs.Parts.{anything, if-with, if-judged}
-use Rattle.gm_order.proofs.Befores.{Each, each-append, each-map, before-one, before-append, lie, nothing-before, inner, operators, totals, KeyBefore, stage-before, statement-before, At, lie-keys, ascend-tail, ascend-left, ascend-right}
-use Rattle.gm_order.proofs.Keeping.{KeptPart, Keeps, fitted-kept, condition-kept}
-use Rattle.gm_order.proofs.OrderedExpressions.{Ordered, InParallel, parallel-kept}
+use Rattle.gm_order.proofs.Befores.{Each, each-append, each-map, lie, nothing-before, inner, operators, KeyBefore, stage-before, statement-before, At, lie-keys, ascend-tail, ascend-left, ascend-right}
+use Rattle.gm_order.proofs.Keeping.{KeptPart, fitted-kept, condition-kept}
+use Rattle.gm_order.proofs.OrderedExpressions.{InParallel, parallel-kept}
 use Rattle.gm_order.proofs.OrderedTyping.{not-zero, Parallel, parallel-typed}
 use Rattle.gm_order.proofs.Shapes.{shaped}
 
@@ -62,7 +59,7 @@ pub in-apart : (a b c d : ℕ) (xs ys : List Fault) → b ≤ c → Each (In a b
 in-apart a b c d xs ys le h g = lie (In a b) (In c d) xs ys h g (λ f e x y. let p = x.1 in let q = y.0 in statement-before f.key e.key (omega (arith, p, q, le)) f.place e.place)
 
 abbrev pub InBody : ℕ → ℕ → Stmt → Type 0
-InBody lo hi s = Each (In lo hi) (faults_of s) × ((w : Around) → is_parallel w.loops ≡ true → forms_broken s w ≡ [] → body_behind s ≡ true → body_in_order s ≡ true)
+InBody lo hi s = Each (In lo hi) (faults_of s) × ((w : Around) → is_parallel w.loops ≡ true → forms_broken s w ≡ [] → body_in_order s ≡ true)
 
 wider-body : (lo hi a b : ℕ) (s : Stmt) → a ≤ lo → hi ≤ b → InBody lo hi s → InBody a b s
 wider-body lo hi a b s l h k = (wider-in lo hi a b (faults_of s) l h k.0, k.1)
@@ -107,22 +104,22 @@ module _ (n : ℕ) (k : Key) (key : k ≡ operators n) where
   assign-body : (hi : ℕ) (ps : List Place) (t : Target) (e : Expr) → n < hi → InParallel n ps e → InBody n hi (P.Assign k t e)
   assign-body hi ps t e lt h = (
     targeted hi ps t e lt h,
-    λ w p r b.
+    λ w p r.
         let s = append-empty (assignment_broken w t) (reads_broken e w) r in
-        both_true (expr-order ps e h (h.2 w p s.1 b)) (hoisted-under ps (hoisted_in e) (target_faults t k) h.0 (target-under t)),
+        both_true (expr-order ps e h (h.2 w p s.1)) (hoisted-under ps (hoisted_in e) (target_faults t k) h.0 (target-under t)),
   )
 
   defer-body : (hi : ℕ) (ps : List Place) (t : Target) (e : Expr) → n < hi → InParallel n ps e → InBody n hi (P.Defer k t e)
   defer-body hi ps t e lt h = (
     targeted hi ps t e lt h,
-    λ w p r b.
+    λ w p r.
         let s = append-empty (parallel_only w.loops (target_place t)) (not_inner w.loops (target_place t) ++ reads_broken e w) r in
         let u = append-empty (not_inner w.loops (target_place t)) (reads_broken e w) s.1 in
-        both_true (expr-order ps e h (h.2 w p u.1 b)) (hoisted-under ps (hoisted_in e) (target_faults t k) h.0 (target-under t)),
+        both_true (expr-order ps e h (h.2 w p u.1)) (hoisted-under ps (hoisted_in e) (target_faults t k) h.0 (target-under t)),
   )
 
   declare-body : (hi : ℕ) (ps : List Place) (x : ℕ) (e : Expr) → n < hi → InParallel n ps e → InBody n hi (P.Declare k x (Some e))
-  declare-body hi ps x e lt h = (expr-faults hi ps e lt h, λ w p r b. expr-order ps e h (h.2 w p r b))
+  declare-body hi ps x e lt h = (expr-faults hi ps e lt h, λ w p r. expr-order ps e h (h.2 w p r))
 
   -- ---- several expressions
 
@@ -144,12 +141,11 @@ module _ (n : ℕ) (k : Key) (key : k ≡ operators n) where
   all-faults hi [] lt h = tt
   all-faults hi (e ∷ es) lt h = each-append (In n hi) (faults_in e k) (faults_in_all es k) (expr-faults hi h.0.0 e lt h.0.1) (all-faults hi es lt h.1)
 
-  all-order : (es : List Expr) → AllIn es → (w : Around) → is_parallel w.loops ≡ true → all_broken es w ≡ [] → all_behind totals_behind es ≡ true → all_in_order es k ≡ true
-  all-order [] h w p r b = refl
-  all-order (e ∷ es) h w p r b =
+  all-order : (es : List Expr) → AllIn es → (w : Around) → is_parallel w.loops ≡ true → all_broken es w ≡ [] → all_in_order es k ≡ true
+  all-order [] h w p r = refl
+  all-order (e ∷ es) h w p r =
       let s = append-empty (reads_broken e w) (all_broken es w) r in
-      let t = both-true (totals_behind e) (all_behind totals_behind es) b in
-      both_true (expr-order h.0.0 e h.0.1 (h.0.1.2 w p s.0 t.0)) (all-order es h.1 w p s.1 t.1)
+      both_true (expr-order h.0.0 e h.0.1 (h.0.1.2 w p s.0)) (all-order es h.1 w p s.1)
 
   -- a fault of the statement that is not of an inner reduction
   abbrev Later : Fault → Type 0
@@ -163,17 +159,17 @@ module _ (n : ℕ) (k : Key) (key : k ≡ operators n) where
       let ends : Each Later (targets_faults ts k ++ own) = each-append Later (targets_faults ts k) own (each-map Under Later (targets_faults ts k) (λ f e. (subst (KeyBefore (inner n)) (sym e) inner-before, ap (λ (j : Key). j.statement) e ∙ statement)) (targets-under ts)) own-later in (
         each-append (In n hi) (targets_faults ts k) (faults_in_all es k ++ own) (under-in hi (targets_faults ts k) lt (targets-under ts))
             (each-append (In n hi) (faults_in_all es k) own (all-faults hi es lt h) (each-map Later (In n hi) own (λ f l. let s = l.1 in (omega (arith, s), omega (arith, s, lt))) own-later)),
-        λ w p r b. both_true (all-order es h w p r b) (lie Hoisted Later (hoisted_in_all es) (targets_faults ts k ++ own) (all-hoisted es h) ends
+        λ w p r. both_true (all-order es h w p r) (lie Hoisted Later (hoisted_in_all es) (targets_faults ts k ++ own) (all-hoisted es h) ends
             (λ x y e l. subst (λ i. fault_lt (record { key = i; place = x.place }) y ≡ true) (sym e) (l.0 x.place y.place))),
       )
 
 -- ---- statements without expressions
 
 plain-body : (lo hi : ℕ) (k : Key) (ns : List ℕ) → InBody lo hi (plain_declarations k ns)
-plain-body lo hi k [] = (tt, λ w p r b. refl)
+plain-body lo hi k [] = (tt, λ w p r. refl)
 plain-body lo hi k (m ∷ ns) =
     let rest = plain-body lo hi k ns in
-    (rest.0, λ w p r b. both_true (rest.1 w p r b) (nothing-before [] (faults_of (plain_declarations k ns)) refl))
+    (rest.0, λ w p r. both_true (rest.1 w p r) (nothing-before [] (faults_of (plain_declarations k ns)) refl))
 
 declarations-body : (lo hi : ℕ) (s : Sort) (k : Key) (xs : List SurfaceName) (ns : List ℕ) → IfPart (InBody lo hi) (ok_of (declarations_as s k xs ns))
 declarations-body lo hi Sorts.Edge k xs ns = tt
@@ -188,28 +184,25 @@ declarations-body lo hi Sorts.EdgeProperty k xs ns = plain-body lo hi k ns
 then-body : (lo mid top hi : ℕ) (a b : Stmt) → mid ≤ top → lo ≤ top → mid ≤ hi → InBody lo mid a → InBody top hi b → InBody lo hi (P.Then a b)
 then-body lo mid top hi a b le down up x y = (
   each-append (In lo hi) (faults_of a) (faults_of b) (wider-in lo mid lo hi (faults_of a) (omega arith) up x.0) (wider-in top hi lo hi (faults_of b) down (omega arith) y.0),
-  λ w p r t.
+  λ w p r.
       let s = append-empty (forms_broken a w) (forms_broken b w) r in
-      let u = both-true (body_behind a) (body_behind b) t in
-      both_true (x.1 w p s.0 u.0) (both_true (y.1 w p s.1 u.1) (in-apart lo mid top hi (faults_of a) (faults_of b) le x.0 y.0)),
+      both_true (x.1 w p s.0) (both_true (y.1 w p s.1) (in-apart lo mid top hi (faults_of a) (faults_of b) le x.0 y.0)),
 )
 
 pub loop-order : (n : ℕ) (k : Key) → k ≡ operators n → (ps : List Place) (c : Expr) (body : Stmt) (lo hi : ℕ) → n < lo → InParallel n ps c → InBody lo hi body → (v u : Around) → is_parallel v.loops ≡ true → is_parallel u.loops ≡ true
-    → reads_broken c v ≡ [] → forms_broken body u ≡ [] → totals_behind c ≡ true → body_behind body ≡ true → loop_in_order k c body ≡ true
-loop-order n k key ps c body lo hi lt x y v u pv pu rc rb tc tb =
-    both_true (expr-order n k key ps c x (x.2 v pv rc tc)) (both_true (y.1 u pu rb tb)
+    → reads_broken c v ≡ [] → forms_broken body u ≡ [] → loop_in_order k c body ≡ true
+loop-order n k key ps c body lo hi lt x y v u pv pu rc rb =
+    both_true (expr-order n k key ps c x (x.2 v pv rc)) (both_true (y.1 u pu rb)
     (in-apart n (n + 1) lo hi (faults_in c k) (faults_of body) (omega (arith, lt)) (expr-faults n k key (n + 1) ps c (omega arith) x) y.0))
 
 if-body : (n : ℕ) (k : Key) → k ≡ operators n → (ps : List Place) (c : Expr) (a b : Stmt) (lo mid top hi : ℕ) → n < lo → mid ≤ top → lo ≤ top → mid ≤ hi → n < hi → InParallel n ps c → InBody lo mid a → InBody top hi b → InBody n hi (P.If k c a b)
 if-body n k key ps c a b lo mid top hi lt le down up high x y z =
     let branches : Each (In lo hi) (faults_of a ++ faults_of b) = each-append (In lo hi) (faults_of a) (faults_of b) (wider-in lo mid lo hi (faults_of a) (omega arith) up y.0) (wider-in top hi lo hi (faults_of b) down (omega arith) z.0) in (
       each-append (In n hi) (faults_in c k) (faults_of a ++ faults_of b) (expr-faults n k key hi ps c high x) (wider-in lo hi n hi (faults_of a ++ faults_of b) (omega (arith, lt)) (omega arith) branches),
-      λ w p r t.
+      λ w p r.
           let s = append-empty (reads_broken c w) (forms_broken a w ++ forms_broken b w) r in
           let u = append-empty (forms_broken a w) (forms_broken b w) s.1 in
-          let v = both-true (totals_behind c) (body_behind a && body_behind b) t in
-          let o = both-true (body_behind a) (body_behind b) v.1 in
-          both_true (expr-order n k key ps c x (x.2 w p s.0 v.0)) (both_true (y.1 w p u.0 o.0) (both_true (z.1 w p u.1 o.1) (both_true
+          both_true (expr-order n k key ps c x (x.2 w p s.0)) (both_true (y.1 w p u.0) (both_true (z.1 w p u.1) (both_true
           (in-apart n (n + 1) lo hi (faults_in c k) (faults_of a ++ faults_of b) (omega (arith, lt)) (expr-faults n k key (n + 1) ps c (omega arith) x) branches)
           (in-apart lo mid top hi (faults_of a) (faults_of b) le y.0 z.0)))),
     )
@@ -221,15 +214,14 @@ parallel-within (m ∷ ls) l = refl
 foreach-body : (n : ℕ) (k : Key) → k ≡ operators n → (at : Place) (h : Head) (ps : List Place) (c : Expr) (body : Stmt) (lo hi : ℕ) → n < lo → n < hi → InParallel n ps c → InBody lo hi body → InBody n hi (P.Foreach k at h c body)
 foreach-body n k key at h ps c body lo hi lt high x y = (
   each-append (In n hi) (faults_in c k) (faults_of body) (expr-faults n k key hi ps c high x) (wider-in lo hi n hi (faults_of body) (omega (arith, lt)) (omega arith) y.0),
-  λ w p r t.
+  λ w p r.
       let v = within w C.Body h.iterator in
       let here = parallel-within w.loops (record { code = C.Body; iterator = h.iterator }) in
       let s = append-empty (not_inner w.loops at) (range_broken w.loops h ++ (reads_broken c v ++ (forms_broken body v ++ C.ways_broken w.loops h c body))) r in
       let u = append-empty (range_broken w.loops h) (reads_broken c v ++ (forms_broken body v ++ C.ways_broken w.loops h c body)) s.1 in
       let q = append-empty (reads_broken c v) (forms_broken body v ++ C.ways_broken w.loops h c body) u.1 in
       let e = append-empty (forms_broken body v) (C.ways_broken w.loops h c body) q.1 in
-      let b = both-true (totals_behind c) (body_behind body) t in
-      loop-order n k key ps c body lo hi lt x y v v here here q.0 e.0 b.0 b.1,
+      loop-order n k key ps c body lo hi lt x y v v here here q.0 e.0,
 )
 
 -- ---- what typing makes of statements
@@ -277,7 +269,7 @@ module _ (n : ℕ) (env : Env) (st : Stands n env) (hi : ℕ) (lt : n < hi) (e :
   grouped-body x p at =
       let parts = both (group_target x p) (in_group (typed e)) env in
       if-by (λ ps. Unit {0}) (InBody n hi) parts.part (λ ps. then_answer (fitted ps.0.1.1 T9 at ps.1) (P.Group env.key x.place ps.0.0 ps.0.1.0)) (anything parts.part)
-      (λ ps _. if-then (λ a. Unit {0}) (InBody n hi) (fitted ps.0.1.1 T9 at ps.1) (P.Group env.key x.place ps.0.0 ps.0.1.0) (anything (ok_of (fitted ps.0.1.1 T9 at ps.1))) (λ a _. (tt, λ w p r b. refl)))
+      (λ ps _. if-then (λ a. Unit {0}) (InBody n hi) (fitted ps.0.1.1 T9 at ps.1) (P.Group env.key x.place ps.0.0 ps.0.1.0) (anything (ok_of (fitted ps.0.1.1 T9 at ps.1))) (λ a _. (tt, λ w p r. refl)))
 
   assignment-body : (o : Option SurfaceName) (t : SurfaceTarget) (at : Place) → IfPart (InBody n hi) (assignment o t at e env).part
   assignment-body None t at = assigned-body t at
@@ -295,7 +287,7 @@ module _ (n : ℕ) (env : Env) (st : Stands n env) (hi : ℕ) (lt : n < hi) (e :
   with-body : (o : Option SurfaceName) (t : SurfaceType) (x : SurfaceName) (at : Place) → IfPart (InBody n hi) (declared_with o t x at e env).part
   with-body (Some y) t x at =
       let parts = both (declared_typed t x) (edge_owner y) env in
-      if-by (λ p. Unit {0}) (InBody n hi) parts.part (λ p. Ok (P.DeclareEdge p.0 p.1.index y.place)) (anything parts.part) (λ p _. (tt, λ w q r b. refl))
+      if-by (λ p. Unit {0}) (InBody n hi) parts.part (λ p. Ok (P.DeclareEdge p.0 p.1.index y.place)) (anything parts.part) (λ p _. (tt, λ w q r. refl))
   with-body None t x at =
       if-by (λ p. Unit {0} × Part-kept p.1) (InBody n hi) (both (declared_typed t x) (typed e) env).part (declared_value env.key x at (vtype_of t) (sort_of t))
       (beside-kept (declared_typed t x env)) (λ p k. value-body (sort_of t) x at (vtype_of t) p k.1)
@@ -337,8 +329,8 @@ reduced-body n env st hi lt ts r at es up =
 
 incremented-body : (n : ℕ) (k : Key) (key : k ≡ operators n) (hi : ℕ) → n < hi → (at : Place) (g : Goal) (w : Option VType) → IfPart (InBody n hi) (ok_of (then_answer (one_of w at) (λ e. P.Combine k (total_at k at) R.Sum (g.target ∷ []) (e ∷ []))))
 incremented-body n k key hi lt at g None = tt
-incremented-body n k key hi lt at g (Some I32) = combine-body n k key hi at R.Sum (g.target ∷ []) (P.Const (V.I32 (pos 1)) ∷ []) lt ((([], (tt, λ j. tt, λ w p r t. refl))), tt)
-incremented-body n k key hi lt at g (Some I64) = combine-body n k key hi at R.Sum (g.target ∷ []) (P.Const (V.I64 (pos 1)) ∷ []) lt ((([], (tt, λ j. tt, λ w p r t. refl))), tt)
+incremented-body n k key hi lt at g (Some I32) = combine-body n k key hi at R.Sum (g.target ∷ []) (P.Const (V.I32 (pos 1)) ∷ []) lt ((([], (tt, λ j. tt, λ w p r. refl))), tt)
+incremented-body n k key hi lt at g (Some I64) = combine-body n k key hi at R.Sum (g.target ∷ []) (P.Const (V.I64 (pos 1)) ∷ []) lt ((([], (tt, λ j. tt, λ w p r. refl))), tt)
 incremented-body n k key hi lt at g (Some Flag) = tt
 incremented-body n k key hi lt at g (Some Node) = tt
 
@@ -355,10 +347,10 @@ numbered-stands env d = (refl, omega arith, d)
 
 -- a statement that no body may hold has no faults there
 nothing-in : (lo hi : ℕ) (s : Stmt) → faults_of s ≡ [] → body_in_order s ≡ true → InBody lo hi s
-nothing-in lo hi s e o = (subst (Each (In lo hi)) (sym e) tt, λ w p r b. o)
+nothing-in lo hi s e o = (subst (Each (In lo hi)) (sym e) tt, λ w p r. o)
 
 pub body-ordered : (rest : Bool) (s : SurfaceStmt) → ascend (places_of s) ≡ true → shaped rest s ≡ true → (n : ℕ) (env : Env) → Stands n env → IfPart (InBody (low rest n env) (env.number + (checked s env).numbers)) (checked s env).part
-body-ordered rest S.Skip up sh n env st = (tt, λ w p r b. refl)
+body-ordered rest S.Skip up sh n env st = (tt, λ w p r. refl)
 body-ordered rest (S.Then a b) up sh n env st =
     let ps = places_of a in
     let qs = places_of b in
@@ -412,7 +404,7 @@ body-ordered false (S.Increment t at) up sh n env st =
 body-ordered false (S.Call r f es xs) up sh n env st = tt
 body-ordered false (S.Loop at Loop.For head filter body) up sh n env st =
     let parts = both (ranged head) (iterated head.iterator 0 (both (test filter) (numbered (checked body)))) env in
-    if-by (λ p. Unit {0}) (InBody n (env.number + parts.numbers)) parts.part (λ p. Ok (loop_of Loop.For env.key at (head_with head p.0 p.1.0) p.1.1.0 p.1.1.1)) (anything parts.part) (λ p _. (tt, λ w q r b. refl))
+    if-by (λ p. Unit {0}) (InBody n (env.number + parts.numbers)) parts.part (λ p. Ok (loop_of Loop.For env.key at (head_with head p.0 p.1.0) p.1.1.0 p.1.1.1)) (anything parts.part) (λ p _. (tt, λ w q r. refl))
 body-ordered false (S.Loop at Loop.Foreach head filter body) up sh n env st =
     let l = st.1 in
     let ps = places_in filter in
@@ -462,21 +454,21 @@ body-ordered false (S.If at c a b) up sh n env st =
     (λ p k. if-body n env.key st.0 ps p.0 p.1.0 p.1.1 m1 top1 m2 hi (omega (arith, l)) (omega arith) (omega arith) (omega arith) (omega (arith, l)) k.0 k.1.0 (wider-body m2 top2 m2 hi p.1.1 (omega arith) (omega arith) k.1.1))
 body-ordered false (S.While at c body) up sh n env st =
     let parts = both (test c) (numbered (checked body)) env in
-    if-by (λ p. Unit {0}) (InBody n (env.number + parts.numbers)) parts.part (λ p. Ok (P.While env.key at p.0 p.1)) (anything parts.part) (λ p _. (tt, λ w q r b. refl))
+    if-by (λ p. Unit {0}) (InBody n (env.number + parts.numbers)) parts.part (λ p. Ok (P.While env.key at p.0 p.1)) (anything parts.part) (λ p _. (tt, λ w q r. refl))
 body-ordered false (S.Do at body c) up sh n env st =
     let parts = both (numbered (checked body)) (test c) env in
-    if-by (λ p. Unit {0}) (InBody n (env.number + parts.numbers)) parts.part (λ p. Ok (P.Do env.key at p.0 p.1)) (anything parts.part) (λ p _. (tt, λ w q r b. refl))
+    if-by (λ p. Unit {0}) (InBody n (env.number + parts.numbers)) parts.part (λ p. Ok (P.Do env.key at p.0 p.1)) (anything parts.part) (λ p _. (tt, λ w q r. refl))
 body-ordered false (S.InBfs at v g root filter body) up sh n env st =
     let parts = both (both (graph_searched g) (rooted root)) (iterated v 1 (both (test filter) (numbered (checked body)))) env in
-    if-by (λ p. Unit {0}) (InBody n (env.number + parts.numbers)) parts.part (λ p. Ok (P.InBfs env.key at (search_of root p.0 p.1.0) p.1.1.0 p.1.1.1)) (anything parts.part) (λ p _. (tt, λ w q r b. refl))
+    if-by (λ p. Unit {0}) (InBody n (env.number + parts.numbers)) parts.part (λ p. Ok (P.InBfs env.key at (search_of root p.0 p.1.0) p.1.1.0 p.1.1.1)) (anything parts.part) (λ p _. (tt, λ w q r. refl))
 body-ordered false (S.InBfsBoth at v g root filter body reverse back_filter back) up sh n env st =
     let parts = both (both (graph_searched g) (rooted root)) (iterated v 1 (both (both (test filter) (numbered (checked body))) (numbered (searched (test back_filter) (numbered (checked back)))))) env in
-    if-by (λ p. Unit {0}) (InBody n (env.number + parts.numbers)) parts.part (λ p. Ok (P.InBfsBoth env.key at (search_of root p.0 p.1.0) p.1.1.0.0 p.1.1.0.1 p.1.1.1.0 p.1.1.1.1.0 p.1.1.1.1.1)) (anything parts.part) (λ p _. (tt, λ w q r b. refl))
-body-ordered false (S.Return at None) up sh n env st = if-good (InBody n (env.number + 0)) (is_none env.result) T14 at (P.Return env.key at None) (λ _. (tt, λ w q r b. refl))
+    if-by (λ p. Unit {0}) (InBody n (env.number + parts.numbers)) parts.part (λ p. Ok (P.InBfsBoth env.key at (search_of root p.0 p.1.0) p.1.1.0.0 p.1.1.0.1 p.1.1.1.0 p.1.1.1.1.0 p.1.1.1.1.1)) (anything parts.part) (λ p _. (tt, λ w q r. refl))
+body-ordered false (S.Return at None) up sh n env st = if-good (InBody n (env.number + 0)) (is_none env.result) T14 at (P.Return env.key at None) (λ _. (tt, λ w q r. refl))
 body-ordered false (S.Return at (Some e)) up sh n env st =
     let hi = env.number + (typed e env).numbers in
     if-by (λ p. Unit {0}) (InBody n hi) (typed e env).part (returned env.key at env.result) (anything (typed e env).part) (λ p _. by hi env.result p)
   where
     by : (hi : ℕ) (o : Option VType) (p : Part) → IfPart (InBody n hi) (ok_of (returned env.key at o p))
     by hi None p = tt
-    by hi (Some t) p = if-then (λ a. Unit {0}) (InBody n hi) (fitted t T14 at p) (λ a. P.Return env.key at (Some a)) (anything (ok_of (fitted t T14 at p))) (λ a _. (tt, λ w q r b. refl))
+    by hi (Some t) p = if-then (λ a. Unit {0}) (InBody n hi) (fitted t T14 at p) (λ a. P.Return env.key at (Some a)) (anything (ok_of (fitted t T14 at p))) (λ a _. (tt, λ w q r. refl))

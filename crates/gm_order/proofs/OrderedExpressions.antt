@@ -1,32 +1,28 @@
 -- Faults in the expressions of a text stand in order.
-use Rattle.std.proofs.Common.{◌≡◌, ◌+◌, ◌<◌, ℕ, Bool, true, false, List, [], ◌∷◌, ◌++◌, ◌⊎◌, inl, inr, refl, sym, ap, subst, ◌∙◌, arith, Option, Some, None}
-use Rattle.std.specs.Prelude.{not, if◌then◌else◌, ◌&&◌, ◌||◌, nat_eq}
+use Rattle.std.proofs.Common.{◌≡◌, ◌<◌, ℕ, Bool, true, false, List, [], ◌∷◌, ◌++◌, inl, inr, refl, sym, ap, subst, ◌∙◌, arith}
+use Rattle.std.specs.Prelude.{not, if◌then◌else◌, ◌&&◌, nat_eq}
 use Rattle.std.specs.Cmp.Derive.{both_true}
 use Rattle.std.proofs.lemmas.Bool.{both_ways, false≢true, eqb-true}
 use Rattle.gm_base.specs.declared.places.Place.{Place}
-use Rattle.gm_base.specs.Places.{place_eq, place_lt}
-use Rattle.gm_base.specs.declared.rules.Refusal.{Refusal}
-use Rattle.gm_value.specs.declared.operations.Op1.{Op1}
-use Rattle.gm_value.specs.declared.operations.Op1.TheVariants as Op1
+use Rattle.gm_base.specs.Places.{place_eq}
 use Rattle.gm_value.specs.declared.operations.Op2.{Op2}
-use Rattle.gm_value.specs.declared.values.Value.{Value}
-use Rattle.gm_ast.specs.declared.tree.Direction.{Direction}
+use Rattle.gm_ast.specs.declared.surface.ReductionWord.{ReductionWord}
+use Rattle.gm_ast.specs.declared.surface.ReductionWord.TheVariants as words
 use Rattle.gm_ast.specs.declared.tree.Declaration.{Declaration}
 use Rattle.gm_ast.specs.declared.tree.Fold.{Fold}
 use Rattle.gm_ast.specs.declared.tree.Head.{Head}
 use Rattle.gm_ast.specs.declared.tree.Key.{Key}
 use Rattle.gm_ast.specs.Canonical as C
 use Rattle.gm_ast.specs.Canonical.{Around, Loop, is_parallel, within, nesting_broken, range_broken, read_broken, reads_broken}
-use Rattle.gm_ast.specs.Kinds.{narrowed, is_empty}
+use Rattle.gm_ast.specs.Kinds.{narrowed}
 use Rattle.gm_ast.specs.Keys.{Fault, fault_lt, total_fault, all_before}
 use Rattle.gm_ast.specs.Program as P
 use Rattle.gm_ast.specs.Program.{Expr}
 use Rattle.gm_forms.proofs.Named.{both-true}
-use Rattle.gm_forms.specs.Order.{lie_before, can_fail1, can_fail2, fault_if, rest_in, hoisted_in, hoists_in_order, folds_in_order}
+use Rattle.gm_forms.specs.Order.{lie_before, can_fail1, can_fail2, fault_if, rest_in, takes_conditions, fold_fault, hoisted_in, hoists_in_order, folds_in_order}
 use Rattle.gm_ready.proofs.Judging.{append-empty}
-use Rattle.gm_order.specs.Places.{ascend}
-use Rattle.gm_order.specs.Totals.{is_behind, totals_behind, inner_totals_behind}
-use Rattle.gm_order.proofs.Befores.{Each, each-append, each-map, before-one, before-append, lie, nothing-before, inner, operators, totals, KeyBefore, stage-before, statement-before, Among, among-left, among-right, ascend-across, ascend-left, ascend-right, ascend-tail, At, wider, lie-keys, one-keys, lie-places, one-places}
+use Rattle.gm_order.specs.Places.{ascend, may_be_bare}
+use Rattle.gm_order.proofs.Befores.{Each, each-append, each-map, before-one, before-append, lie, nothing-before, inner, operators, totals, stage-before, statement-before, Among, among-left, among-right, ascend-across, ascend-right, ascend-tail, At, wider, lie-keys, one-keys, lie-places, one-places}
 use Rattle.gm_order.proofs.Keeping.{IsKept}
 
 ap2 : {A B C : Type 0} (f : A → B → C) {a a' : A} {b b' : B} → a ≡ a' → b ≡ b' → f a b ≡ f a' b'
@@ -38,15 +34,14 @@ ap2 f {a'} {b} p q = ap (λ x. f x b) p ∙ ap (λ y. f a' y) q
 abbrev Same : Expr → Expr → Type 0
 Same e f =
     (hoisted_in f ≡ hoisted_in e) × ((k : Key) → rest_in f k ≡ rest_in e k) × (hoists_in_order f ≡ hoists_in_order e)
-    × ((w : Around) → reads_broken f w ≡ reads_broken e w) × (totals_behind f ≡ totals_behind e)
-    × (inner_totals_behind f ≡ inner_totals_behind e) × (folds_in_order f ≡ folds_in_order e)
+    × ((w : Around) → reads_broken f w ≡ reads_broken e w) × (folds_in_order f ≡ folds_in_order e)
 
 same-self : (e : Expr) → Same e e
-same-self e = (refl, λ k. refl, refl, λ w. refl, refl, refl, refl)
+same-self e = (refl, λ k. refl, refl, λ w. refl, refl)
 
 narrowed-same : (e : Expr) → Same e (narrowed e)
-narrowed-same (P.Const v) = (refl, λ k. refl, refl, λ w. refl, refl, refl, refl)
-narrowed-same (P.Unary op at e) = let s = narrowed-same e in (s.0, λ k. ap (λ xs. fault_if (can_fail1 op) k at ++ xs) (s.1 k), s.2, s.3, s.4, s.5, s.6)
+narrowed-same (P.Const v) = (refl, λ k. refl, refl, λ w. refl, refl)
+narrowed-same (P.Unary op at e) = let s = narrowed-same e in (s.0, λ k. ap (λ xs. fault_if (can_fail1 op) k at ++ xs) (s.1 k), s.2, s.3, s.4)
 narrowed-same (P.Binary op at a b) =
     let x = narrowed-same a in
     let y = narrowed-same b in (
@@ -55,8 +50,6 @@ narrowed-same (P.Binary op at a b) =
       ap2 (λ c d. c && d) x.2 (ap2 (λ c d. c && d) y.2 (ap2 lie_before x.0 y.0)),
       λ w. ap2 (λ xs ys. xs ++ ys) (x.3 w) (y.3 w),
       ap2 (λ c d. c && d) x.4 y.4,
-      ap2 (λ c d. c && d) x.5 y.5,
-      ap2 (λ c d. c && d) x.6 y.6,
     )
 narrowed-same (P.Choose c a b) =
     let x = narrowed-same a in
@@ -65,9 +58,7 @@ narrowed-same (P.Choose c a b) =
       λ k. ap (λ zs. rest_in c k ++ zs) (ap2 (λ xs ys. xs ++ ys) (x.1 k) (y.1 k)),
       ap (λ d. hoists_in_order c && d) (ap2 (λ c d. c && d) x.2 (ap2 (λ c d. c && d) y.2 (ap2 (λ c d. c && d) (ap (lie_before (hoisted_in c)) (ap2 (λ xs ys. xs ++ ys) x.0 y.0)) (ap2 lie_before x.0 y.0)))),
       λ w. ap (λ zs. reads_broken c w ++ zs) (ap2 (λ xs ys. xs ++ ys) (x.3 w) (y.3 w)),
-      ap (λ d. totals_behind c && d) (ap2 (λ c d. c && d) x.4 y.4),
-      ap (λ d. inner_totals_behind c && d) (ap2 (λ c d. c && d) x.5 y.5),
-      ap (λ d. folds_in_order c && d) (ap2 (λ c d. c && d) x.6 y.6),
+      ap (λ d. folds_in_order c && d) (ap2 (λ c d. c && d) x.4 y.4),
     )
 narrowed-same (P.Var x at) = same-self (P.Var x at)
 narrowed-same (P.Property x p at) = same-self (P.Property x p at)
@@ -142,10 +133,25 @@ no-fold (P.Folded f h test e) w d r =
     let s = append-empty (range_broken w.loops h) (reads_broken test v ++ reads_broken e v) r in
     absurd (no-nesting w.loops h d (append-empty (nesting_broken w.loops h) _ s.0).0)
 
+-- ---- totals
+
+bare-takes : (w : ReductionWord) → may_be_bare w ≡ true → takes_conditions w ≡ true
+bare-takes words.Count h = refl
+bare-takes words.Exist h = refl
+bare-takes words.Sum h = absurd (false≢true h)
+bare-takes words.Product h = absurd (false≢true h)
+bare-takes words.Min h = absurd (false≢true h)
+bare-takes words.Max h = absurd (false≢true h)
+bare-takes words.All h = absurd (false≢true h)
+
+lie-if : (xs : List Fault) (b : Bool) (k : Key) (at : Place) → all_before xs (record { key = k; place = at }) ≡ true → lie_before xs (fault_if b k at) ≡ true
+lie-if xs true k at h = both_true h refl
+lie-if xs false k at h = refl
+
 -- ---- expressions of parallel code, in the statement of a number
 
 abbrev pub Ordered : Expr → Type 0
-Ordered e = (w : Around) → is_parallel w.loops ≡ true → reads_broken e w ≡ [] → totals_behind e ≡ true → hoists_in_order e ≡ true
+Ordered e = (w : Around) → is_parallel w.loops ≡ true → reads_broken e w ≡ [] → hoists_in_order e ≡ true
 
 module _ (n : ℕ) where
   abbrev pub InParallel : List Place → Expr → Type 0
@@ -171,12 +177,11 @@ module _ (n : ℕ) where
     lie-two : (k : Key) (xs ys : List Fault) → Each (At k ps) xs → Each (At k qs) ys → lie_before xs ys ≡ true
     lie-two k xs ys h g = lie-places k ps qs xs ys (λ p q a b. ascend-across ps (at ∷ qs) up p q a (inr b)) h g
 
-    ordered-two : (a b : Expr) → InParallel ps a → InParallel qs b → (w : Around) → is_parallel w.loops ≡ true → reads_broken a w ++ reads_broken b w ≡ [] → totals_behind a && totals_behind b ≡ true
+    ordered-two : (a b : Expr) → InParallel ps a → InParallel qs b → (w : Around) → is_parallel w.loops ≡ true → reads_broken a w ++ reads_broken b w ≡ []
         → hoists_in_order a && (hoists_in_order b && lie_before (hoisted_in a) (hoisted_in b)) ≡ true
-    ordered-two a b x y w p r t =
+    ordered-two a b x y w p r =
         let s = append-empty (reads_broken a w) (reads_broken b w) r in
-        let u = both-true (totals_behind a) (totals_behind b) t in
-        both_true (x.2 w p s.0 u.0) (both_true (y.2 w p s.1 u.1) (lie-two (inner n) (hoisted_in a) (hoisted_in b) x.0 y.0))
+        both_true (x.2 w p s.0) (both_true (y.2 w p s.1) (lie-two (inner n) (hoisted_in a) (hoisted_in b) x.0 y.0))
 
     binary-parallel : (op : Op2) (a b : Expr) → InParallel ps a → InParallel qs b → InParallel (ps ++ (at ∷ qs)) (P.Binary op at a b)
     binary-parallel op a b x y = (
@@ -202,12 +207,10 @@ module _ (n : ℕ) where
     choose-parallel c a b x y z = (
       each-two ps (qs ++ rs) at up (inner n) (hoisted_in c) (hoisted_in a ++ hoisted_in b) x.0 (each-back (inner n) (hoisted_in a) (hoisted_in b) y.0 z.0),
       λ k. each-two ps (qs ++ rs) at up k (rest_in c k) (rest_in a k ++ rest_in b k) (x.1 k) (each-back k (rest_in a k) (rest_in b k) (y.1 k) (z.1 k)),
-      λ w p r t.
+      λ w p r.
           let s = append-empty (reads_broken c w) (reads_broken a w ++ reads_broken b w) r in
           let u = append-empty (reads_broken a w) (reads_broken b w) s.1 in
-          let v = both-true (totals_behind c) (totals_behind a && totals_behind b) t in
-          let o = both-true (totals_behind a) (totals_behind b) v.1 in
-          both_true (x.2 w p s.0 v.0) (both_true (y.2 w p u.0 o.0) (both_true (z.2 w p u.1 o.1) (both_true
+          both_true (x.2 w p s.0) (both_true (y.2 w p u.0) (both_true (z.2 w p u.1) (both_true
           (lie-two ps (qs ++ rs) at up (inner n) (hoisted_in c) (hoisted_in a ++ hoisted_in b) x.0 (each-back (inner n) (hoisted_in a) (hoisted_in b) y.0 z.0))
           (lie-places (inner n) qs rs (hoisted_in a) (hoisted_in b) (ascend-across qs rs back) y.0 z.0)))),
     )
@@ -216,18 +219,18 @@ module _ (n : ℕ) where
   same-parallel ps e f s h = (
     subst (Each (At (inner n) ps)) (sym s.0) h.0,
     λ k. subst (Each (At k ps)) (sym (s.1 k)) (h.1 k),
-    λ w p r t. s.2 ∙ h.2 w p (sym (s.3 w) ∙ r) (sym s.4 ∙ t),
+    λ w p r. s.2 ∙ h.2 w p (sym (s.3 w) ∙ r),
   )
 
   pub parallel-kept : IsKept InParallel
   parallel-kept = record {
-    constant = λ ps v. (tt, λ k. tt, λ w p r t. refl);
-    variable = λ ps x at. (tt, λ k. tt, λ w p r t. refl);
-    property = λ ps x p at here. (tt, λ k. one k ps at here, λ w q r t. refl);
-    edge = λ ps x p at. (tt, λ k. tt, λ w q r t. refl);
-    degree = λ ps d x at here. (tt, λ k. one k ps at here, λ w p r t. refl);
-    nodes = λ ps. (tt, λ k. tt, λ w p r t. refl);
-    edges = λ ps. (tt, λ k. tt, λ w p r t. refl);
+    constant = λ ps v. (tt, λ k. tt, λ w p r. refl);
+    variable = λ ps x at. (tt, λ k. tt, λ w p r. refl);
+    property = λ ps x p at here. (tt, λ k. one k ps at here, λ w q r. refl);
+    edge = λ ps x p at. (tt, λ k. tt, λ w q r. refl);
+    degree = λ ps d x at here. (tt, λ k. one k ps at here, λ w p r. refl);
+    nodes = λ ps. (tt, λ k. tt, λ w p r. refl);
+    edges = λ ps. (tt, λ k. tt, λ w p r. refl);
     unary = λ ps op at e here h. (h.0, λ k. each-append (At k ps) (fault_if (can_fail1 op) k at) (rest_in e k) (failing (can_fail1 op) k ps at here) (h.1 k), h.2);
     long = λ ps at e h. (h.0, h.1, h.2);
     wide = λ ps qs e w h. (wider (inner n) ps qs (hoisted_in e) w h.0, λ k. wider k ps qs (rest_in e k) w (h.1 k), h.2);
@@ -245,10 +248,6 @@ module _ (n : ℕ) where
       let s = both-true (nat_eq a.line b.line) (nat_eq a.col b.col) h in
       ap2 (λ l c. record { line = l; col = c }) (eqb-true a.line b.line s.0) (eqb-true a.col b.col s.1)
 
-  empty-is : {A : Type 0} (xs : List A) → is_empty xs ≡ true → xs ≡ []
-  empty-is [] h = refl
-  empty-is (x ∷ xs) h = absurd (false≢true h)
-
   module _ (f : Fold) (head : Head) (test e : Expr) (ps qs : List Place) (x o : Place)
       (filter-key : f.filter ≡ inner n) (body-key : f.body ≡ inner n) (total-key : f.total.key ≡ inner n) (h : InParallel ps test) (g : InParallel qs e) where
     front : Each (At (inner n) ps) (hoisted_in test ++ rest_in test f.filter)
@@ -264,81 +263,84 @@ module _ (n : ℕ) where
     abbrev all : Bool → List Place
     all bare = f.total.shown ∷ (x ∷ (o ∷ (ps ++ (qs ++ ends bare))))
 
-    total-among : (bare : Bool) → place_eq f.total.shown f.total.place ≡ bare → Among (all bare) f.total.place
-    total-among true b = inl (same-place f.total.shown f.total.place b)
+    abbrev is-bare : Bool
+    is-bare = may_be_bare f.word && place_eq f.total.shown f.total.place
+
+    total-among : (bare : Bool) → is-bare ≡ bare → Among (all bare) f.total.place
+    total-among true b = inl (same-place f.total.shown f.total.place (both-true (may_be_bare f.word) (place_eq f.total.shown f.total.place) b).1)
     total-among false b = inr (inr (inr (among-right ps (qs ++ (f.total.place ∷ [])) f.total.place (among-right qs (f.total.place ∷ []) f.total.place (inl refl)))))
 
-    hoisted-folded : (bare : Bool) → place_eq f.total.shown f.total.place ≡ bare → Each (At (inner n) (all bare)) (hoisted_in (P.Folded f head test e))
-    hoisted-folded bare b =
-        each-append (At (inner n) (all bare)) (hoisted_in test ++ rest_in test f.filter) ((hoisted_in e ++ rest_in e f.body) ++ (total_fault f.total ∷ []))
-        (wider (inner n) ps (all bare) (hoisted_in test ++ rest_in test f.filter) (λ p a. inr (inr (inr (among-left ps (qs ++ ends bare) p a)))) front)
-        (each-append (At (inner n) (all bare)) (hoisted_in e ++ rest_in e f.body) (total_fault f.total ∷ [])
-        (wider (inner n) qs (all bare) (hoisted_in e ++ rest_in e f.body) (λ p a. inr (inr (inr (among-right ps (qs ++ ends bare) p (among-left qs (ends bare) p a))))) behind)
-        ((total-key, total-among bare b), tt))
+    total-fault : (bare : Bool) → is-bare ≡ bare → Each (At (inner n) (all bare)) (fold_fault f)
+    total-fault bare b = subst (λ k. Each (At (inner n) (all bare)) (fault_if (not (takes_conditions f.word)) k f.total.place)) (sym total-key) (failing (not (takes_conditions f.word)) (inner n) (all bare) f.total.place (total-among bare b))
 
-    -- what the total is made of comes before it
-    before-total : (bare : Bool) → place_eq f.total.shown f.total.place ≡ bare → ascend (ps ++ (qs ++ ends bare)) ≡ true → hoisted_in test ≡ [] → hoisted_in e ≡ [] → is_behind f test e ≡ true
-        → all_before ((hoisted_in test ++ rest_in test f.filter) ++ (hoisted_in e ++ rest_in e f.body)) (total_fault f.total) ≡ true
-    before-total true b up none nothing ok =
-        let s = both-true (is_empty (rest_in test f.filter)) (is_empty (rest_in e f.body)) (ap (λ c. not c || (is_empty (rest_in test f.filter) && is_empty (rest_in e f.body))) (sym b) ∙ ok) in
-        ap (λ zs. all_before zs (total_fault f.total)) (append-none (hoisted_in test ++ rest_in test f.filter) (hoisted_in e ++ rest_in e f.body)
-        (append-none (hoisted_in test) (rest_in test f.filter) none (empty-is (rest_in test f.filter) s.0)) (append-none (hoisted_in e) (rest_in e f.body) nothing (empty-is (rest_in e f.body) s.1)))
-    before-total false b up none nothing ok =
+    hoisted-folded : (bare : Bool) → is-bare ≡ bare → Each (At (inner n) (all bare)) (hoisted_in (P.Folded f head test e))
+    hoisted-folded bare b =
+        each-append (At (inner n) (all bare)) (hoisted_in test ++ rest_in test f.filter) ((hoisted_in e ++ rest_in e f.body) ++ fold_fault f)
+        (wider (inner n) ps (all bare) (hoisted_in test ++ rest_in test f.filter) (λ p a. inr (inr (inr (among-left ps (qs ++ ends bare) p a)))) front)
+        (each-append (At (inner n) (all bare)) (hoisted_in e ++ rest_in e f.body) (fold_fault f)
+        (wider (inner n) qs (all bare) (hoisted_in e ++ rest_in e f.body) (λ p a. inr (inr (inr (among-right ps (qs ++ ends bare) p (among-left qs (ends bare) p a))))) behind)
+        (total-fault bare b))
+
+    -- what the total is made of comes before it, where it has a fault
+    abbrev Made : List Fault
+    Made = (hoisted_in test ++ rest_in test f.filter) ++ (hoisted_in e ++ rest_in e f.body)
+
+    before-total : (bare : Bool) → is-bare ≡ bare → ascend (ps ++ (qs ++ ends bare)) ≡ true → lie_before Made (fold_fault f) ≡ true
+    before-total true b up = ap (λ c. lie_before Made (fault_if (not c) f.total.key f.total.place)) (bare-takes f.word (both-true (may_be_bare f.word) (place_eq f.total.shown f.total.place) b).0)
+    before-total false b up =
         let back = ascend-right ps (qs ++ (f.total.place ∷ [])) up in
-        before-append (hoisted_in test ++ rest_in test f.filter) (hoisted_in e ++ rest_in e f.body) (total_fault f.total)
+        lie-if Made (not (takes_conditions f.word)) f.total.key f.total.place
+        (before-append (hoisted_in test ++ rest_in test f.filter) (hoisted_in e ++ rest_in e f.body) (total_fault f.total)
         (one-places (inner n) ps (hoisted_in test ++ rest_in test f.filter) (total_fault f.total)
         (λ p a. ascend-across ps (qs ++ (f.total.place ∷ [])) up p f.total.place a (among-right qs (f.total.place ∷ []) f.total.place (inl refl))) front total-key)
-        (one-places (inner n) qs (hoisted_in e ++ rest_in e f.body) (total_fault f.total) (λ p a. ascend-across qs (f.total.place ∷ []) back p f.total.place a (inl refl)) behind total-key)
+        (one-places (inner n) qs (hoisted_in e ++ rest_in e f.body) (total_fault f.total) (λ p a. ascend-across qs (f.total.place ∷ []) back p f.total.place a (inl refl)) behind total-key))
 
-    pub folded-parallel : (bare : Bool) → place_eq f.total.shown f.total.place ≡ bare → ascend (ps ++ (qs ++ ends bare)) ≡ true → InParallel (all bare) (P.Folded f head test e)
+    pub folded-parallel : (bare : Bool) → is-bare ≡ bare → ascend (ps ++ (qs ++ ends bare)) ≡ true → InParallel (all bare) (P.Folded f head test e)
     folded-parallel bare b up = (
       hoisted-folded bare b,
       λ k. tt,
-      λ w p r t.
+      λ w p r.
           let v = within w C.Reduction head.iterator in
           let s = append-empty (range_broken w.loops head) (reads_broken test v ++ reads_broken e v) r in
           let u = append-empty (reads_broken test v) (reads_broken e v) s.1 in
           let deep = deeper w.loops (record { code = C.Reduction; iterator = head.iterator }) p in
           let none = no-fold test v deep u.0 in
           let nothing = no-fold e v deep u.1 in
-          let ok = both-true (is_behind f test e) (totals_behind test && totals_behind e) t in
           both_true none.1 (both_true nothing.1 (both_true (nothing-before (hoisted_in test) (rest_in test f.filter) none.0) (both_true (nothing-before (hoisted_in e) (rest_in e f.body) nothing.0) (both_true
           (lie-places (inner n) ps qs (hoisted_in test ++ rest_in test f.filter) (hoisted_in e ++ rest_in e f.body) (λ p q a c. ascend-across ps (qs ++ ends bare) up p q a (among-left qs (ends bare) q c)) front behind)
-          (before-total bare b up none.0 nothing.0 ok.0))))),
+          (before-total bare b up))))),
     )
 
 -- ---- expressions of a sequential phase
 
 abbrev pub InSequence : List Place → Expr → Type 0
-InSequence ps e = (ds : List Declaration) → reads_broken e (C.sequential ds) ≡ [] → inner_totals_behind e ≡ true → folds_in_order e ≡ true
+InSequence ps e = (ds : List Declaration) → reads_broken e (C.sequential ds) ≡ [] → folds_in_order e ≡ true
 
 two-in-sequence : (ps qs rs : List Place) (a b : Expr) → InSequence ps a → InSequence qs b → (ds : List Declaration) → reads_broken a (C.sequential ds) ++ reads_broken b (C.sequential ds) ≡ []
-    → inner_totals_behind a && inner_totals_behind b ≡ true → folds_in_order a && folds_in_order b ≡ true
-two-in-sequence ps qs rs a b x y ds r t =
+    → folds_in_order a && folds_in_order b ≡ true
+two-in-sequence ps qs rs a b x y ds r =
     let s = append-empty (reads_broken a (C.sequential ds)) (reads_broken b (C.sequential ds)) r in
-    let u = both-true (inner_totals_behind a) (inner_totals_behind b) t in
-    both_true (x ds s.0 u.0) (y ds s.1 u.1)
+    both_true (x ds s.0) (y ds s.1)
 
 pub sequence-kept : IsKept InSequence
 sequence-kept = record {
-  constant = λ ps v ds r t. refl;
-  variable = λ ps x at ds r t. refl;
-  property = λ ps x p at here ds r t. refl;
-  edge = λ ps x p at ds r t. refl;
-  degree = λ ps d x at here ds r t. refl;
-  nodes = λ ps ds r t. refl;
-  edges = λ ps ds r t. refl;
-  unary = λ ps op at e here h ds r t. h ds r t;
-  long = λ ps at e h ds r t. h ds r t;
-  wide = λ ps qs e w h ds r t. h ds r t;
+  constant = λ ps v ds r. refl;
+  variable = λ ps x at ds r. refl;
+  property = λ ps x p at here ds r. refl;
+  edge = λ ps x p at ds r. refl;
+  degree = λ ps d x at here ds r. refl;
+  nodes = λ ps ds r. refl;
+  edges = λ ps ds r. refl;
+  unary = λ ps op at e here h ds r. h ds r;
+  long = λ ps at e h ds r. h ds r;
+  wide = λ ps qs e w h ds r. h ds r;
   binary = λ ps qs op at a b up x y. two-in-sequence ps qs [] a b x y;
   both = λ ps qs at a b up x y. two-in-sequence ps qs [] a b x y;
   either = λ ps qs at a b up x y. two-in-sequence ps qs [] a b x y;
-  choose = λ ps qs rs at c a b up x y z ds r t.
+  choose = λ ps qs rs at c a b up x y z ds r.
       let s = append-empty (reads_broken c (C.sequential ds)) (reads_broken a (C.sequential ds) ++ reads_broken b (C.sequential ds)) r in
-      let v = both-true (inner_totals_behind c) (inner_totals_behind a && inner_totals_behind b) t in
-      both_true (x ds s.0 v.0) (two-in-sequence qs rs [] a b y z ds s.1 v.1);
-  narrow = λ ps e h ds r t. let s = narrowed-same e in s.6 ∙ h ds (sym (s.3 (C.sequential ds)) ∙ r) (sym s.5 ∙ t);
+      both_true (x ds s.0) (two-in-sequence qs rs [] a b y z ds s.1);
+  narrow = λ ps e h ds r. let s = narrowed-same e in s.4 ∙ h ds (sym (s.3 (C.sequential ds)) ∙ r);
 }
 
 abbrev OfStatement : ℕ → Fault → Type 0
@@ -353,21 +355,21 @@ statements-apart m n a b lt e g = statement-before a.key b.key (omega (arith, lt
 -- a reduction of a sequential phase, whose filter and braces are parallel code under numbers of their own
 pub folded-sequence : (f : Fold) (head : Head) (test e : Expr) (ps qs rs : List Place) (m n : ℕ) → m < n → f.filter ≡ operators m → f.body ≡ operators n → f.total.key ≡ totals n
     → InParallel m ps test → InParallel n qs e → InSequence rs (P.Folded f head test e)
-folded-sequence f head test e ps qs rs m n lt filter-key body-key total-key h g ds r t =
+folded-sequence f head test e ps qs rs m n lt filter-key body-key total-key h g ds r =
     let v = within (C.sequential ds) C.Reduction head.iterator in
     let s = append-empty (range_broken [] head) (reads_broken test v ++ reads_broken e v) r in
     let u = append-empty (reads_broken test v) (reads_broken e v) s.1 in
-    let ok = both-true (totals_behind test) (totals_behind e) t in
     let rest-test = subst (λ k. Each (At (operators m) ps) (rest_in test k)) (sym filter-key) (h.1 (operators m)) in
     let rest-e = subst (λ k. Each (At (operators n) qs) (rest_in e k)) (sym body-key) (g.1 (operators n)) in
     let front : Each (OfStatement m) (hoisted_in test ++ rest_in test f.filter) = each-append (OfStatement m) (hoisted_in test) (rest_in test f.filter) (of-statement (inner m) ps m (hoisted_in test) refl h.0) (of-statement (operators m) ps m (rest_in test f.filter) refl rest-test) in
     let behind : Each (OfStatement n) (hoisted_in e ++ rest_in e f.body) = each-append (OfStatement n) (hoisted_in e) (rest_in e f.body) (of-statement (inner n) qs n (hoisted_in e) refl g.0) (of-statement (operators n) qs n (rest_in e f.body) refl rest-e) in
-    both_true (h.2 v refl u.0 ok.0) (both_true (g.2 v refl u.1 ok.1) (both_true
+    both_true (h.2 v refl u.0) (both_true (g.2 v refl u.1) (both_true
     (lie-keys (inner m) (operators m) ps ps (hoisted_in test) (rest_in test f.filter) (stage-before (inner m) (operators m) refl refl) h.0 rest-test) (both_true
     (lie-keys (inner n) (operators n) qs qs (hoisted_in e) (rest_in e f.body) (stage-before (inner n) (operators n) refl refl) g.0 rest-e) (both_true
     (lie (OfStatement m) (OfStatement n) (hoisted_in test ++ rest_in test f.filter) (hoisted_in e ++ rest_in e f.body) front behind (λ a b x y. statements-apart m n a b lt x y))
+    (lie-if ((hoisted_in test ++ rest_in test f.filter) ++ (hoisted_in e ++ rest_in e f.body)) (not (takes_conditions f.word)) f.total.key f.total.place
     (before-append (hoisted_in test ++ rest_in test f.filter) (hoisted_in e ++ rest_in e f.body) (total_fault f.total)
     (before-one (OfStatement m) (hoisted_in test ++ rest_in test f.filter) (total_fault f.total) front (λ a x. statements-apart m n a (total_fault f.total) lt x (ap (λ (j : Key). j.statement) total-key)))
     (before-append (hoisted_in e) (rest_in e f.body) (total_fault f.total)
     (one-keys (inner n) (totals n) qs (hoisted_in e) (total_fault f.total) (stage-before (inner n) (totals n) refl refl) g.0 total-key)
-    (one-keys (operators n) (totals n) qs (rest_in e f.body) (total_fault f.total) (stage-before (operators n) (totals n) refl refl) rest-e total-key)))))))
+    (one-keys (operators n) (totals n) qs (rest_in e f.body) (total_fault f.total) (stage-before (operators n) (totals n) refl refl) rest-e total-key))))))))

@@ -1,6 +1,6 @@
 -- Faults in the parallel loops of a text stand in order.
-use Rattle.std.proofs.Common.{◌≡◌, ◌+◌, ◌<◌, ℕ, Bool, true, false, List, [], ◌∷◌, ◌++◌, inl, map, refl, sym, ap, subst, ◌∙◌, arith, append_assoc, Option, Some, None}
-use Rattle.std.specs.Prelude.{◌&&◌, nat_eq, is_none, Ok}
+use Rattle.std.proofs.Common.{◌≡◌, ◌+◌, ◌<◌, ℕ, Bool, true, false, List, [], ◌∷◌, ◌++◌, inl, map, refl, sym, ap, subst, arith, append_assoc, Option, Some, None}
+use Rattle.std.specs.Prelude.{is_none, Ok}
 use Rattle.std.specs.Cmp.Derive.{both_true}
 use Rattle.std.proofs.lemmas.Bool.{false≢true}
 use Rattle.gm_base.specs.declared.places.Place.{Place}
@@ -16,7 +16,6 @@ use Rattle.gm_ast.specs.declared.tree.Key.{Key}
 use Rattle.gm_ast.specs.declared.tree.Search.{Search}
 use Rattle.gm_ast.specs.declared.tree.Sort.{Sort}
 use Rattle.gm_ast.specs.declared.tree.Sort.TheVariants as Sorts
-use Rattle.gm_ast.specs.declared.tree.Target.{Target}
 use Rattle.gm_ast.specs.declared.kinds.Goal.{Goal}
 use Rattle.gm_ast.specs.declared.kinds.Role.TheVariants.{Local}
 use Rattle.gm_ast.specs.declared.surface.LoopWord.TheVariants as Loop
@@ -26,28 +25,27 @@ use Rattle.gm_ast.specs.Program as P
 use Rattle.gm_ast.specs.Program.{Expr, Stmt}
 use Rattle.gm_ast.specs.Canonical as C
 use Rattle.gm_ast.specs.Canonical.{within, reads_broken, all_broken, option_broken, forms_broken, assignment_broken, sequential_only, not_inner, range_broken, uncanonical}
-use Rattle.gm_ast.specs.Judged.{Judged, Answer, judge, beside, noted, ok_of, refused_unless, then_answer}
-use Rattle.gm_ast.specs.Names.{Env, known_as, both, judged_each, iterated, inside, later, numbered, declared_as, an_iterator}
+use Rattle.gm_ast.specs.Judged.{Judged, Answer, beside, noted, ok_of, refused_unless, then_answer}
+use Rattle.gm_ast.specs.Names.{Env, known_as, both, iterated, inside, later, numbered, declared_as, an_iterator}
 use Rattle.gm_ast.specs.Kinds.{Part, fitted}
 use Rattle.gm_ast.specs.Typing.{typed, start_of, ranged, head_with}
-use Rattle.gm_ast.specs.Statements.{group_target, in_group, goal, fits_goal, reduces, first_wanted, total_at, fits_each, all_answers, combined, one_of, incremented, typed_all, goals_together, reduced, names_graph, grouped, assigned, deferred, assignment, returned, at_iterator, type_broken, sort_of, vtype_of, variable_of, declared_all, plain_declarations, declarations_as, declared_plainly, edge_declared, edge_owner, declared_value, declared_typed, declared_with, following, loops_of, loop_of, test, graph_searched, rooted, search_of, searched, checked}
+use Rattle.gm_ast.specs.Statements.{group_target, in_group, goal, fits_goal, reduces, first_wanted, total_at, fits_each, all_answers, combined, one_of, incremented, typed_all, goals_together, reduced, names_graph, grouped, assigned, deferred, assignment, returned, type_broken, sort_of, vtype_of, variable_of, declared_all, plain_declarations, declarations_as, edge_declared, edge_owner, declared_value, declared_typed, declared_with, following, loop_of, test, graph_searched, rooted, search_of, searched, checked}
 use Rattle.gm_ast.specs.Procedures.{elaborated, all_parameters, env_of_body, head_broken}
 use Rattle.gm_forms.proofs.Named.{both-true}
-use Rattle.gm_forms.specs.Order.{lie_before, hoisted_in, hoists_in_order, folds_in_order, option_folds, all_folds, in_order, loop_in_order, loops_in_order, is_ordered}
+use Rattle.gm_forms.specs.Order.{hoisted_in, all_folds, loop_in_order, loops_in_order, is_ordered}
 use Rattle.gm_ready.proofs.Judging.{IfPart, if-by, if-both, if-good, if-then, append-empty}
 use Rattle.gm_order.specs.Places.{ascend, places_of_each, places_in, places_of_target, place_of_option, places_of}
-use Rattle.gm_order.specs.Totals.{totals_behind, inner_totals_behind, all_behind, body_behind, phase_behind, has_totals_behind}
 use Rattle.gm_order.proofs.Parts.{anything, if-with, if-judged}
-use Rattle.gm_order.proofs.Befores.{inner, operators, stage-before, lie-keys, At, ascend-tail, ascend-left, ascend-right}
+use Rattle.gm_order.proofs.Befores.{inner, operators, lie-keys, ascend-tail, ascend-left, ascend-right}
 use Rattle.gm_order.proofs.Keeping.{KeptPart, fitted-kept, condition-kept}
 use Rattle.gm_order.proofs.OrderedExpressions.{InParallel, parallel-kept, InSequence, sequence-kept}
 use Rattle.gm_order.proofs.OrderedTyping.{not-zero, Parallel, parallel-typed, sequence-typed}
-use Rattle.gm_order.proofs.OrderedBodies.{InBody, expr-order, inner-before, loop-order, test-kept, beside-iterator, numbered_env, Stands, body-ordered}
+use Rattle.gm_order.proofs.OrderedBodies.{InBody, expr-order, inner-before, loop-order, test-kept, beside-iterator, numbered_env, body-ordered}
 use Rattle.gm_order.proofs.Shapes.{shaped}
 
 -- the parallel loops of a statement of a sequential phase stand in order
 abbrev InPhase : Stmt → Type 0
-InPhase s = (ds : List Declaration) → forms_broken s (C.sequential ds) ≡ [] → phase_behind s ≡ true → loops_in_order s ≡ true
+InPhase s = (ds : List Declaration) → forms_broken s (C.sequential ds) ≡ [] → loops_in_order s ≡ true
 
 abbrev IfPhase : Answer Stmt → Type 0
 IfPhase a = IfPart InPhase (ok_of a)
@@ -74,7 +72,7 @@ module _ (n : ℕ) (env : Env) (st : Follows n env) (e : SurfaceExpr) (up : asce
   assigned-phase t at =
       if-by (λ p. Unit {0} × Part-kept p.1) InPhase (both (goal false t) (typed e) env).part (λ p. then_answer (fits_goal p.0.wanted T9 at p.1) (P.Assign env.key p.0.target)) (beside-kept (goal false t env))
       (λ p k. if-then (InSequence (places_in e)) InPhase (fits_goal p.0.wanted T9 at p.1) (P.Assign env.key p.0.target) (fits-goal (places_in e) p.0.wanted T9 at p.1 k.1)
-      (λ a m ds r b. m ds (append-empty (assignment_broken (C.sequential ds) p.0.target) (reads_broken a (C.sequential ds)) r).1 b))
+      (λ a m ds r. m ds (append-empty (assignment_broken (C.sequential ds) p.0.target) (reads_broken a (C.sequential ds)) r).1))
 
   grouped-phase : (x p : SurfaceName) (at : Place) → IfPart InPhase (grouped x p at e env).part
   grouped-phase x p at =
@@ -84,11 +82,11 @@ module _ (n : ℕ) (env : Env) (st : Follows n env) (e : SurfaceExpr) (up : asce
       if-by (λ xs. Unit {0} × InParallel n ps xs.1.core) InPhase (both (group_target x p) (in_group (typed e)) env).part (λ xs. then_answer (fitted xs.0.1.1 T9 at xs.1) (P.Group env.key x.place xs.0.0 xs.0.1.0))
       (if-both (λ a. Unit {0}) (KeptPart (InParallel n) (parallel-kept n) ps) target.part (typed e inner').part (anything target.part) (parallel-typed n e up inner' (ap (λ (j : Key). j.statement) st.0, not-zero env.depth)))
       (λ xs k. if-then (InParallel n ps) InPhase (fitted xs.0.1.1 T9 at xs.1) (P.Group env.key x.place xs.0.0 xs.0.1.0) (fitted-kept (InParallel n) (parallel-kept n) ps xs.0.1.1 T9 at xs.1 k.1)
-      (λ a m ds r b.
+      (λ a m ds r.
       let w = C.sequential ds in
       let s = append-empty (sequential_only w.loops x.place) (not_inner w.loops x.place ++ reads_broken a (within w C.Group' xs.0.0)) r in
       let u = append-empty (not_inner w.loops x.place) (reads_broken a (within w C.Group' xs.0.0)) s.1 in
-      both_true (expr-order n env.key st.0 ps a m (m.2 (within w C.Group' xs.0.0) refl u.1 b))
+      both_true (expr-order n env.key st.0 ps a m (m.2 (within w C.Group' xs.0.0) refl u.1))
       (lie-keys (inner n) env.key ps (x.place ∷ []) (hoisted_in a) (record { key = env.key; place = x.place } ∷ []) (inner-before n env.key st.0) m.0 ((refl, inl refl), tt))))
 
   assignment-phase : (o : Option SurfaceName) (t : SurfaceTarget) (at : Place) → IfPart InPhase (assignment o t at e env).part
@@ -96,7 +94,7 @@ module _ (n : ℕ) (env : Env) (st : Follows n env) (e : SurfaceExpr) (up : asce
   assignment-phase (Some p) t at = if-judged InPhase (names_graph (known_as env.known t.owner.text)) (grouped t.owner p at e env) (assigned t at e env) (grouped-phase t.owner p at) (assigned-phase t at)
 
   value-phase : (s : Sort) (x : SurfaceName) (at : Place) (t : VType) (p : ℕ × Part) → Part-kept p.1 → IfPhase (declared_value env.key x at t s p)
-  value-phase Sorts.Scalar x at t p k = if-then (InSequence (places_in e)) InPhase (fitted t T9 at p.1) (λ a. P.Declare env.key p.0 (Some a)) (fitted-kept InSequence sequence-kept (places_in e) t T9 at p.1 k) (λ a m ds r b. m ds r b)
+  value-phase Sorts.Scalar x at t p k = if-then (InSequence (places_in e)) InPhase (fitted t T9 at p.1) (λ a. P.Declare env.key p.0 (Some a)) (fitted-kept InSequence sequence-kept (places_in e) t T9 at p.1 k) (λ a m ds r. m ds r)
   value-phase Sorts.Edge x at t p k = tt
   value-phase Sorts.Graph x at t p k = tt
   value-phase Sorts.Iterator x at t p k = tt
@@ -106,14 +104,14 @@ module _ (n : ℕ) (env : Env) (st : Follows n env) (e : SurfaceExpr) (up : asce
   with-phase : (o : Option SurfaceName) (t : SurfaceType) (x : SurfaceName) (at : Place) → IfPart InPhase (declared_with o t x at e env).part
   with-phase (Some y) t x at =
       let parts = both (declared_typed t x) (edge_owner y) env in
-      if-by (λ p. Unit {0}) InPhase parts.part (λ p. Ok (P.DeclareEdge p.0 p.1.index y.place)) (anything parts.part) (λ p _ ds r b. refl)
+      if-by (λ p. Unit {0}) InPhase parts.part (λ p. Ok (P.DeclareEdge p.0 p.1.index y.place)) (anything parts.part) (λ p _ ds r. refl)
   with-phase None t x at =
       if-by (λ p. Unit {0} × Part-kept p.1) InPhase (both (declared_typed t x) (typed e) env).part (declared_value env.key x at (vtype_of t) (sort_of t))
       (beside-kept (declared_typed t x env)) (λ p k. value-phase (sort_of t) x at (vtype_of t) p k.1)
 
 plain-phase : (k : Key) (ns : List ℕ) → InPhase (plain_declarations k ns)
-plain-phase k [] = λ ds r b. refl
-plain-phase k (m ∷ ns) = λ ds r b. plain-phase k ns ds r b
+plain-phase k [] = λ ds r. refl
+plain-phase k (m ∷ ns) = λ ds r. plain-phase k ns ds r
 
 declarations-phase : (s : Sort) (k : Key) (xs : List SurfaceName) (ns : List ℕ) → IfPhase (declarations_as s k xs ns)
 declarations-phase Sorts.Edge k xs ns = tt
@@ -154,12 +152,11 @@ fits-all at (g ∷ gs) (p ∷ ps) h =
     if-with (InSequence h.0.0) AllIn AllIn (λ x xs. x ∷ xs) (fits_goal g.wanted T9 at p) (all_answers (fits_each at gs ps))
     (fits-goal h.0.0 g.wanted T9 at p h.0.1) (fits-all at gs ps h.1) (λ a rest m s. ((h.0.0, m), s))
 
-all-order : (es : List Expr) → AllIn es → (ds : List Declaration) → all_broken es (C.sequential ds) ≡ [] → all_behind inner_totals_behind es ≡ true → all_folds es ≡ true
-all-order [] h ds r b = refl
-all-order (e ∷ es) h ds r b =
+all-order : (es : List Expr) → AllIn es → (ds : List Declaration) → all_broken es (C.sequential ds) ≡ [] → all_folds es ≡ true
+all-order [] h ds r = refl
+all-order (e ∷ es) h ds r =
     let s = append-empty (reads_broken e (C.sequential ds)) (all_broken es (C.sequential ds)) r in
-    let t = both-true (inner_totals_behind e) (all_behind inner_totals_behind es) b in
-    both_true (h.0.1 ds s.0 t.0) (all-order es h.1 ds s.1 t.1)
+    both_true (h.0.1 ds s.0) (all-order es h.1 ds s.1)
 
 reduced-phase : (env : Env) → env.depth ≡ 0 → (ts : List SurfaceTarget) (r : Reduce) (at : Place) (es : List SurfaceExpr) → ascend (places_of_each places_in es) ≡ true → IfPart InPhase (reduced ts r at es env).part
 reduced-phase env d ts r at es up =
@@ -170,19 +167,19 @@ reduced-phase env d ts r at es up =
     (λ ps k. if-with (λ u. Unit {0}) AllIn InPhase (λ u xs. P.Combine env.key (total_at env.key at) r (map (λ g. g.target) ps.0) xs)
     (refused_unless (reduces r (first_wanted ps.0)) T11 at (tt {0})) (all_answers (fits_each at ps.0 ps.1))
     (anything (ok_of (refused_unless (reduces r (first_wanted ps.0)) T11 at (tt {0})))) (fits-all at ps.0 ps.1 k.1)
-    (λ u xs _ m ds q b. all-order xs m ds q b))
+    (λ u xs _ m ds q. all-order xs m ds q))
 
 incremented-phase : (k : Key) (at : Place) (g : Goal) (w : Option VType) → IfPhase (then_answer (one_of w at) (λ e. P.Combine k (total_at k at) R.Sum (g.target ∷ []) (e ∷ [])))
 incremented-phase k at g None = tt
-incremented-phase k at g (Some I32) = λ ds r b. refl
-incremented-phase k at g (Some I64) = λ ds r b. refl
+incremented-phase k at g (Some I32) = λ ds r. refl
+incremented-phase k at g (Some I64) = λ ds r. refl
 incremented-phase k at g (Some Flag) = tt
 incremented-phase k at g (Some Node) = tt
 
 returned-phase : (k : Key) (at : Place) (ps : List Place) (o : Option VType) (p : Part) → InSequence ps p.core → IfPhase (returned k at o p)
 returned-phase k at ps None p h = tt
 returned-phase k at ps (Some t) p h = if-then (InSequence ps) InPhase (fitted t T14 at p) (λ a. P.Return k at (Some a)) (fitted-kept InSequence sequence-kept ps t T14 at p h)
-    (λ a m ds r b. m ds (append-empty (not_inner [] at) (reads_broken a (C.sequential ds)) (append-empty (sequential_only [] at) (not_inner [] at ++ reads_broken a (C.sequential ds)) r).1).1 b)
+    (λ a m ds r. m ds (append-empty (not_inner [] at) (reads_broken a (C.sequential ds)) (append-empty (sequential_only [] at) (not_inner [] at ++ reads_broken a (C.sequential ds)) r).1).1)
 
 -- ---- parallel loops
 
@@ -209,11 +206,11 @@ code-kept n filter body up sh env m lt =
     found lo hi lt (Some s) h = (lo, (hi, (lt, h)))
 
 code-order : (n : ℕ) (k : Key) → k ≡ operators n → (ps : List Place) (p : Expr × Stmt) → AreCode n ps p → (v u : C.Around) → C.is_parallel v.loops ≡ true → C.is_parallel u.loops ≡ true
-    → reads_broken p.0 v ≡ [] → forms_broken p.1 u ≡ [] → totals_behind p.0 ≡ true → body_behind p.1 ≡ true → loop_in_order k p.0 p.1 ≡ true
-code-order n k key ps p c v u pv pu rc rb tc tb = loop-order n k key ps p.0 p.1 c.1.0 c.1.1.0 c.1.1.1.0 c.0 c.1.1.1.1 v u pv pu rc rb tc tb
+    → reads_broken p.0 v ≡ [] → forms_broken p.1 u ≡ [] → loop_in_order k p.0 p.1 ≡ true
+code-order n k key ps p c v u pv pu rc rb = loop-order n k key ps p.0 p.1 c.1.0 c.1.1.0 c.1.1.1.0 c.0 c.1.1.1.1 v u pv pu rc rb
 
 foreach-phase : (n : ℕ) (k : Key) → k ≡ operators n → (at : Place) (h : Head) (ps : List Place) (p : Expr × Stmt) → AreCode n ps p → InPhase (P.Foreach k at h p.0 p.1)
-foreach-phase n k key at h ps p c ds r b =
+foreach-phase n k key at h ps p c ds r =
     let w = C.sequential ds in
     let v = within w C.Body h.iterator in
     let more = C.ways_broken w.loops h p.0 p.1 in
@@ -221,22 +218,20 @@ foreach-phase n k key at h ps p c ds r b =
     let u = append-empty (range_broken w.loops h) (reads_broken p.0 v ++ (forms_broken p.1 v ++ more)) s.1 in
     let q = append-empty (reads_broken p.0 v) (forms_broken p.1 v ++ more) u.1 in
     let e = append-empty (forms_broken p.1 v) more q.1 in
-    let t = both-true (totals_behind p.0) (body_behind p.1) b in
-    code-order n k key ps p c v v refl refl q.0 e.0 t.0 t.1
+    code-order n k key ps p c v v refl refl q.0 e.0
 
 search-phase : (n : ℕ) (k : Key) → k ≡ operators n → (at : Place) (search : Search) (ps : List Place) (p : Expr × Stmt) → AreCode n ps p → InPhase (P.InBfs k at search p.0 p.1)
-search-phase n k key at search ps p c ds r b =
+search-phase n k key at search ps p c ds r =
     let w = C.sequential ds in
     let v = within w C.Filter search.iterator in
     let x = within w C.Search search.iterator in
     let s = append-empty (sequential_only w.loops at) (not_inner w.loops at ++ (reads_broken p.0 v ++ forms_broken p.1 x)) r in
     let u = append-empty (not_inner w.loops at) (reads_broken p.0 v ++ forms_broken p.1 x) s.1 in
     let q = append-empty (reads_broken p.0 v) (forms_broken p.1 x) u.1 in
-    let t = both-true (totals_behind p.0) (body_behind p.1) b in
-    code-order n k key ps p c v x refl refl q.0 q.1 t.0 t.1
+    code-order n k key ps p c v x refl refl q.0 q.1
 
 both-phase : (n m : ℕ) (k j : Key) → k ≡ operators n → j ≡ operators m → (at : Place) (search : Search) (ps qs : List Place) (p q : Expr × Stmt) → AreCode n ps p → AreCode m qs q → InPhase (P.InBfsBoth k at search p.0 p.1 j q.0 q.1)
-both-phase n m k j key back_key at search ps qs p q c d ds r b =
+both-phase n m k j key back_key at search ps qs p q c d ds r =
     let w = C.sequential ds in
     let v = within w C.Filter search.iterator in
     let x = within w C.Search search.iterator in
@@ -246,10 +241,7 @@ both-phase n m k j key back_key at search ps qs p q c d ds r b =
     let e = append-empty (reads_broken p.0 v) (forms_broken p.1 x ++ back) u.1 in
     let f = append-empty (forms_broken p.1 x) back e.1 in
     let g = append-empty (reads_broken q.0 v) (forms_broken q.1 x) f.1 in
-    let t = both-true (totals_behind p.0) (body_behind p.1 && (totals_behind q.0 && body_behind q.1)) b in
-    let o = both-true (body_behind p.1) (totals_behind q.0 && body_behind q.1) t.1 in
-    let i = both-true (totals_behind q.0) (body_behind q.1) o.1 in
-    both_true (code-order n k key ps p c v x refl refl e.0 f.0 t.0 o.0) (code-order m j back_key qs q d v x refl refl g.0 g.1 i.0 i.1)
+    both_true (code-order n k key ps p c v x refl refl e.0 f.0) (code-order m j back_key qs q d v x refl refl g.0 g.1)
 
 -- ---- whole statements
 
@@ -260,7 +252,7 @@ in-loop : (n : ℕ) (env : Env) → Follows n env → Parallel n env.key (env.de
 in-loop n env st = (ap (λ (j : Key). j.statement) st.0, not-zero env.depth)
 
 pub phase-ordered : (rest : Bool) (s : SurfaceStmt) → ascend (places_of s) ≡ true → shaped rest s ≡ true → (n : ℕ) (env : Env) → Follows n env → IfPart InPhase (checked s env).part
-phase-ordered rest S.Skip up sh n env st = λ ds r b. refl
+phase-ordered rest S.Skip up sh n env st = λ ds r. refl
 phase-ordered rest (S.Then a b) up sh n env st =
     let ps = places_of a in
     let qs = places_of b in
@@ -272,10 +264,9 @@ phase-ordered rest (S.Then a b) up sh n env st =
     if-by (λ p. InPhase p.0 × InPhase p.1) InPhase (beside x y).part (λ p. Ok (P.Then p.0 p.1))
     (if-both InPhase InPhase x.part y.part (phase-ordered false a (ascend-left ps qs up) h.0 env.number (numbered_env env) (numbered-follows env st.2))
     (phase-ordered true b (ascend-right ps qs up) h.1 n env2 (st.0, omega (arith, l), st.2)))
-    (λ p k ds r t.
+    (λ p k ds r.
     let s = append-empty (forms_broken p.0 (C.sequential ds)) (forms_broken p.1 (C.sequential ds)) r in
-    let u = both-true (phase_behind p.0) (phase_behind p.1) t in
-    both_true (k.0 ds s.0 u.0) (k.1 ds s.1 u.1))
+    both_true (k.0 ds s.0) (k.1 ds s.1))
 phase-ordered true _ up sh n env st = absurd (false≢true sh)
 phase-ordered false (S.Declare t xs) up sh n env st =
     let parts = beside (noted (tt {0}) (type_broken t Local env)) (declared_all (variable_of t env.depth) xs env) in
@@ -286,7 +277,7 @@ phase-ordered false (S.Defer t at e iterator) up sh n env st =
     let parts = both (goal true t) (typed e) env in
     beside-iterator InPhase (deferred t at e) iterator env
     (if-by (λ p. Unit {0}) InPhase parts.part (λ p. then_answer (fits_goal p.0.wanted T9 at p.1) (P.Defer env.key p.0.target)) (anything parts.part)
-    (λ p _. if-then (λ a. Unit {0}) InPhase (fits_goal p.0.wanted T9 at p.1) (P.Defer env.key p.0.target) (anything (ok_of (fits_goal p.0.wanted T9 at p.1))) (λ a _ ds r b. refl)))
+    (λ p _. if-then (λ a. Unit {0}) InPhase (fits_goal p.0.wanted T9 at p.1) (P.Defer env.key p.0.target) (anything (ok_of (fits_goal p.0.wanted T9 at p.1))) (λ a _ ds r. refl)))
 phase-ordered false (S.Combine ts r at es iterator) up sh n env st =
     let back = places_of_each places_in es ++ place_of_option iterator in
     beside-iterator InPhase (reduced ts r at es) iterator env (reduced-phase env st.2 ts r at es (ascend-left (places_of_each places_in es) (place_of_option iterator) (ascend-tail at back (ascend-right (places_of_each places_of_target ts) (at ∷ back) up))))
@@ -312,7 +303,7 @@ phase-ordered false (S.Loop at Loop.For head filter body) up sh n env st =
     (if-both (λ j. Unit {0}) (λ p. InSequence ps p.0 × InPhase p.1) i.part (inner' env2).part tt
     (if-both (InSequence ps) InPhase c.part (numbered (checked body) env3).part (test-sequence filter (ascend-left ps qs back) env2 d2)
     (phase-ordered false body (ascend-right ps qs back) sh env3.number (numbered_env env3) (numbered-follows env3 d2)))))
-    (λ p k ds r b.
+    (λ p k ds r.
     let w = C.sequential ds in
     let h = head_with head p.0 p.1.0 in
     let both' = reads_broken p.1.1.0 w ++ forms_broken p.1.1.1 w in
@@ -320,8 +311,7 @@ phase-ordered false (S.Loop at Loop.For head filter body) up sh n env st =
     let u = append-empty (not_inner w.loops at) (range_broken w.loops h ++ both') s.1 in
     let q = append-empty (range_broken w.loops h) both' u.1 in
     let e = append-empty (reads_broken p.1.1.0 w) (forms_broken p.1.1.1 w) q.1 in
-    let t = both-true (inner_totals_behind p.1.1.0) (phase_behind p.1.1.1) b in
-    both_true (k.1.1.0 ds e.0 t.0) (k.1.1.1 ds e.1 t.1))
+    both_true (k.1.1.0 ds e.0) (k.1.1.1 ds e.1))
 phase-ordered false (S.Loop at Loop.Foreach head filter body) up sh n env st =
     let l = st.1 in
     let ps = places_in filter in
@@ -354,13 +344,11 @@ phase-ordered false (S.If at c a b) up sh n env st =
     (if-both InPhase InPhase y.part z.part
     (phase-ordered false a (ascend-left qs rs branches) h.0 env1.number (numbered_env env1) (numbered-follows env1 st.2))
     (phase-ordered false b (ascend-right qs rs branches) h.1 env2.number (numbered_env env2) (numbered-follows env2 st.2))))
-    (λ p k ds r t.
+    (λ p k ds r.
     let w = C.sequential ds in
     let s = append-empty (reads_broken p.0 w) (forms_broken p.1.0 w ++ forms_broken p.1.1 w) r in
     let u = append-empty (forms_broken p.1.0 w) (forms_broken p.1.1 w) s.1 in
-    let v = both-true (inner_totals_behind p.0) (phase_behind p.1.0 && phase_behind p.1.1) t in
-    let o = both-true (phase_behind p.1.0) (phase_behind p.1.1) v.1 in
-    both_true (k.0 ds s.0 v.0) (both_true (k.1.0 ds u.0 o.0) (k.1.1 ds u.1 o.1)))
+    both_true (k.0 ds s.0) (both_true (k.1.0 ds u.0) (k.1.1 ds u.1)))
 phase-ordered false (S.While at c body) up sh n env st =
     let ps = places_in c in
     let qs = places_of body in
@@ -370,13 +358,12 @@ phase-ordered false (S.While at c body) up sh n env st =
     let y = numbered (checked body) env1 in
     if-by (λ p. InSequence ps p.0 × InPhase p.1) InPhase (beside x y).part (λ p. Ok (P.While env.key at p.0 p.1))
     (if-both (InSequence ps) InPhase x.part y.part (test-sequence c (ascend-left ps qs back) env st.2) (phase-ordered false body (ascend-right ps qs back) sh env1.number (numbered_env env1) (numbered-follows env1 st.2)))
-    (λ p k ds r t.
+    (λ p k ds r.
     let w = C.sequential ds in
     let s = append-empty (sequential_only w.loops at) (not_inner w.loops at ++ (reads_broken p.0 w ++ forms_broken p.1 w)) r in
     let u = append-empty (not_inner w.loops at) (reads_broken p.0 w ++ forms_broken p.1 w) s.1 in
     let q = append-empty (reads_broken p.0 w) (forms_broken p.1 w) u.1 in
-    let v = both-true (inner_totals_behind p.0) (phase_behind p.1) t in
-    both_true (k.0 ds q.0 v.0) (k.1 ds q.1 v.1))
+    both_true (k.0 ds q.0) (k.1 ds q.1))
 phase-ordered false (S.Do at body c) up sh n env st =
     let ps = places_of body in
     let qs = places_in c in
@@ -386,13 +373,12 @@ phase-ordered false (S.Do at body c) up sh n env st =
     let y = test c env1 in
     if-by (λ p. InPhase p.0 × InSequence qs p.1) InPhase (beside x y).part (λ p. Ok (P.Do env.key at p.0 p.1))
     (if-both InPhase (InSequence qs) x.part y.part (phase-ordered false body (ascend-left ps qs back) sh env.number (numbered_env env) (numbered-follows env st.2)) (test-sequence c (ascend-right ps qs back) env1 st.2))
-    (λ p k ds r t.
+    (λ p k ds r.
     let w = C.sequential ds in
     let s = append-empty (sequential_only w.loops at) (not_inner w.loops at ++ (forms_broken p.0 w ++ reads_broken p.1 w)) r in
     let u = append-empty (not_inner w.loops at) (forms_broken p.0 w ++ reads_broken p.1 w) s.1 in
     let q = append-empty (forms_broken p.0 w) (reads_broken p.1 w) u.1 in
-    let v = both-true (phase_behind p.0) (inner_totals_behind p.1) t in
-    both_true (k.0 ds q.0 v.0) (k.1 ds q.1 v.1))
+    both_true (k.0 ds q.0) (k.1 ds q.1))
 phase-ordered false (S.InBfs at v g root filter body) up sh n env st =
     let l = st.1 in
     let ps = places_in filter in
@@ -438,18 +424,18 @@ phase-ordered false (S.InBfsBoth at v g root filter body reverse back_filter bac
     (code-kept n filter body there-up h.0 env2 (in-loop n env st) (omega (arith, l)))
     (if-by (AreCode m rs) (λ q. (q.0 ≡ operators m) × AreCode m rs q.1) code.part (λ p. Ok (env4.key, p)) (code-kept m back_filter back back-up h.1 env4 (refl, not-zero env.depth) (omega arith)) (λ p k. (refl, k))))))
     (λ p k. both-phase n m env.key p.1.1.1.0 st.0 k.1.1.1.0 at (search_of root p.0 p.1.0) ps rs p.1.1.0 p.1.1.1.1 k.1.1.0 k.1.1.1.1)
-phase-ordered false (S.Return at None) up sh n env st = if-good InPhase (is_none env.result) T14 at (P.Return env.key at None) (λ _ ds r b. refl)
+phase-ordered false (S.Return at None) up sh n env st = if-good InPhase (is_none env.result) T14 at (P.Return env.key at None) (λ _ ds r. refl)
 phase-ordered false (S.Return at (Some e)) up sh n env st =
     if-by (KeptPart InSequence sequence-kept (places_in e)) InPhase (typed e env).part (returned env.key at env.result) (sequence-typed e (ascend-tail at (places_in e) up) env st.2) (λ p k. returned-phase env.key at (places_in e) env.result p k)
 
 pub elaborated-ordered : (p : SurfaceProcedure) → ascend (places_of p.body) ≡ true → shaped false p.body ≡ true → (env_of_body p).depth ≡ 0
-    → IfPart (λ q. uncanonical q ≡ [] → has_totals_behind q ≡ true → is_ordered q ≡ true) (elaborated p).part
+    → IfPart (λ q. uncanonical q ≡ [] → is_ordered q ≡ true) (elaborated p).part
 elaborated-ordered p up sh d =
     let params = all_parameters p in
     let env = env_of_body p in
     let note = noted (tt {0}) (head_broken p) in
     let body = numbered (checked p.body) env in
-    if-by (λ q. Unit {0} × (Unit {0} × InPhase q.1.1)) (λ q. uncanonical q ≡ [] → has_totals_behind q ≡ true → is_ordered q ≡ true) (beside params (beside note body)).part _
+    if-by (λ q. Unit {0} × (Unit {0} × InPhase q.1.1)) (λ q. uncanonical q ≡ [] → is_ordered q ≡ true) (beside params (beside note body)).part _
     (if-both (λ u. Unit {0}) (λ q. Unit {0} × InPhase q.1) params.part (beside note body).part (anything params.part)
     (if-both (λ u. Unit {0}) InPhase note.part body.part tt (phase-ordered false p.body up sh env.number (numbered_env env) (numbered-follows env d))))
-    (λ q k r b. k.1.1 _ r b)
+    (λ q k r. k.1.1 _ r)

@@ -1,6 +1,6 @@
 -- What typing makes of the expressions of a text stands in order.
-use Rattle.std.proofs.Common.{◌≡◌, ◌+◌, ◌<◌, ℕ, Bool, true, false, List, [], ◌∷◌, ◌++◌, refl, sym, ap, subst, ◌∙◌, arith, Option, Some, None}
-use Rattle.std.specs.Prelude.{if◌then◌else◌, nat_eq}
+use Rattle.std.proofs.Common.{◌≡◌, ◌+◌, ℕ, Bool, true, false, ◌∷◌, ◌++◌, refl, ap, ◌∙◌, arith}
+use Rattle.std.specs.Prelude.{if◌then◌else◌, ◌&&◌, nat_eq}
 use Rattle.std.proofs.lemmas.Bool.{eqb-true, eq-eqb}
 use Rattle.gm_base.specs.declared.places.Place.{Place}
 use Rattle.gm_base.specs.declared.rules.Rule.TheVariants.{T8, T10}
@@ -24,10 +24,10 @@ use Rattle.gm_ast.specs.Names.{Env, both, iterated, inside, keyed, counted, late
 use Rattle.gm_ast.specs.Kinds.{Part, settled, is_number, is_flag}
 use Rattle.gm_ast.specs.Typing.{typed, condition, start_of, ranged, fold_of, folded, of_numbers_as, of_conditions, reduction_part, reduction_rule, reducer_at, fold_numbers, head_with, is_sequential, inner_key, fold_key}
 use Rattle.gm_ready.proofs.Judging.{IfPart, if-by, if-both, if-good}
-use Rattle.gm_order.specs.Places.{ascend, closing, places_in}
+use Rattle.gm_order.specs.Places.{ascend, may_be_bare, closing, places_in}
 use Rattle.gm_order.proofs.Parts.{anything}
-use Rattle.gm_order.proofs.Befores.{inner, operators, totals, ascend-tail, ascend-left, ascend-right}
-use Rattle.gm_order.proofs.Keeping.{IsKept, KeptPart, Keeps, settled-kept, condition-kept, typed-kept}
+use Rattle.gm_order.proofs.Befores.{inner, ascend-tail, ascend-left, ascend-right}
+use Rattle.gm_order.proofs.Keeping.{KeptPart, Keeps, settled-kept, condition-kept, typed-kept}
 use Rattle.gm_order.proofs.OrderedExpressions.{InParallel, parallel-kept, folded-parallel, InSequence, sequence-kept, folded-sequence}
 
 -- ---- a reduction by its word
@@ -75,7 +75,7 @@ module _ (n : ℕ) where
       let qs = places_in body in
       let x = h.iterator.place in
       let o = h.owner.place in
-      let rest = ps ++ (qs ++ closing at close) in
+      let rest = ps ++ (qs ++ closing word at close) in
       let back : ascend rest ≡ true = ascend-tail o rest (ascend-tail x (o ∷ rest) (ascend-tail at (x ∷ (o ∷ rest)) up)) in
       let r = reducer_at env at word close in
       let key : (k : ℕ) (s : Stage) → fold_key env k s ≡ inner n = λ k s. ap (λ b. if b then record { statement = env.number + k; stage = s } else inner_key env) m.1 ∙ ap inner m.0 in
@@ -94,7 +94,7 @@ module _ (n : ℕ) where
       (condition-kept Q kept ps (start_of filter) (typed filter (record env3 { key = r.filter })) (kf (record env3 { key = r.filter }) (ap (λ (j : Key). j.statement) (key 0 Operator), not-zero env.depth)))
       (kb (record (later env3 a) { key = r.body }) (ap (λ (j : Key). j.statement) (key 1 Operator), not-zero env.depth)))))
       (λ xs k. reduction-kept (Q ps) (Q qs) (Q (at ∷ (x ∷ (o ∷ rest)))) r (head_with h xs.0 xs.1.0)
-      (λ t c e hc he. folded-parallel n (fold_of r t) (head_with h xs.0 xs.1.0) c e ps qs x o (key 0 Operator) (key 1 Operator) (key 1 Total) hc he (place_eq at close) refl back)
+      (λ t c e hc he. folded-parallel n (fold_of r t) (head_with h xs.0 xs.1.0) c e ps qs x o (key 0 Operator) (key 1 Operator) (key 1 Total) hc he (may_be_bare word && place_eq at close) refl back)
       (λ p hp. settled-kept Q kept qs p.kind p hp) word (start_of body) xs.1.1.0 xs.1.1.1 k.1.1.0 k.1.1.1)
 
   pub parallel-typed : (e : SurfaceExpr) → ascend (places_in e) ≡ true → Keeps (InParallel n) (parallel-kept n) (Parallel n) e
@@ -112,7 +112,7 @@ fold-sequence at word h filter body close up kf kb env m =
     let qs = places_in body in
     let x = h.iterator.place in
     let o = h.owner.place in
-    let rest = ps ++ (qs ++ closing at close) in
+    let rest = ps ++ (qs ++ closing word at close) in
     let back : ascend rest ≡ true = ascend-tail o rest (ascend-tail x (o ∷ rest) (ascend-tail at (x ∷ (o ∷ rest)) up)) in
     let r = reducer_at env at word close in
     let n0 = env.number + 0 in
@@ -133,8 +133,8 @@ fold-sequence at word h filter body close up kf kb env m =
     (if-both (λ b. Unit {0}) (λ xs. Unit {0} × (Q1 xs.1.0 × Q2 xs.1.1.core)) owner.part (counted (fold_numbers env) (iterated h.iterator 1 inner') env1).part (anything owner.part)
     (if-both (λ i. Unit {0}) (λ xs. Q1 xs.0 × Q2 xs.1.core) (declared_as env2 h.iterator (an_iterator (env2.depth + 1))).part (inner' env3).part tt
     (if-both Q1 (λ p. Q2 p.core) a.part (braces (later env3 a)).part
-    (condition-kept (InParallel n0) (parallel-kept n0) ps (start_of filter) (typed filter (record env3 { key = r.filter })) (parallel-typed n0 filter (ascend-left ps (qs ++ closing at close) back) (record env3 { key = r.filter }) (ap (λ (j : Key). j.statement) (key 0 Operator), not-zero env.depth)))
-    (parallel-typed n1 body (ascend-left qs (closing at close) (ascend-right ps (qs ++ closing at close) back)) (record (later env3 a) { key = r.body }) (ap (λ (j : Key). j.statement) (key 1 Operator), not-zero env.depth)))))
+    (condition-kept (InParallel n0) (parallel-kept n0) ps (start_of filter) (typed filter (record env3 { key = r.filter })) (parallel-typed n0 filter (ascend-left ps (qs ++ closing word at close) back) (record env3 { key = r.filter }) (ap (λ (j : Key). j.statement) (key 0 Operator), not-zero env.depth)))
+    (parallel-typed n1 body (ascend-left qs (closing word at close) (ascend-right ps (qs ++ closing word at close) back)) (record (later env3 a) { key = r.body }) (ap (λ (j : Key). j.statement) (key 1 Operator), not-zero env.depth)))))
     (λ xs k. reduction-kept Q1 Q2 (InSequence (at ∷ (x ∷ (o ∷ rest)))) r (head_with h xs.0 xs.1.0)
     (λ t c e hc he. folded-sequence (fold_of r t) (head_with h xs.0 xs.1.0) c e ps qs (at ∷ (x ∷ (o ∷ rest))) n0 n1 (omega arith) (key 0 Operator) (key 1 Operator) (key 1 Total) hc he)
     (λ p hp. settled-kept (InParallel n1) (parallel-kept n1) qs p.kind p hp) word (start_of body) xs.1.1.0 xs.1.1.1 k.1.1.0 k.1.1.1)

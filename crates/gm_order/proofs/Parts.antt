@@ -1,5 +1,5 @@
 -- Small steps that several proofs share.
-use Rattle.std.proofs.Common.{◌≡◌, Bool, true, false, refl, Option, Some, None}
+use Rattle.std.proofs.Common.{Bool, true, false, Option, Some, None}
 use Rattle.std.specs.Prelude.{if◌then◌else◌, Ok, Err}
 use Rattle.gm_ast.specs.Judged.{Judged, Answer, ok_of}
 use Rattle.gm_ast.specs.Statements.{answers_with}

@@ -1,6 +1,6 @@
 -- The places in a tree are those of some of its tokens, in their order.
-use Rattle.std.proofs.Common.{◌≡◌, ℤ, Bool, true, false, List, [], ◌∷◌, ◌++◌, refl, sym, ap, subst, ◌∙◌, append_assoc, Option, Some, None}
-use Rattle.std.specs.Prelude.{if◌then◌else◌}
+use Rattle.std.proofs.Common.{◌≡◌, ℤ, Bool, true, false, List, [], ◌∷◌, ◌++◌, refl, sym, ap, subst, ◌∙◌, append_assoc, Option}
+use Rattle.std.specs.Prelude.{◌&&◌, if◌then◌else◌}
 use Rattle.std.specs.Cmp.Derive.{both_true}
 use Rattle.std.proofs.lemmas.Bool.{eq-eqb}
 use Rattle.gm_base.specs.declared.places.Place.{Place}
@@ -9,12 +9,14 @@ use Rattle.gm_token.specs.declared.words.Word.{Word}
 use Rattle.gm_token.specs.declared.words.Word.TheVariants as words
 use Rattle.gm_token.specs.Tokens.{Token}
 use Rattle.gm_ast.specs.declared.surface.Range.{Range}
+use Rattle.gm_ast.specs.declared.surface.ReductionWord.{ReductionWord}
 use Rattle.gm_ast.specs.Surface.{SurfaceName, SurfaceType, SurfaceHead, SurfaceTarget, SurfaceExpr, SurfaceStmt, SurfaceGroup, SurfaceProcedure, sequence}
-use Rattle.gm_ast.specs.Surface as S
-use Rattle.gm_parse.specs.Terminals.{Terminal, The}
+use Rattle.gm_parse.specs.Terminals.{Terminal}
 use Rattle.gm_parse.specs.Grammar.{Part}
-use Rattle.gm_parse.specs.Trees.{ReadsWord, Reads, ReadsAs, ReadsName, ReadsNumber, ReadsNames, ReadsOf, ReadsType, ReadsTree, ReadsCondition, ReadsFilter, ReadsBraces, ReadsRange, ReadsHead, ReadsTarget, ReadsEntries, ReadsTuple, ReadsAt, ReadsFrom, ReadsSearch, ReadsStmt, ReadsMany, ReadsBlock, ReadsReverse, ReadsGroup, ReadsGroups, ReadsParameters, ReadsOutputs, ReadsResult, ReadsProcedure}
-use Rattle.gm_order.specs.Places.{places_of_each, place_of_name, place_of_option, closing, places_in, places_of_target, places_of, places_of_group, places_of_procedure}
+use Rattle.gm_parse.specs.Choices.{test_reduction}
+use Rattle.gm_ready.proofs.Judging.{IfPart}
+use Rattle.gm_parse.specs.Trees.{ReadsWord, ReadsAs, ReadsName, ReadsNumber, ReadsNames, ReadsOf, ReadsType, ReadsTree, ReadsCondition, ReadsFilter, ReadsBraces, ReadsRange, ReadsHead, ReadsTarget, ReadsEntries, ReadsTuple, ReadsAt, ReadsFrom, ReadsSearch, ReadsStmt, ReadsMany, ReadsBlock, ReadsReverse, ReadsGroup, ReadsGroups, ReadsParameters, ReadsOutputs, ReadsResult, ReadsProcedure}
+use Rattle.gm_order.specs.Places.{places_of_each, place_of_name, place_of_option, may_be_bare, closing, places_in, places_of_target, places_of, places_of_group, places_of_procedure}
 
 -- from where these tokens are left to where those are left, places are picked in order
 pub data Picks : List Place → List Token → List Token → Type 0 where
@@ -83,15 +85,23 @@ vtype (ReadsType.property w l t r g) = over (meant w) (over (word l) (over (vtyp
 
 -- ---- expressions
 
-closed : (at q : Place) {us vs : List Token} → Picks (q ∷ []) us vs → Picks (closing at q) us vs
-closed at q {us} {vs} h = by (place_eq at q)
+closed : (w : ReductionWord) (at q : Place) {us vs : List Token} → Picks (q ∷ []) us vs → Picks (closing w at q) us vs
+closed w at q {us} {vs} h = by (may_be_bare w && place_eq at q)
   where
     by : (bare : Bool) → Picks (if bare then [] else q ∷ []) us vs
     by true = forget h
     by false = h
 
-closing-self : (p : Place) → [] ≡ closing p p
-closing-self p = sym (ap (λ b. if b then [] else p ∷ []) (both_true (eq-eqb p.line p.line refl) (eq-eqb p.col p.col refl)))
+bare-words : (v : Word) → IfPart (λ w. may_be_bare w ≡ true) (test_reduction v)
+bare-words words.Exist = refl
+bare-words words.Count = refl
+bare-words _ = tt
+
+bare-word : {us vs : List Token} {w : ReductionWord} {p : Place} → ReadsAs test_reduction us w p vs → may_be_bare w ≡ true
+bare-word (ReadsAs.word {t} e) = subst (IfPart (λ w. may_be_bare w ≡ true)) e (bare-words t.word)
+
+closing-self : (w : ReductionWord) (p : Place) → may_be_bare w ≡ true → [] ≡ closing w p p
+closing-self w p bare = sym (ap (λ b. if b then [] else p ∷ []) (both_true bare (both_true (eq-eqb p.line p.line refl) (eq-eqb p.col p.col refl))))
 
 pub range : {us vs : List Token} {g : SurfaceName} {r : Range} → ReadsRange us g r vs → Picks (place_of_name g) us vs
 range (ReadsRange.range n d r) = join (name n) (over (word d) (forget (meant r)))
@@ -116,9 +126,9 @@ mutual
   tree (ReadsTree.member x d m) = join (name x) (over (word d) (name m))
   tree (ReadsTree.method x d m l r) = join (name x) (over (word d) (join (name m) (over (word l) (forget (word r)))))
   tree (ReadsTree.parentheses {e} l r c) = join (word l) (closed-by e (tree r) (word c))
-  tree (ReadsTree.reduction {f} {p} w h b) = join (meant w) (around f (head h) (braces p b))
-  tree (ReadsTree.test {f} {p} w h b) = join (meant w) (around f (head h) (braces p b))
-  tree (ReadsTree.bare_test {f} {p} w h) = join (meant w) (around f (head h) (as_picks (closing-self p) Picks.done))
+  tree (ReadsTree.reduction {w} {f} {p} r h b) = join (meant r) (around f (head h) (braces w p b))
+  tree (ReadsTree.test {w} {f} {p} r h b) = join (meant r) (around f (head h) (braces w p b))
+  tree (ReadsTree.bare_test {w} {f} {p} r h) = join (meant r) (around f (head h) (as_picks (closing-self w p (bare-word r)) Picks.done))
   tree (ReadsTree.primary r) = tree r
   tree (ReadsTree.negation w r) = join (word w) (tree r)
   tree (ReadsTree.minus w o r) = join (word w) (tree r)
@@ -138,8 +148,8 @@ mutual
   filter ReadsFilter.absent = Picks.done
   filter (ReadsFilter.present r) = condition r
 
-  pub braces : (at : Place) {us vs : List Token} {e : SurfaceExpr} {q : Place} → ReadsBraces us e q vs → Picks (places_in e ++ closing at q) us vs
-  braces at (ReadsBraces.braces {q} l r c) = over (word l) (join (tree r) (closed at q (word c)))
+  pub braces : (w : ReductionWord) (at : Place) {us vs : List Token} {e : SurfaceExpr} {q : Place} → ReadsBraces us e q vs → Picks (places_in e ++ closing w at q) us vs
+  braces w at (ReadsBraces.braces {q} l r c) = over (word l) (join (tree r) (closed w at q (word c)))
 
   pub head : {us vs : List Token} {h : SurfaceHead} {f : SurfaceExpr} → ReadsHead us h f vs → Picks (places_of_head h f) us vs
   head (ReadsHead.head l x c g r f) = over (word l) (join (name x) (over (word c) (join (range g) (over (word r) (filter f)))))

@@ -1,5 +1,5 @@
--- Two texts, of which the first has a total before what it is made of.
-use Rattle.std.proofs.Common.{◌≡◌, ℕ, pos, true, false, List, [], ◌∷◌, refl, Option, Some, None}
+-- Two texts, of which the first has a total at its word, before what it is made of: that of a count, which cannot fault.
+use Rattle.std.proofs.Common.{◌≡◌, ℕ, pos, true, [], ◌∷◌, refl, Some, None}
 use Rattle.gm_base.specs.declared.places.Place.{Place}
 use Rattle.gm_value.specs.declared.operations.Op2.TheVariants.{Div, Gt}
 use Rattle.gm_ast.specs.declared.surface.TypeWord.TheVariants as types
@@ -16,7 +16,6 @@ use Rattle.gm_ast.specs.Canonical.{uncanonical}
 use Rattle.gm_forms.specs.Order.{is_ordered}
 use Rattle.gm_ready.proofs.Judging.{IfPart}
 use Rattle.gm_order.specs.Places.{ascend, places_of_procedure}
-use Rattle.gm_order.specs.Totals.{has_totals_behind}
 
 at : ℕ → ℕ → Place
 at line col = record { line = line; col = col }
@@ -67,11 +66,11 @@ bare-stands : ((elaborated bare).broken ≡ []) × (ascend (places_of_procedure 
 unfolding at name ints fails with_value neighbours bare
 bare-stands = (refl, refl)
 
--- the total of the first is at its word, before the fault of its filter
-bare-unordered : IfPart (λ p. (races p ≡ []) × (uncanonical p ≡ []) × (is_ordered p ≡ false) × (has_totals_behind p ≡ false)) (elaborated bare).part
+-- both are in order
+bare-ordered : IfPart (λ p. (races p ≡ []) × (uncanonical p ≡ []) × (is_ordered p ≡ true)) (elaborated bare).part
 unfolding at name ints fails with_value neighbours bare
-bare-unordered = (refl, refl, refl, refl)
+bare-ordered = (refl, refl, refl)
 
-braced-ordered : IfPart (λ p. (races p ≡ []) × (uncanonical p ≡ []) × (is_ordered p ≡ true) × (has_totals_behind p ≡ true)) (elaborated braced).part
+braced-ordered : IfPart (λ p. (races p ≡ []) × (uncanonical p ≡ []) × (is_ordered p ≡ true)) (elaborated braced).part
 unfolding at name ints fails with_value neighbours braced
-braced-ordered = (refl, refl, refl, refl)
+braced-ordered = (refl, refl, refl)

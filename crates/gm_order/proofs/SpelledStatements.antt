@@ -1,5 +1,5 @@
 -- Typing keeps constants in range and tuples under Min and Max, where the tree of the text does.
-use Rattle.std.proofs.Common.{◌≡◌, ◌+◌, ℕ, Bool, true, false, List, [], ◌∷◌, map, refl, Option, Some, None}
+use Rattle.std.proofs.Common.{◌≡◌, ◌+◌, ℕ, true, false, List, [], ◌∷◌, map, refl, Option, Some, None}
 use Rattle.std.specs.Prelude.{◌&&◌, is_none, Ok}
 use Rattle.std.specs.Cmp.Derive.{both_true}
 use Rattle.gm_base.specs.declared.places.Place.{Place}
@@ -26,9 +26,9 @@ use Rattle.gm_ast.specs.Names.{Env, known_as, both, judged_each, iterated, insid
 use Rattle.gm_ast.specs.Kinds.{Part, fitted}
 use Rattle.gm_ast.specs.Typing.{typed, start_of, ranged, head_with}
 use Rattle.gm_ast.specs.Statements.{goal, fits_goal, reduces, first_wanted, total_at, fits_each, all_answers, combined, one_of, incremented, goals, typed_all, apart_from_first, goals_together, reduced, names_graph, group_target, in_group, grouped, assigned, deferred, assignment, returned, at_iterator, type_broken, sort_of, vtype_of, variable_of, declared_all, plain_declarations, declarations_as, declared_plainly, edge_declared, edge_owner, declared_value, declared_typed, declared_with, following, loops_of, loop_of, test, graph_searched, rooted, search_of, searched, checked}
-use Rattle.gm_ast.specs.Procedures.{elaborated, all_parameters, env_of_body, head_broken, parts_of}
+use Rattle.gm_ast.specs.Procedures.{elaborated, all_parameters, env_of_body, head_broken}
 use Rattle.gm_forms.proofs.Named.{both-true}
-use Rattle.gm_ready.specs.Spelled.{constants_fit, all_fit, may_reduce, is_spelled_in, is_spelled}
+use Rattle.gm_ready.specs.Spelled.{all_fit, may_reduce, is_spelled_in, is_spelled}
 use Rattle.gm_ready.proofs.Judging.{IfPart, if-by, if-both, if-good, if-then}
 use Rattle.gm_order.specs.Spelling.{numbers_fit, all_numbers_fit, may_assign, is_within_limits}
 use Rattle.gm_order.proofs.Parts.{anything, if-with, if-judged}

@@ -11,7 +11,6 @@ use Rattle.gm_forms.specs.Order.{is_ordered}
 use Rattle.gm_forms.specs.Typing.{has_types}
 use Rattle.gm_ready.specs.Spelled.{is_spelled}
 use Rattle.gm_order.specs.Places.{ascend, places_of_procedure}
-use Rattle.gm_order.specs.Totals.{has_totals_behind}
 
 -- a text is made of tokens, and this is their tree
 pub record HasTree (text : List ℕ) (tree : SurfaceProcedure) : Type 0 where
@@ -38,6 +37,6 @@ TextProgramsAreSpelled = (text : List ℕ) (p : Program) → HasProgram text p �
 abbrev pub TextProgramsHaveTypes : Type 0
 TextProgramsHaveTypes = (text : List ℕ) (p : Program) → HasProgram text p → has_types p ≡ true
 
--- a canonical program of a text is ordered, where in its parallel code totals stand behind what they are made of
+-- a canonical program of a text is ordered
 abbrev pub TextProgramsAreOrdered : Type 0
-TextProgramsAreOrdered = (text : List ℕ) (p : Program) → HasProgram text p → uncanonical p ≡ [] → has_totals_behind p ≡ true → is_ordered p ≡ true
+TextProgramsAreOrdered = (text : List ℕ) (p : Program) → HasProgram text p → uncanonical p ≡ [] → is_ordered p ≡ true

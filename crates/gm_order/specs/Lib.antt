@@ -1,4 +1,3 @@
 pub mod Places
 pub mod Spelling
-pub mod Totals
 pub mod Laws

@@ -1,8 +1,10 @@
 -- The places in a tree, in the order of its text: of names but those of types, of operators, of the words of statements
 -- and reductions, and of the closing braces of reductions.
-use Rattle.std.specs.Prelude.{Bool, true, ◌&&◌, if◌then◌else◌, List, [], ◌∷◌, ◌++◌, Option, Some, None}
+use Rattle.std.specs.Prelude.{Bool, true, false, ◌&&◌, if◌then◌else◌, List, [], ◌∷◌, ◌++◌, Option, Some, None}
 use Rattle.gm_base.specs.declared.places.Place.{Place}
 use Rattle.gm_base.specs.Places.{place_eq, place_lt}
+use Rattle.gm_ast.specs.declared.surface.ReductionWord.{ReductionWord}
+use Rattle.gm_ast.specs.declared.surface.ReductionWord.TheVariants as words
 use Rattle.gm_ast.specs.Surface.{SurfaceName, SurfaceTarget, SurfaceExpr, Always, Number, Truth, Nil, Greatest, Least, Named, Member, Method, Paren, Prefixed, Infixed, Choose, Reduction, SurfaceStmt, Skip, Then, Declare, DeclareAs, Assign, Defer, Combine, Increment, Call, Loop, If, While, Do, InBfs, InBfsBoth, Return, SurfaceGroup, SurfaceProcedure}
 
 -- whether a place stands before all of some
@@ -27,9 +29,19 @@ abbrev pub place_of_option : Option SurfaceName → List Place
 place_of_option None = []
 place_of_option (Some x) = x.place ∷ []
 
+-- whether a reduction may stand without braces
+abbrev pub may_be_bare : ReductionWord → Bool
+may_be_bare words.Sum = false
+may_be_bare words.Product = false
+may_be_bare words.Min = false
+may_be_bare words.Max = false
+may_be_bare words.Count = true
+may_be_bare words.Exist = true
+may_be_bare words.All = false
+
 -- the closing brace of a reduction whose word stands there; one without braces ends at its word, which is named already
-abbrev pub closing : Place → Place → List Place
-closing at close = if place_eq at close then [] else close ∷ []
+abbrev pub closing : ReductionWord → Place → Place → List Place
+closing word at close = if may_be_bare word && place_eq at close then [] else close ∷ []
 
 abbrev pub places_in : SurfaceExpr → List Place
 places_in Always = []
@@ -46,7 +58,7 @@ places_in (Prefixed at op e) = at ∷ places_in e
 places_in (Infixed at op a b) = places_in a ++ (at ∷ places_in b)
 places_in (Choose at c a b) = places_in c ++ (at ∷ (places_in a ++ places_in b))
 places_in (Reduction at word h filter body close) =
-    at ∷ (h.iterator.place ∷ (h.owner.place ∷ (places_in filter ++ (places_in body ++ closing at close))))
+    at ∷ (h.iterator.place ∷ (h.owner.place ∷ (places_in filter ++ (places_in body ++ closing word at close))))
 
 abbrev pub places_of_target : SurfaceTarget → List Place
 places_of_target t = t.owner.place ∷ place_of_option t.property

@@ -4,7 +4,7 @@ use Rattle.std.specs.Prelude.{Bool, true, ◌&&◌, List, [], ◌∷◌, Option,
 use Rattle.gm_value.specs.Numbers.{fits}
 use Rattle.gm_value.specs.declared.values.VType.TheVariants.{I64}
 use Rattle.gm_value.specs.declared.reductions.Reduce.{Reduce}
-use Rattle.gm_ast.specs.Surface.{SurfaceTarget, SurfaceExpr, Number, Paren, Prefixed, Infixed, Choose, Reduction, SurfaceStmt, Then, DeclareAs, Assign, Defer, Combine, Loop, If, While, Do, InBfs, InBfsBoth, Return, SurfaceProcedure}
+use Rattle.gm_ast.specs.Surface.{SurfaceTarget, SurfaceExpr, Number, Paren, Prefixed, Infixed, Choose, Reduction, SurfaceStmt, Then, DeclareAs, Assign, Defer, Combine, Loop, If, While, Do, InBfs, InBfsBoth, Return}
 use Rattle.gm_forms.specs.Typing.{keeps_tuples}
 
 -- whether Long holds each number of an expression

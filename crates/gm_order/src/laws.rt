@@ -26,8 +26,8 @@ pub fn text_programs_have_types()
 }
 
 /// In the program of a text that is canonical the faults of each parallel loop stand in the order of the text, piece by
-/// piece, where no reduction without braces has a filter that can fault: such a reduction has its total at its word,
-/// before its filter.
+/// piece. A reduction without braces has its total at its word, before its filter; it counts or tests, and its total
+/// cannot fault.
 pub fn text_programs_are_ordered()
     ensures { TextProgramsAreOrdered }
 {}

@@ -39,7 +39,7 @@ not-false : (b : Bool) → not b ≡ false → b ≡ true
 not-false true h = refl
 not-false false h = absurd (both_ways true h refl)
 
-or-false : (a b : Bool) → a || b ≡ false → (a ≡ false) × (b ≡ false)
+pub or-false : (a b : Bool) → a || b ≡ false → (a ≡ false) × (b ≡ false)
 or-false true b h = absurd (both_ways true h refl)
 or-false false b h = (refl, h)
 
@@ -69,7 +69,7 @@ one-deep zero low never = absurd (never refl)
 one-deep (suc zero) low never = refl
 one-deep (suc (suc d)) low never = let e : ⊥ = omega (arith, low) in absurd e
 
-present : (c : Bool) (b : Access) → c ≡ true → Member b (if c then b ∷ [] else [])
+pub present : (c : Bool) (b : Access) → c ≡ true → Member b (if c then b ∷ [] else [])
 present true b h = inl refl
 present false b h = absurd (both_ways false refl h)
 

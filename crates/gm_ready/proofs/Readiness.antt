@@ -1,5 +1,7 @@
 -- What a program that breaks no rule is for the passes.
-use Rattle.std.proofs.Common.{◌≡◌, ◌+◌, ℕ, Bool, true, false, List, refl}
+use Rattle.std.proofs.Common.{◌≡◌, ◌+◌, ℕ, Bool, true, false, List, length, refl}
+use Rattle.std.specs.Prelude.{nat_le}
+use Rattle.std.specs.List.{list_all}
 use Rattle.std.specs.Cmp.Derive.{both_true}
 use Rattle.gm_ast.specs.declared.tree.Declaration.{Declaration}
 use Rattle.gm_ast.specs.Accesses.{accesses}
@@ -9,10 +11,13 @@ use Rattle.gm_ast.specs.Program.{Stmt, Skip, Then, Declare, DeclareEdge, Assign,
 use Rattle.gm_forms.specs.Order.{is_ordered}
 use Rattle.gm_forms.specs.Ready.{is_checked, Ready0}
 use Rattle.gm_forms.specs.Sharing.{is_race_free}
+use Rattle.gm_forms.specs.Uses.{suits, uses_of}
+use Rattle.gm_forms.proofs.Named.{both-true}
 use Rattle.gm_ready.specs.Alike.{reduces_alike_in, reduces_alike}
 use Rattle.gm_ready.specs.Rising.{numbers_rise}
 use Rattle.gm_ready.specs.Spelled.{is_spelled}
 use Rattle.gm_ready.proofs.CheckedForms.{phase-code}
+use Rattle.gm_ready.proofs.LoopFacts.{phase-shares}
 use Rattle.gm_ready.proofs.Placing.{Placed}
 use Rattle.gm_ready.proofs.PlacedProcedures.{program-placed}
 use Rattle.gm_ready.proofs.Procedures.{typed-named, typed-typed}
@@ -48,8 +53,14 @@ pub canonical-checked : (p : Program) → IsCanonical p → is_checked p ≡ tru
 canonical-checked p canonical =
     phase-code p.declarations (accesses p) (clean-of p.declarations (accesses p) canonical.race_free) p.body (program-placed p canonical.typed) canonical.canonical 1 (λ x m. m)
 
-pub checked-ready : (p : Program) → IsCanonical p → is_spelled p ≡ true → is_ordered p ≡ true → is_race_free p ≡ true → Ready0 p
-checked-ready p canonical spelled ordered free = record {
-  sane = record { named = typed-named p canonical.typed; typed = typed-typed p canonical.typed spelled; ordered = ordered; race_free = free };
+pub canonical-free : (p : Program) → IsCanonical p → is_ordered p ≡ true → is_race_free p ≡ true
+canonical-free p canonical ordered =
+    let ds = p.declarations in
+    let named = both-true (nat_le (p.inputs + p.outputs) (length ds)) (list_all (suits ds) (uses_of p.body)) (typed-named p canonical.typed) in
+    phase-shares ds (accesses p) (clean-of ds (accesses p) canonical.race_free) false p.body 1 (canonical-checked p canonical) (program-placed p canonical.typed) named.1 (typed-rises p canonical.typed ordered) (λ x m. m)
+
+pub checked-ready : (p : Program) → IsCanonical p → is_spelled p ≡ true → is_ordered p ≡ true → Ready0 p
+checked-ready p canonical spelled ordered = record {
+  sane = record { named = typed-named p canonical.typed; typed = typed-typed p canonical.typed spelled; ordered = ordered; race_free = canonical-free p canonical ordered };
   form = canonical-checked p canonical;
 }

@@ -1,6 +1,6 @@
 //! What follows from the rules of the language, as contracts of calls that do nothing.
 
-ghost use Rattle.gm_ready.specs.Laws.{CanonicalIsChecked, CheckedIsReady, TypedHasTypes, TypedIsNamed, TypedNumbersRise, TypedReducesAlike};
+ghost use Rattle.gm_ready.specs.Laws.{CanonicalIsChecked, CanonicalIsRaceFree, CheckedIsReady, TypedHasTypes, TypedIsNamed, TypedNumbersRise, TypedReducesAlike};
 
 /// In a program whose types break no rule every variable stands in the table of declarations as what it is used as: an
 /// iterator, a scalar that is written, a node through which something is read, a property, an edge. The inputs and the
@@ -35,10 +35,16 @@ pub fn canonical_programs_are_checked()
     ensures { CanonicalIsChecked }
 {}
 
+/// The parallel loops of a program that breaks no rule share between their iterations what ends with them alone, where
+/// the program's faults stand in the order of its text: what they push they neither read nor write otherwise, and push
+/// one way; what they change at their own nodes they read at no others, but a search at other levels; what they defer
+/// they change in no other way.
+pub fn canonical_programs_are_race_free()
+    ensures { CanonicalIsRaceFree }
+{}
+
 /// A program that breaks no rule is ready for the passes, where its constants are in range and only Min and Max have
-/// several targets, its faults stand in the order of its text, and its parallel loops share what ends with them alone.
-/// The last does not follow from the rules of races: a search may change at its own level what it reads at others, and
-/// a reduction may have targets that are declared inside different loops.
+/// several targets, and its faults stand in the order of its text.
 pub fn checked_programs_are_ready()
     ensures { CheckedIsReady }
 {}

@@ -4,6 +4,7 @@
 mod laws;
 
 pub use laws::{
-    canonical_programs_are_checked, checked_programs_are_ready, typed_programs_are_named,
-    typed_programs_have_types, typed_programs_number_reductions, typed_programs_reduce_alike,
+    canonical_programs_are_checked, canonical_programs_are_race_free, checked_programs_are_ready,
+    typed_programs_are_named, typed_programs_have_types, typed_programs_number_reductions,
+    typed_programs_reduce_alike,
 };

@@ -1,4 +1,4 @@
--- Programs that break no rule, and whose loops share more than `is_race_free` allows.
+-- Programs: whether they break a rule of types, have races, are canonical, and share as `is_race_free` says.
 use Rattle.std.proofs.Common.{refl}
 use Rattle.std.specs.Prelude.{◌≡◌, ℕ, Bool, true, false, List, [], ◌∷◌, Option, Some, None, codes, pos}
 use Rattle.gm_base.specs.declared.places.Place.{Place}
@@ -62,7 +62,7 @@ alone x n = record { owner = name x n; property = None }
 level_read : verdict (InBfs (at 2) (name (codes "v") 2) (name (codes "G") 2) (name (codes "s") 2) Always
     (Then (Assign (through (codes "v") (codes "a") 3) (at 4)
     (Reduction (at 5) Sum (record { iterator = name (codes "w") 6; owner = name (codes "v") 7; range = Range.UpNbrs }) Always (Member (name (codes "w") 8) (name (codes "a") 9)) (at 10))) Skip))
-    ≡ true ∷ true ∷ true ∷ false ∷ []
+    ≡ true ∷ true ∷ true ∷ true ∷ []
 level_read = refl
 
 -- Int t = 0; Foreach (n: G.Nodes) { Int l = 0; Foreach (m: n.Nbrs) { <t, l> max= <1, 2>; } n.b = l; }
@@ -73,7 +73,7 @@ mixed_depths : verdict (Then (DeclareAs whole (name (codes "t") 2) (at 2) (Numbe
     (Then (Loop (at 5) Loop.Foreach (record { iterator = name (codes "m") 5; owner = name (codes "n") 5; range = Range.Nbrs }) Always
     (Then (Combine (alone (codes "t") 6 ∷ (alone (codes "l") 7 ∷ [])) Max (at 8) (Number (at 9) (pos 1) ∷ (Number (at 10) (pos 2) ∷ [])) None) Skip))
     (Then (Assign (through (codes "n") (codes "b") 11) (at 12) (Named (name (codes "l") 13))) Skip)))) Skip))
-    ≡ true ∷ true ∷ true ∷ false ∷ []
+    ≡ true ∷ true ∷ true ∷ true ∷ []
 mixed_depths = refl
 
 -- Foreach (n: G.Nodes) { Foreach (m: n.Nbrs) { m.a max= s.a; } }

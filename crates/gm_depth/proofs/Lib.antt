@@ -1,0 +1,10 @@
+pub mod Derivations
+pub mod Words
+pub mod Expressions
+pub mod Statements
+pub mod Marks
+pub mod Parts
+pub mod Typing
+pub mod Checking
+pub mod Shallow
+mod Samples

@@ -1,0 +1,5 @@
+pub mod Values
+pub mod Tells
+pub mod Stores
+pub mod Points
+pub mod Laws

@@ -1,0 +1,5 @@
+pub mod Known
+pub mod Expressions
+pub mod Declarations
+pub mod Statements
+pub mod Procedures
