@@ -72,7 +72,7 @@ group-known {A} {B} key f (e ∷ es) k = by_test (nat_eq (key e) k) refl (group-
   by_test false i h = h
 
 -- edges of a graph are between its nodes
-all-within : (m j : ℕ) (es : List Edge) → All (IsWithin m) es → (e : ℕ × Edge) → IsIn e (enumerate_from j es) → IsWithin m e.1
+pub all-within : (m j : ℕ) (es : List Edge) → All (IsWithin m) es → (e : ℕ × Edge) → IsIn e (enumerate_from j es) → IsWithin m e.1
 all-within m j [] h e i = absurd i
 all-within m j (x ∷ es) h e i =
     ⊎_elim

@@ -47,7 +47,7 @@ use Rattle.gm_loop_laws.proofs.Givens.{flat, one-given}
 use Rattle.gm_loop_laws.proofs.Alone.{at_outer, is_kept, out_kept, out_kept_faults, out-by, along, gives, faults, steps-at, nodes-below, Stands, stands, avoided-ends-so, ended, ended-store, ended-outermost, ended-fault, at_both, turn-split, turn_at_edge, turn-given, each-gives, By, RD, out_gives, out_faults, out-one, pulled}
 
 -- what turns give, gathered from all of them
-given-all : (G : Iteration → List Contribution) (f : ℕ → Step → Iteration) (S : ℕ → List Step) (ks : List ℕ) → joined (map (λ x. joined (map (λ e. G (f x e)) (S x))) ks) ≡ joined (map G (joined (map (λ x. map (f x) (S x)) ks)))
+pub given-all : (G : Iteration → List Contribution) (f : ℕ → Step → Iteration) (S : ℕ → List Step) (ks : List ℕ) → joined (map (λ x. joined (map (λ e. G (f x e)) (S x))) ks) ≡ joined (map G (joined (map (λ x. map (f x) (S x)) ks)))
 given-all G f S [] = refl
 given-all G f S (k ∷ ks) =
     let rest = joined (map (λ x. map (f x) (S x)) ks) in
@@ -55,7 +55,7 @@ given-all G f S (k ∷ ks) =
     ∙ ap (λ l. joined (map G (map (f k) (S k))) ++ l) (given-all G f S ks)
     ∙ sym (ap joined (map-append G (map (f k) (S k)) rest) ∙ joined-append (map G (map (f k) (S k))) (map G rest))
 
-faults-all : (F : Iteration → Option Fault) (f : ℕ → Step → Iteration) (S : ℕ → List Step) (ks : List ℕ) → joined (map (λ x. somes (map (λ e. F (f x e)) (S x))) ks) ≡ somes (map F (joined (map (λ x. map (f x) (S x)) ks)))
+pub faults-all : (F : Iteration → Option Fault) (f : ℕ → Step → Iteration) (S : ℕ → List Step) (ks : List ℕ) → joined (map (λ x. somes (map (λ e. F (f x e)) (S x))) ks) ≡ somes (map F (joined (map (λ x. map (f x) (S x)) ks)))
 faults-all F f S [] = refl
 faults-all F f S (k ∷ ks) =
     let rest = joined (map (λ x. map (f x) (S x)) ks) in
@@ -243,14 +243,14 @@ module _ (ds : List Declaration) (some : List ℕ) (loop : Loop) (depths : (y : 
       ∙ sym pulled-whole
 
 -- an outer body that is one inner loop
-record Lone (ds : List Declaration) (n : ℕ) (h : Head) (test : Expr) (body : Stmt) : Type 0 where
-  apart : nat_eq h.iterator n ≡ false
-  owner : h.owner ≡ n
-  range : is_range false h.domain ≡ true
-  test_flat : IsFlat test
-  inner : is_inner_body ds (n ∷ h.iterator ∷ []) true body ≡ true
+pub record Lone (ds : List Declaration) (n : ℕ) (h : Head) (test : Expr) (body : Stmt) : Type 0 where
+  pub apart : nat_eq h.iterator n ≡ false
+  pub owner : h.owner ≡ n
+  pub range : is_range false h.domain ≡ true
+  pub test_flat : IsFlat test
+  pub inner : is_inner_body ds (n ∷ h.iterator ∷ []) true body ≡ true
 
-lone : (ds : List Declaration) (n : ℕ) (k : Key) (here : Place) (h : Head) (test : Expr) (body : Stmt) → is_outer_body ds false n (Foreach k here h test body) ≡ true → Lone ds n h test body
+pub lone : (ds : List Declaration) (n : ℕ) (k : Key) (here : Place) (h : Head) (test : Expr) (body : Stmt) → is_outer_body ds false n (Foreach k here h test body) ≡ true → Lone ds n h test body
 lone ds n k here h test body o =
     let a = both-true (is_inner_head false n h) (is_flat (n ∷ h.iterator ∷ []) true test && is_inner_body ds (n ∷ h.iterator ∷ []) true body) o in
     let b = both-true (is_range false h.domain) (nat_eq h.owner n && not (nat_eq h.iterator n)) a.0 in

@@ -169,7 +169,7 @@ node-in : (p k : ℕ) (vs : List ℕ) → has_slot (Node p k) (map Scalar vs) �
 node-in p k [] = refl
 node-in p k (y ∷ vs) = node-in p k vs
 
-scalar-member : (y : ℕ) (vs : List ℕ) → has_slot (Scalar y) (map Scalar vs) ≡ true → IsIn y vs
+pub scalar-member : (y : ℕ) (vs : List ℕ) → has_slot (Scalar y) (map Scalar vs) ≡ true → IsIn y vs
 scalar-member y [] h = never h refl
 scalar-member y (z ∷ vs) h = by (nat_eq y z) refl (scalar-member y vs) h
   where
@@ -177,7 +177,7 @@ scalar-member y (z ∷ vs) h = by (nat_eq y z) refl (scalar-member y vs) h
     by true e rest h = inl (eqb-true y z e)
     by false e rest h = inr (rest h)
 
-node-member : (p k l : ℕ) (vs : List ℕ) → has_slot (Node p k) (map (λ q. Node q l) vs) ≡ true → IsIn p vs × (k ≡ l)
+pub node-member : (p k l : ℕ) (vs : List ℕ) → has_slot (Node p k) (map (λ q. Node q l) vs) ≡ true → IsIn p vs × (k ≡ l)
 node-member p k l [] h = never h refl
 node-member p k l (q ∷ vs) h = by (nat_eq p q) (nat_eq k l) refl refl (node-member p k l vs) h
   where

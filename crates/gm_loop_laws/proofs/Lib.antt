@@ -9,4 +9,27 @@ pub mod Alone
 pub mod Flips
 pub mod Mays
 pub mod Saves
+pub mod Kept
+pub mod Masks
+pub mod Chosen
+pub mod Conditions
+pub mod Pieces
+pub mod Endings
+pub mod Renamed
+pub mod Setting
+pub mod Localised
+pub mod Linked
+pub mod Moves
+pub mod Deferring
+pub mod Delays
+pub mod Saved
+pub mod Slices
+pub mod Slicing
+pub mod Parting
+pub mod Quiet
+pub mod Triples
+pub mod InnerCuts
+pub mod MaskedCuts
+pub mod Pushes
 mod Samples
+mod Rows

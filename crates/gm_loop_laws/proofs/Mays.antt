@@ -30,7 +30,7 @@ use Rattle.gm_forms.proofs.ReadingFrames.{nat_eq-apart}
 use Rattle.gm_loop_laws.specs.Saved.{is_other, never_writes}
 use Rattle.gm_loop_laws.proofs.Givens.{flat, all-flat}
 
-nil-parts : (xs ys : List ℕ) → is_nil (xs ++ ys) ≡ true → (is_nil xs ≡ true) × (is_nil ys ≡ true)
+pub nil-parts : (xs ys : List ℕ) → is_nil (xs ++ ys) ≡ true → (is_nil xs ≡ true) × (is_nil ys ≡ true)
 nil-parts [] ys h = (refl, h)
 nil-parts (x ∷ xs) ys h = absurd (both_ways false refl h)
 
@@ -119,7 +119,7 @@ module _ (ds : List Declaration) (loop : Loop) (x : ℕ) (FS : List K.Fault) whe
   within-right fs gs w f i = w f (in-right f fs gs i)
 
   -- an inner body
-  inner-faults : (s : Stmt) (e : ℕ) (its : List ℕ) → is_inner_body ds its true s ≡ true → Within (faults_of s) → never_writes n s ≡ true → MayFault s (AtEdge e)
+  pub inner-faults : (s : Stmt) (e : ℕ) (its : List ℕ) → is_inner_body ds its true s ≡ true → Within (faults_of s) → never_writes n s ≡ true → MayFault s (AtEdge e)
   inner-faults Skip e its g w o = tt
   inner-faults (Then a b) e its g w o =
       let r = both-true _ _ g in

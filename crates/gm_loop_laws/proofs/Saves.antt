@@ -58,13 +58,13 @@ last : (x y : ℕ) (q : Bool) → nat_lt x y ≡ true → nat_lt y x || (nat_eq 
 last x y q h = grind (arith, nat_tests)
 
 -- a fault that stands before another is less
-fault-order : (f g : Fault) → fault_lt (named f) (named g) ≡ true → comes_before (rank_of g) (rank_of f) ≡ false
+pub fault-order : (f g : Fault) → fault_lt (named f) (named g) ≡ true → comes_before (rank_of g) (rank_of f) ≡ false
 fault-order f g h =
     step f.key.statement g.key.statement _ _ h (λ h.
     step (stage_rank f.key.stage) (stage_rank g.key.stage) _ _ h (λ h.
     step f.place.line g.place.line _ _ h (λ h. last f.place.col g.place.col _ h)))
 
-all-after : (f : Fault) (fs : List Fault) → ((g : Fault) → IsIn g fs → comes_before (rank_of g) (rank_of f) ≡ false) → AllAfter f fs
+pub all-after : (f : Fault) (fs : List Fault) → ((g : Fault) → IsIn g fs → comes_before (rank_of g) (rank_of f) ≡ false) → AllAfter f fs
 all-after f [] h = tt
 all-after f (g ∷ gs) h = (h g (inl refl), all-after f gs (λ k i. h k (inr i)))
 

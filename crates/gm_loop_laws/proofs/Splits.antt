@@ -79,7 +79,7 @@ late-slots depth pp w (T.Property y p at ∷ ts) = by (node_of w y at) (slots_of
     by (Err f) r e = tt
 
 -- what is assigned goes to the slots of its targets
-assigned-slots : (S : List Slot → Type 0) (w : View) (ts : List Target) (v : AllEvaluated) → IfOk (slots_of w ts) S → IfOk (assigned_all w ts v) (λ p. S p.0)
+pub assigned-slots : (S : List Slot → Type 0) (w : View) (ts : List Target) (v : AllEvaluated) → IfOk (slots_of w ts) S → IfOk (assigned_all w ts v) (λ p. S p.0)
 assigned-slots S w ts v h = by v.hoisted (slots_of w ts) v.rest h
   where
     by : (o : Option Fault) (r : Result (List Slot) Fault) (q : Result (List Value) Fault) → IfOk r S → IfOk {T = List Slot × List Value} (unless_fault o (then_with r (λ ss. then_with q (λ xs. Ok (ss, xs))))) (λ p. S p.0)

@@ -1,2 +1,9 @@
 pub mod Alone
+pub mod Conditions
+pub mod Deferring
+pub mod Inner
+pub mod Localised
+pub mod Masks
+pub mod Pieces
 pub mod Saved
+pub mod Slices

@@ -1,0 +1,10 @@
+pub mod Basics
+pub mod Trees
+pub mod Masked
+pub mod MaskedFlips
+pub mod Turns
+pub mod Reductions
+pub mod Sane
+pub mod Parts
+pub mod Phases
+mod Rows

@@ -1,0 +1,265 @@
+//! Loops that pull, turned into the loops of their other ends.
+
+ghost use Rattle.std.specs.Prelude.{◌≡◌, IfOk, box_value, true};
+ghost use Rattle.gm_ast.specs.Program as Program;
+ghost use Rattle.gm_ast.specs.Tree.{expr_of, program_of, stmt_of};
+ghost use Rattle.gm_forms.specs.Flip as Flip;
+ghost use Rattle.gm_forms.specs.Passes.{Pass};
+ghost use Rattle.gm_forms.specs.Ready.{Ready3, Ready4};
+ghost use Rattle.gm_flip.specs.Flipped as Flipped;
+ghost use Rattle.gm_flip.specs.Turning.{can_flip};
+
+use crate::pulling::pulls;
+use gm_ast::forms::Work;
+use gm_ast::tree::{Domain, Expr, Head, Key, Stmt, Tree};
+use gm_base::{NoMemory, Place};
+use gm_value::Value;
+use std::alloc::{AllocError, Global};
+
+/// Turns each loop that pulls into the loop of its other end. A cut program whose loops that pull can be turned means the
+/// same, and each of its loops is then evaluated at its outer node, or at the node that a message from there reaches. It
+/// takes time linear in the tree.
+pub fn flip(alloc: Global, program: Work) -> Result<Work, NoMemory>
+    ensures made { IfOk result (λ r. program_of r ≡ Flipped.without_pulls (program_of program)) }
+    ensures passes { IfOk result (λ r. can_flip (program_of program) ≡ true → Pass Ready3 Ready4 (program_of program) (program_of r)) }
+{
+    let tree = program.into_tree();
+    let body = flip_phase(alloc, tree.body)?;
+    Ok(Work::new(Tree { body, ..tree }))
+}
+
+// The same edges, from their other ends.
+fn reversed(domain: Domain) -> Domain
+    ensures { result ≡ Flip.reversed domain }
+{
+    match domain {
+        Domain::OutNbrs => Domain::InNbrs,
+        Domain::InNbrs => Domain::OutNbrs,
+        other => other,
+    }
+}
+
+// The head of a flipped inner loop: the outer iterator over the neighbours of the inner one.
+fn flipped_head(outer: u32, head: Head) -> Head
+    ensures { result ≡ Flip.flipped_head outer head }
+{
+    Head {
+        iterator: outer,
+        domain: reversed(head.domain),
+        owner: head.iterator,
+        place: head.place,
+    }
+}
+
+// Whether a value is True.
+fn is_true(value: Value) -> bool
+    ensures { result ≡ Flipped.is_flag value }
+{
+    match value {
+        Value::Flag(holds) => holds,
+        _ => false,
+    }
+}
+
+// Whether a filter is the constant that passes everything.
+fn is_always(filter: &Expr) -> bool
+    ensures { result ≡ Flipped.is_always (expr_of filter.now) }
+{
+    match filter {
+        Expr::Const(value) => is_true(*value),
+        Expr::Var { .. }
+        | Expr::Property { .. }
+        | Expr::EdgeProperty { .. }
+        | Expr::Degree { .. }
+        | Expr::NodeCount
+        | Expr::EdgeCount
+        | Expr::Live { .. }
+        | Expr::Unary { .. }
+        | Expr::Binary { .. }
+        | Expr::Both(_, _)
+        | Expr::Either(_, _)
+        | Expr::Choose(_, _, _)
+        | Expr::Fold { .. } => false,
+    }
+}
+
+// Two filters in one: the first one is left out where it passes everything.
+fn join(alloc: Global, mask: Expr, filter: Expr) -> Result<Expr, AllocError>
+    ensures { IfOk result (λ r. expr_of r ≡ Flipped.joined (expr_of mask) (expr_of filter)) }
+{
+    if is_always(&mask) {
+        return Ok(filter);
+    }
+    let mask = Box::new(alloc, mask)?;
+    let filter = Box::new(alloc, filter)?;
+    Ok(Expr::Both(mask, filter))
+}
+
+// A loop.
+fn loop_of(
+    alloc: Global,
+    key: Key,
+    place: Place,
+    head: Head,
+    filter: Expr,
+    body: Stmt,
+) -> Result<Stmt, AllocError>
+    ensures { IfOk result (λ r. stmt_of r ≡ Program.Foreach key place head (expr_of filter) (stmt_of body)) }
+{
+    let body = Box::new(alloc, body)?;
+    Ok(Stmt::Foreach {
+        key,
+        place,
+        head,
+        filter,
+        body,
+    })
+}
+
+// The loop of the other end of the inner loop that is a loop's body.
+#[tactic(auto, using(crate::proofs::Trees::turned_sequence))]
+fn turn(
+    alloc: Global,
+    key: Key,
+    place: Place,
+    head: Head,
+    mask: Expr,
+    body: Stmt,
+) -> Result<Stmt, AllocError>
+    ensures { IfOk result (λ r. stmt_of r ≡ Flipped.turned key place head (expr_of mask) (stmt_of body)) }
+{
+    match body {
+        Stmt::Foreach {
+            key: inner_key,
+            place: inner_place,
+            head: inner,
+            filter,
+            body,
+        } => {
+            let filter = join(alloc, mask, filter)?;
+            let pushing = Stmt::Foreach {
+                key: inner_key,
+                place: inner_place,
+                head: flipped_head(head.iterator, inner),
+                filter,
+                body,
+            };
+            let head = Head {
+                iterator: inner.iterator,
+                ..head
+            };
+            loop_of(
+                alloc,
+                key,
+                place,
+                head,
+                Expr::Const(Value::Flag(true)),
+                pushing,
+            )
+        }
+        Stmt::Block(stmts) => loop_of(alloc, key, place, head, mask, Stmt::Block(stmts)),
+        other => loop_of(alloc, key, place, head, mask, other),
+    }
+}
+
+// A loop over all nodes, turned where it pulls.
+fn flip_loop(
+    alloc: Global,
+    key: Key,
+    place: Place,
+    head: Head,
+    filter: Expr,
+    body: Box<Stmt>,
+) -> Result<Stmt, AllocError>
+    ensures { IfOk result (λ r. stmt_of r ≡ Flipped.flipped_loop key place head (expr_of filter) (stmt_of (box_value body))) }
+{
+    if pulls(head.iterator, &body) {
+        turn(alloc, key, place, head, filter, Box::into_inner(body))
+    } else {
+        Ok(Stmt::Foreach {
+            key,
+            place,
+            head,
+            filter,
+            body,
+        })
+    }
+}
+
+// The sequential phase with each of its loops turned where it pulls.
+fn flip_phase(alloc: Global, s: Stmt) -> Result<Stmt, AllocError>
+    ensures { IfOk result (λ r. stmt_of r ≡ Flipped.flipped (stmt_of s)) }
+{
+    match s {
+        Stmt::Block(stmts) => {
+            let mut out = Vec::new(alloc);
+            for stmt in stmts {
+                let changed = flip_phase(alloc, stmt)?;
+                out.push(changed)?;
+            }
+            Ok(Stmt::Block(out))
+        }
+        Stmt::Foreach {
+            key,
+            place,
+            head,
+            filter,
+            body,
+        } => flip_loop(alloc, key, place, head, filter, body),
+        Stmt::For {
+            key,
+            place,
+            head,
+            filter,
+            body,
+        } => {
+            let changed = flip_phase(alloc, Box::into_inner(body))?;
+            let body = Box::new(alloc, changed)?;
+            Ok(Stmt::For {
+                key,
+                place,
+                head,
+                filter,
+                body,
+            })
+        }
+        Stmt::If { key, test, yes, no } => {
+            let changed = flip_phase(alloc, Box::into_inner(yes))?;
+            let yes = Box::new(alloc, changed)?;
+            let changed = flip_phase(alloc, Box::into_inner(no))?;
+            let no = Box::new(alloc, changed)?;
+            Ok(Stmt::If { key, test, yes, no })
+        }
+        Stmt::While {
+            key,
+            place,
+            test,
+            body,
+        } => {
+            let changed = flip_phase(alloc, Box::into_inner(body))?;
+            let body = Box::new(alloc, changed)?;
+            Ok(Stmt::While {
+                key,
+                place,
+                test,
+                body,
+            })
+        }
+        Stmt::Do {
+            key,
+            place,
+            body,
+            test,
+        } => {
+            let changed = flip_phase(alloc, Box::into_inner(body))?;
+            let body = Box::new(alloc, changed)?;
+            Ok(Stmt::Do {
+                key,
+                place,
+                body,
+                test,
+            })
+        }
+        other => Ok(other),
+    }
+}
