@@ -1,41 +1,81 @@
--- A program without its group assignments means the same.
-use Rattle.std.proofs.Common.{◌≡◌, suc, List, [], ◌∷◌, map, refl, ap, Some}
-use Rattle.gm_value.specs.declared.values.Value.TheVariants.{At}
-use Rattle.gm_value.specs.Operations.{is_true}
-use Rattle.gm_ast.specs.Program.{Stmt, Then, Group, If, While, Do, For, Program, sequence}
-use Rattle.gm_semantics.specs.declared.slots.Slot.TheVariants.{Scalar}
-use Rattle.gm_semantics.specs.Levels.{nodes}
-use Rattle.gm_semantics.specs.Stores.{write}
-use Rattle.gm_semantics.specs.Expressions.{value}
-use Rattle.gm_semantics.specs.Statements.{Run, State, Goes, view_of, sequential}
-use Rattle.gm_semantics.specs.Outcomes.{outcome_of, first_store}
+-- A program without its group assignments means the same, and keeps what every pass keeps.
+use Rattle.std.proofs.Common.{◌≡◌, Option, ℕ, true, false, List, [], ◌∷◌, ◌++◌, map, refl, ap}
+use Rattle.std.specs.Prelude.{◌&&◌, ◌||◌, nat_eq}
+use Rattle.std.proofs.lemmas.Bool.{eq-eqb, both_ways}
+use Rattle.gm_base.specs.declared.places.Place.{Place}
+use Rattle.gm_value.specs.declared.values.VType.{VType}
+use Rattle.gm_ast.specs.declared.tree.Declaration.{Declaration}
+use Rattle.gm_ast.specs.declared.tree.Key.{Key}
+use Rattle.gm_ast.specs.declared.tree.Sort.{Sort}
+use Rattle.gm_ast.specs.declared.tree.Sort.TheVariants as Sorts
+use Rattle.gm_ast.specs.declared.tree.Target.TheVariants as T
+use Rattle.gm_ast.specs.declared.tree.Variable.{Variable}
+use Rattle.gm_ast.specs.Names.{is_node_type, sort_eq}
+use Rattle.gm_ast.specs.Program.{Expr, Stmt, Skip, Then, Assign, Group, For, If, While, Do, Program, sequence}
 use Rattle.gm_forms.specs.Meanings.{SameMeaning}
-use Rattle.gm_desugar.specs.Groups.{ungrouped, without_groups}
-use Rattle.gm_forms.proofs.Courses.{then_do-both, with_value-each, either_way-each, begin_turn-each, repeated-each, in_turns-each}
+use Rattle.gm_forms.specs.Order.{lie_before, faults_of, in_order, hoisted_in}
+use Rattle.gm_forms.specs.Ready.{is_outer_expr, Ready0}
+use Rattle.gm_forms.specs.Uses.{Iterates, Owner, NodeValue, Anything, has_role, suits, use_as, uses_in}
+use Rattle.gm_forms.proofs.Named.{all-append}
+use Rattle.gm_forms.proofs.Weaker.{and-true}
+use Rattle.gm_desugar.specs.Groups.{ungrouped, without_groups, has_no_groups}
+use Rattle.gm_desugar.specs.Stages.{WithoutGroups}
+use Rattle.gm_desugar.proofs.Fewer.{nothing-before}
+use Rattle.gm_desugar.proofs.Replacing.{append-true, use-as, expr-same, ForPhase, phase-same, phase-then, phase-for, phase-if, phase-while, phase-do, means-same, ready-same}
 
-pub sequential-ungrouped : (s : Stmt) (run : Run) (t : State) → sequential (ungrouped s) run t ≡ sequential s run t
-sequential-ungrouped (Then a b) run t =
-    then_do-both (sequential (ungrouped a) run t) (sequential a run t) (sequential (ungrouped b) run) (sequential b run) (sequential-ungrouped a run t) (sequential-ungrouped b run)
-sequential-ungrouped (Group k at g p e) run t = refl
-sequential-ungrouped (For k at h c s) run t =
-    in_turns-each run (nodes run.graph) _ _ (λ n u.
-    let at : State = record u { store = write u.store (Scalar h.iterator) (At (Some n)) } in
-    with_value-each (value c (view_of run at k)) _ _ (λ v. either_way-each (is_true v) (sequential (ungrouped s) run) (sequential s run) Goes Goes at (sequential-ungrouped s run) (λ w. refl))) t
-sequential-ungrouped (If k c a b) run t =
-    with_value-each (value c (view_of run t k)) _ _ (λ v. either_way-each (is_true v) (sequential (ungrouped a) run) (sequential a run) (sequential (ungrouped b) run) (sequential b run) t (sequential-ungrouped a run) (sequential-ungrouped b run))
-sequential-ungrouped (While k at c s) run t =
-    repeated-each (suc run.bound) run (λ u. value c (view_of run u k)) (sequential (ungrouped s) run) (sequential s run) (sequential-ungrouped s run) t
-sequential-ungrouped (Do k at s c) run t =
-    begin_turn-each run _ _ (λ u. then_do-both (sequential (ungrouped s) run u) (sequential s run u) _ _ (sequential-ungrouped s run u)
-    (repeated-each (suc run.bound) run (λ w. value c (view_of run w k)) (sequential (ungrouped s) run) (sequential s run) (sequential-ungrouped s run))) t
-sequential-ungrouped s run t = refl
+-- what iterates may own
+owns : (v : Variable) → has_role v Iterates ≡ true → has_role v Owner ≡ true
+owns v h = by v.sort refl h
+  where
+    by : (s : Sort) → v.sort ≡ s → sort_eq Sorts.Iterator s || sort_eq Sorts.Graph s ≡ true → (sort_eq Sorts.Iterator s || (sort_eq Sorts.Scalar s && is_node_type v.vtype)) || sort_eq Sorts.Graph s ≡ true
+    by Sorts.Graph e h = refl
+    by Sorts.Iterator e h = refl
+    by Sorts.Scalar e h = absurd (both_ways false refl h)
+    by Sorts.Edge e h = absurd (both_ways false refl h)
+    by Sorts.NodeProperty e h = absurd (both_ways false refl h)
+    by Sorts.EdgeProperty e h = absurd (both_ways false refl h)
+
+module _ (ds : List Declaration) (res : Option VType) where
+  -- a group assignment's loop in its place
+  for-group : (k : Key) (at : Place) (g p : ℕ) (e : Expr) → ForPhase ds res (Group k at g p e) (ungrouped (Group k at g p e))
+  for-group k at g p e = record {
+    same = λ graph bound u. refl;
+    named = λ h.
+        let r = all-append (suits ds) (use_as Iterates g) (use_as NodeValue p ++ uses_in e) h in
+        let s = all-append (suits ds) (use_as NodeValue p) (uses_in e) r.1 in
+        append-true (suits ds) (use_as Iterates g ++ use_as Anything g) ((use_as Owner g ++ use_as NodeValue p) ++ uses_in e)
+        (append-true (suits ds) (use_as Iterates g) (use_as Anything g) r.0 (use-as ds Iterates Anything g (λ v h. refl) r.0))
+        (append-true (suits ds) (use_as Owner g ++ use_as NodeValue p) (uses_in e) (append-true (suits ds) (use_as Owner g) (use_as NodeValue p) (use-as ds Iterates Owner g owns r.0) s.0) s.1);
+    typed = λ h. h;
+    order = λ h.
+        and-true (in_order e k && lie_before (hoisted_in e) (record { key = k; place = at } ∷ [])) (lie_before [] (faults_of (Assign k (T.Property g p at) e))) h (nothing-before (faults_of (Assign k (T.Property g p at) e)));
+    share = λ h. h;
+    form = λ h. and-true (nat_eq g g) (is_outer_expr false g e) (eq-eqb g g refl) h;
+  }
+
+  for-ungrouped : (s : Stmt) → ForPhase ds res s (ungrouped s)
+  for-ungrouped Skip = phase-same ds res Skip
+  for-ungrouped (Then a b) = phase-then ds res a (ungrouped a) b (ungrouped b) (for-ungrouped a) (for-ungrouped b)
+  for-ungrouped (Group k at g p e) = for-group k at g p e
+  for-ungrouped (For k at h c s) = phase-for ds res k at h c c s (ungrouped s) (expr-same ds c) (for-ungrouped s)
+  for-ungrouped (If k c a b) = phase-if ds res k c c a (ungrouped a) b (ungrouped b) (expr-same ds c) (for-ungrouped a) (for-ungrouped b)
+  for-ungrouped (While k at c s) = phase-while ds res k at c c s (ungrouped s) (expr-same ds c) (for-ungrouped s)
+  for-ungrouped (Do k at s c) = phase-do ds res k at c c s (ungrouped s) (expr-same ds c) (for-ungrouped s)
+  for-ungrouped s = phase-same ds res s
 
 pub same-without_groups : (p : Program) → SameMeaning p (without_groups p)
-same-without_groups p = record {
-  fits = λ g args h. record { graph = h.graph; scalars = h.scalars; nodes = h.nodes; edges = h.edges };
-  same = λ g args bound h.
-      ap (outcome_of p g bound) (sequential-ungrouped p.body (record { graph = g; declarations = p.declarations; bound = bound }) (record { store = first_store p g args; turns = 0 }));
-}
+same-without_groups p = means-same p (ungrouped p.body) (for-ungrouped p.declarations p.result p.body)
+
+no-groups : (s : Stmt) → has_no_groups (ungrouped s) ≡ true
+no-groups (Then a b) = and-true (has_no_groups (ungrouped a)) (has_no_groups (ungrouped b)) (no-groups a) (no-groups b)
+no-groups (For k at hd test body) = no-groups body
+no-groups (If k c a b) = and-true (has_no_groups (ungrouped a)) (has_no_groups (ungrouped b)) (no-groups a) (no-groups b)
+no-groups (While k at c body) = no-groups body
+no-groups (Do k at body c) = no-groups body
+no-groups s = refl
+
+pub kept : (p : Program) → Ready0 p → WithoutGroups (without_groups p)
+kept p r = record { ready = ready-same p (ungrouped p.body) (for-ungrouped p.declarations p.result p.body) r; no_groups = no-groups p.body }
 
 pub ungrouped-sequence : {A : Type 0} (f : A → Stmt) (xs : List A) → ungrouped (sequence (map f xs)) ≡ sequence (map (λ x. ungrouped (f x)) xs)
 ungrouped-sequence f [] = refl

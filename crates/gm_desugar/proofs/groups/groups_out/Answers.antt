@@ -1,11 +1,9 @@
 use Rattle.std.proofs.Common.{◌≡◌, rules, sym, subst}
 use Rattle.gm_ast.specs.Tree.{program_of}
 use Rattle.gm_forms.specs.Meanings.{SameMeaning}
-use Rattle.gm_forms.specs.Ready.{Ready0}
 use Rattle.gm_desugar.specs.Stages.{WithoutGroups}
 use Rattle.gm_desugar.specs.Groups.{without_groups}
-use Rattle.gm_desugar.proofs.GroupsLaws.{same-without_groups}
-use Rattle.gm_desugar.proofs.GroupsKept.{kept}
+use Rattle.gm_desugar.proofs.GroupsLaws.{same-without_groups, kept}
 use Rattle.gm_desugar.proofs.groups.groups_out.Goals as goal
 
 pub returns-clause-same : goal.returns-clause-same

@@ -1,0 +1,4 @@
+mod Trees
+mod Sequences
+mod Form
+mod Rows

@@ -1,0 +1,4 @@
+pub mod Variables
+pub mod Copies
+pub mod Searches
+pub mod Levelled

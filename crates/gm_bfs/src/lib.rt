@@ -1,0 +1,37 @@
+//! Breadth-first searches become loops over levels: the second pass of the compiler.
+//!
+//! A search goes over the nodes level by level, and on the way back in the other order. The pass writes it with loops
+//! over all nodes and a `While`:
+//!
+//! 1. the root has level 0, every other node the greatest `Int`, which is no level;
+//! 2. a turn of the `While` is that of one level: its nodes are active; they are visited, and the ends of their edges
+//!    take the next level unless theirs is less; there is another turn where a node is on the next level;
+//! 3. on the way back a turn goes down by one level, to level 0.
+//!
+//! Neighbours on the level above or below are those whose level is one less or one more. What a part changes while it
+//! reads it at other levels it reads from copies made before: so the loop over the active nodes breaks no rule of
+//! races, though nothing says any more that the nodes that it reads are others than those that it changes.
+//!
+//! All searches of a program share the fresh variables, since none stands in another. Trees are rebuilt by value and
+//! no part is copied: time and memory are linear in the tree, but that each part that asks for levels has a table of
+//! all variables.
+//!
+//! It is proved that the code gives what the definition says, and that a desugared program comes out without searches.
+//! That the program means the same is not proved yet; tests run programs before and after the pass.
+//!
+//! - `fresh`: the fresh variables and where a search stands;
+//! - `marks`: which properties a part copies;
+//! - `readings`: expressions and inner loops that read copies and ask for levels;
+//! - `quiet`: bodies that do nothing, and filters that cannot fault;
+//! - `pieces`: the statements that keep levels;
+//! - `searches`: the loops of a search;
+//! - `levelled`: the pass.
+#![tactic(auto)]
+
+pub mod fresh;
+pub mod levelled;
+mod marks;
+mod pieces;
+mod quiet;
+mod readings;
+mod searches;

@@ -1,0 +1,13 @@
+//! Tests of the compiler's passes: programs as texts, run before and after each pass.
+#![tactic(auto)]
+
+#[cfg(test)]
+mod compounds;
+#[cfg(test)]
+mod conditions;
+#[cfg(test)]
+mod groups;
+#[cfg(test)]
+mod literals;
+#[cfg(test)]
+mod runs;
