@@ -1,0 +1,104 @@
+-- What a worker sends and takes, piece by piece.
+use Rattle.std.proofs.Common.{◌≡◌, ◌≢◌, ◌<◌, ◌≤◌, ◌+◌, ℕ, zero, suc, Bool, true, false, cond, nat_eq, List, [], ◌∷◌, ◌++◌, length, map, take, refl, sym, ap, ◌∙◌, subst, arith, append_assoc, ⊎_elim}
+use Rattle.std.specs.Prelude.{filter, slice_index_or, ◌==◌, if◌then◌else◌}
+use Rattle.std.specs.List.{flat_map}
+use Rattle.std.proofs.lemmas.Bool.{cases_eq, eq-eqb, ne_eqb}
+use Rattle.std.proofs.lemmas.List.{append-nil, take_more, get_or_default}
+use Rattle.std.proofs.lemmas.List.Elements.{filter-append}
+use Rattle.gm_machine.specs.Vertex.{Message}
+use Rattle.gm_posting.specs.Traffic.{Traffic}
+use Rattle.gm_posting.specs.Gathering.{only_for, nothing, held, sent_by_worker, GoesOn, Gathers, AreFew}
+use Rattle.gm_posting.proofs.GatheringLemmas.{goes-nothing, goes-then, gathers-then, gathers-nothing, gathers-few}
+use Rattle.gm_core.specs.Cores.{owner, for_worker}
+use Rattle.gm_workers.specs.declared.mail.Mail.{Mail}
+use Rattle.gm_workers.specs.Parts.{items_of, Takes, Hands}
+
+-- the same for each receiver
+pub gathers-as : (more more' : ℕ → List Message) (old new : Traffic Mail) (before after : List Mail) → ((to : ℕ) → more to ≡ more' to) → Gathers items_of more old new before after → Gathers items_of more' old new before after
+gathers-as more more' old new before after same g = record {
+  kept = g.kept;
+  wide = g.wide;
+  wide_sent = g.wide_sent;
+  each = λ to low. subst (λ m. GoesOn items_of (held items_of before to) m (sent_by_worker old to) (sent_by_worker new to) (held items_of after to)) (same to) (g.each to low);
+}
+
+-- a message goes to the worker that owns its node
+for-one : (owners : List ℕ) (m : Message) (w to : ℕ) → w ≡ owner owners m.to → only_for w m to ≡ for_worker owners to (m ∷ [])
+for-one owners m w to is =
+    ⊎_elim
+    (λ (here : to ≡ w).
+    ap (λ b. let l : List Message = cond b (m ∷ []) [] in l) (eq-eqb to w here)
+    ∙ sym (ap (λ b. let l : List Message = cond b (m ∷ []) [] in l) (eq-eqb (owner owners m.to) to (sym is ∙ sym here))))
+    (λ (other : to ≡ w → ⊥).
+    ap (λ b. let l : List Message = cond b (m ∷ []) [] in l) (ne_eqb to w other)
+    ∙ sym (ap (λ b. let l : List Message = cond b (m ∷ []) [] in l) (ne_eqb (owner owners m.to) to (λ e. other (sym e ∙ sym is)))))
+    (cases_eq to w)
+
+pub posts-one : (owners : List ℕ) (ms : List Message) (i w : ℕ) (d : Message) (old now new : Traffic Mail) (before middle after : List Mail) → i < length ms → w ≡ owner owners (slice_index_or ms i d).to →
+    Gathers items_of (λ to. for_worker owners to (take i ms)) old now before middle →
+    ((d : Message) → Gathers items_of (only_for w (slice_index_or ms i d)) now new middle after) →
+    Gathers items_of (λ to. for_worker owners to (take (i + 1) ms)) old new before after
+posts-one owners ms i w d old now new before middle after low is first second =
+    let m : Message = slice_index_or ms i d in
+    gathers-as (λ to. for_worker owners to (take i ms) ++ only_for w m to) (λ to. for_worker owners to (take (i + 1) ms)) old new before after
+    (λ to.
+    ap (λ l. for_worker owners to (take i ms) ++ l) (for-one owners m w to is)
+    ∙ sym (filter-append (λ x. nat_eq (owner owners x.to) to) (take i ms) (m ∷ []))
+    ∙ ap (for_worker owners to) (sym (take_more ms i d low)))
+    (gathers-then items_of (λ to. for_worker owners to (take i ms)) (only_for w m) old now new before middle after first (second d))
+
+-- batches were taken, and more
+pub takes-none : (old : Traffic Mail) (came : List (ℕ × Mail)) → Takes old old came came
+takes-none old came = record {
+  batches = [];
+  taken = ap (λ l. let t : Traffic Mail = record old { taken = l } in t) (sym (append-nil old.taken));
+  kept = sym (append-nil came);
+}
+
+pub takes-one : (old now new : Traffic Mail) (came came' came'' : List (ℕ × Mail)) (x : ℕ × Mail) → Takes old now came came' → new ≡ record now { taken = now.taken ++ x ∷ [] } → came'' ≡ came' ++ x ∷ [] →
+    Takes old new came came''
+takes-one old now new came came' came'' x t is kept = record {
+  batches = t.batches ++ x ∷ [];
+  taken =
+      is
+      ∙ ap (λ (s : Traffic Mail). let u : Traffic Mail = record s { taken = s.taken ++ x ∷ [] } in u) t.taken
+      ∙ ap (λ l. let u : Traffic Mail = record old { taken = l } in u) (append_assoc old.taken t.batches (x ∷ []));
+  kept = kept ∙ ap (λ l. l ++ x ∷ []) t.kept ∙ append_assoc came t.batches (x ∷ []);
+}
+
+-- first messages were put, and then batches were taken
+pub gathers-take : (more : ℕ → List Message) (old now new : Traffic Mail) (before after : List Mail) (came came' : List (ℕ × Mail)) → Gathers items_of more old now before after → Takes now new came came' → Hands more old new before after came came'
+gathers-take more old now new before after came came' g t = record {
+  mailboxes = ap (λ (s : Traffic Mail). s.mailboxes) t.taken ∙ ap (λ (s : Traffic Mail). s.mailboxes) g.kept;
+  worker = ap (λ (s : Traffic Mail). s.worker) t.taken ∙ ap (λ (s : Traffic Mail). s.worker) g.kept;
+  wide = g.wide;
+  wide_sent = ap (λ (s : Traffic Mail). length s.sent) t.taken ∙ g.wide_sent;
+  each = λ to low.
+      subst (λ l. GoesOn items_of (held items_of before to) (more to) (sent_by_worker old to) l (held items_of after to)) (sym (ap (λ (s : Traffic Mail). sent_by_worker s to) t.taken)) (g.each to low);
+  batches = t.batches;
+  taken = ap (λ (s : Traffic Mail). s.taken) t.taken ∙ ap (λ l. l ++ t.batches) (ap (λ (s : Traffic Mail). s.taken) g.kept);
+  kept = t.kept;
+}
+
+-- nothing yet, and more and more
+pub hands-none : (old : Traffic Mail) (gathered : List Mail) (came : List (ℕ × Mail)) → AreFew items_of gathered → Hands (λ to. []) old old gathered gathered came came
+hands-none old gathered came few = gathers-take (λ to. []) old old old gathered gathered came came (gathers-nothing items_of old gathered few) (takes-none old came)
+
+pub hands-then : (some more all : ℕ → List Message) (old now new : Traffic Mail) (before middle after : List Mail) (came came' came'' : List (ℕ × Mail)) → ((to : ℕ) → some to ++ more to ≡ all to) →
+    Hands some old now before middle came came' → Hands more now new middle after came' came'' → Hands all old new before after came came''
+hands-then some more all old now new before middle after came came' came'' same first second = record {
+  mailboxes = second.mailboxes ∙ first.mailboxes;
+  worker = second.worker ∙ first.worker;
+  wide = second.wide ∙ first.wide;
+  wide_sent = second.wide_sent ∙ first.wide_sent;
+  each = λ to low.
+      subst (λ m. GoesOn items_of (held items_of before to) m (sent_by_worker old to) (sent_by_worker new to) (held items_of after to)) (same to)
+      (goes-then items_of (held items_of before to) (some to) (more to) (held items_of middle to) (held items_of after to) (sent_by_worker old to) (sent_by_worker now to) (sent_by_worker new to)
+      (first.each to low) (second.each to (omega (arith, low, first.wide))));
+  batches = first.batches ++ second.batches;
+  taken = second.taken ∙ ap (λ l. l ++ second.batches) first.taken ∙ append_assoc old.taken first.batches second.batches;
+  kept = second.kept ∙ ap (λ l. l ++ second.batches) first.kept ∙ append_assoc came first.batches second.batches;
+}
+
+pub hands-few : (more : ℕ → List Message) (old new : Traffic Mail) (before after : List Mail) (came came' : List (ℕ × Mail)) → Hands more old new before after came came' → AreFew items_of after
+hands-few more old new before after came came' h = λ to low. (h.each to (omega (arith, low, h.wide))).few
