@@ -1,0 +1,20 @@
+pub mod Values
+pub mod Invariants
+pub mod Concats
+pub mod Frames
+pub mod Alikes
+pub mod Kept
+pub mod Steps
+pub mod Joint
+pub mod Settles
+pub mod Supersteps
+pub mod Runs
+pub mod Masters
+pub mod Sounds
+pub mod Endings
+pub mod Ranging
+pub mod Chains
+mod Rows
+pub mod Judged
+pub mod Bodies
+pub mod Sounder
