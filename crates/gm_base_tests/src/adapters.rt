@@ -1,9 +1,12 @@
 //! The adapters of real streams, over a reader and a writer that fail once.
 
+use crate::compare::{same, same_debug};
 use gm_base::{Failed, ReadSource, WriteSink, read_all, write_all};
+use std::alloc::{AllocError, Global};
 use std::cell::Cell;
 use std::io;
 use std::io::{ErrorKind, Read, Write};
+use std::process::Abort;
 use std::rc::Rc;
 use std::test::Fail;
 
@@ -85,35 +88,62 @@ impl Write for Choking {
     }
 }
 
+// A reader of the bytes from 0 to 9 that fails in its call with this number.
+fn failing_reader(fails: u32) -> ReadSource<Stuttering> {
+    ReadSource::new(Stuttering {
+        bytes: [0, 1, 2, 3, 4, 5, 6, 7, 8, 9],
+        at: 0,
+        calls: 0,
+        fails,
+    })
+}
+
+// Reads all that is left, and compares what comes out.
+fn check_read(
+    rt: &(impl Abort + AllocGlobal),
+    row: usize,
+    source: &mut ReadSource<Stuttering>,
+    want: &str,
+) -> Result<(), Fail> {
+    let read = read_all(rt.alloc(), source, 10);
+    same_debug(rt, row, &read, want)
+}
+
 #[test]
 fn a_reader_that_fails_once(rt: HostRuntime) -> Result<(), Fail> {
+    // the call that fails, and what two readings give
     let table = [
         (1, "Err(Failed)", "Ok([0, 1, 2, 3, 4, 5, 6, 7, 8, 9])"),
         (2, "Err(Failed)", "Ok([4, 5, 6, 7, 8, 9])"),
         (4, "Err(Failed)", "Ok([])"),
         (9, "Ok([0, 1, 2, 3, 4, 5, 6, 7, 8, 9])", "Ok([])"),
     ];
-    for (fails, first, second) in table {
-        let mut source = ReadSource::new(Stuttering {
-            bytes: [0, 1, 2, 3, 4, 5, 6, 7, 8, 9],
-            at: 0,
-            calls: 0,
-            fails,
-        });
-        let read = read_all(rt.alloc(), &mut source, 10);
-        assert_eq!(rt;
-            format!(in rt.alloc(); "{read:?}")?.as_str(),
-            first,
-            "call {fails}"
-        );
-        let again = read_all(rt.alloc(), &mut source, 10);
-        assert_eq!(rt;
-            format!(in rt.alloc(); "{again:?}")?.as_str(),
-            second,
-            "after call {fails}"
-        );
+    for (row, (fails, first, second)) in table.iter().enumerate() {
+        let mut source = failing_reader(*fails);
+        check_read(&rt, row, &mut source, first)?;
+        check_read(&rt, row, &mut source, second)?;
     }
     Ok(())
+}
+
+// Nothing taken, and nothing flushed.
+fn no_counts(alloc: Global) -> Result<Rc<Counts>, AllocError> {
+    let counts = Counts {
+        taken: Cell::new(0),
+        flushed: Cell::new(0),
+    };
+    Ok(Rc::new(alloc, counts)?)
+}
+
+// Writes ten bytes to a writer one of whose calls goes wrong.
+fn write_ten(counts: Rc<Counts>, fails: u32, trouble: Trouble) -> Result<(), Failed> {
+    let mut sink = WriteSink::new(Choking {
+        counts,
+        calls: 0,
+        fails,
+        trouble,
+    });
+    write_all(&mut sink, &[0, 1, 2, 3, 4, 5, 6, 7, 8, 9])
 }
 
 #[test]
@@ -126,24 +156,12 @@ fn a_writer_that_fails_once(rt: HostRuntime) -> Result<(), Fail> {
         (3, Trouble::TakesNone, Err(Failed), 8, 8),
         (9, Trouble::Write, Ok(()), 10, 10),
     ];
-    for (fails, trouble, outcome, taken, flushed) in table {
-        let counts = Rc::new(
-            rt.alloc(),
-            Counts {
-                taken: Cell::new(0),
-                flushed: Cell::new(0),
-            },
-        )?;
-        let mut sink = WriteSink::new(Choking {
-            counts: counts.clone()?,
-            calls: 0,
-            fails,
-            trouble,
-        });
-        let written = write_all(&mut sink, &[0, 1, 2, 3, 4, 5, 6, 7, 8, 9]);
-        assert_eq!(rt; written, outcome, "{trouble:?} at {fails}");
-        assert_eq!(rt; counts.taken.get(), taken, "{trouble:?} at {fails}");
-        assert_eq!(rt; counts.flushed.get(), flushed, "{trouble:?} at {fails}");
+    for (row, (fails, trouble, outcome, taken, flushed)) in table.iter().enumerate() {
+        let counts = no_counts(rt.alloc())?;
+        let written = write_ten(counts.clone()?, *fails, *trouble);
+        same(&rt, row, written, *outcome);
+        same(&rt, row, counts.taken.get(), *taken);
+        same(&rt, row, counts.flushed.get(), *flushed);
     }
     Ok(())
 }

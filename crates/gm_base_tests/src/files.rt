@@ -1,6 +1,8 @@
+use crate::compare::{same, same_debug};
 use gm_base::*;
 use std::alloc::{AllocError, Global};
-use std::path::PathBuf;
+use std::path::{Path, PathBuf};
+use std::process::Abort;
 use std::test::Fail;
 use std::{fs, process};
 
@@ -31,13 +33,26 @@ fn reads_parts_of_files(rt: HostRuntime) -> Result<(), Fail> {
         ("on", 0, Err(FileFault::Absent), [0, 0]),
         ("", 0, Err(FileFault::Absent), [0, 0]),
     ];
-    for (name, at, outcome, placed) in table {
+    for (row, (name, at, outcome, placed)) in table.iter().enumerate() {
         let mut into = [0; 2];
-        let read = files.read_at(name, at, &mut into);
-        assert_eq!(rt; read, outcome, "{name} at {at}");
-        assert_eq!(rt; into, placed, "{name} at {at}");
+        let read = files.read_at(name, *at, &mut into);
+        same(&rt, row, read, *outcome);
+        same(&rt, row, into, *placed);
     }
     Ok(())
+}
+
+// Reads a file whole, and compares what comes out.
+fn check_read(
+    rt: &(impl Abort + AllocGlobal),
+    row: usize,
+    files: &mut MemFiles,
+    name: &str,
+    limit: u64,
+    want: &str,
+) -> Result<(), Fail> {
+    let read = read_file(rt.alloc(), files, name, limit);
+    same_debug(rt, row, &read, want)
 }
 
 #[test]
@@ -52,22 +67,25 @@ fn reads_whole_files(rt: HostRuntime) -> Result<(), Fail> {
         ("one", 5, 2, "Err(Failed)", "Ok([7, 8, 9, 7, 8])"),
         ("two", 5, 1, "Err(Failed)", "Err(Absent)"),
     ];
-    for (name, limit, fails, first, second) in table {
-        let mut files = small_files(rt.alloc(), fails)?;
-        let read = read_file(rt.alloc(), &mut files, name, limit);
-        assert_eq!(rt;
-            format!(in rt.alloc(); "{read:?}")?.as_str(),
-            first,
-            "{name} {limit} {fails}"
-        );
-        let again = read_file(rt.alloc(), &mut files, name, limit);
-        assert_eq!(rt;
-            format!(in rt.alloc(); "{again:?}")?.as_str(),
-            second,
-            "{name} {limit} {fails}"
-        );
+    for (row, (name, limit, fails, first, second)) in table.iter().enumerate() {
+        let mut files = small_files(rt.alloc(), *fails)?;
+        check_read(&rt, row, &mut files, name, *limit, first)?;
+        check_read(&rt, row, &mut files, name, *limit, second)?;
     }
     Ok(())
+}
+
+// A file of 150,000 bytes; the call with this number fails.
+fn long_file(alloc: Global, fails: u64) -> Result<MemFiles, AllocError> {
+    let name = String::from_str(alloc, "long")?;
+    let bytes = vec![in alloc; 5u8; 150000]?;
+    let files = vec![in alloc; (name, bytes)]?;
+    Ok(MemFiles::new(files, vec![in alloc; fails]?))
+}
+
+// How many bytes come out of the long file, read whole up to a limit.
+fn count_of(alloc: Global, files: &mut MemFiles, limit: u64) -> Result<usize, FileStop> {
+    Ok(read_file(alloc, files, "long", limit)?.len())
 }
 
 #[test]
@@ -80,22 +98,33 @@ fn each_read_of_a_long_file_fails_in_turn(rt: HostRuntime) -> Result<(), Fail> {
         (4, Err(FileStop::Failed)),
         (9, Ok(150000)),
     ];
-    for (fails, outcome) in table {
-        let name = String::from_str(rt.alloc(), "long")?;
-        let bytes = vec![in rt.alloc(); 5u8; 150000]?;
-        let mut files = MemFiles::new(
-            vec![in rt.alloc(); (name, bytes)]?,
-            vec![in rt.alloc(); fails]?,
-        );
-        let read = read_file(rt.alloc(), &mut files, "long", 150000);
-        assert_eq!(rt; read.map(|bytes| bytes.len()), outcome, "call {fails}");
-        let again = read_file(rt.alloc(), &mut files, "long", 149999);
-        assert_eq!(rt;
-            again.map(|bytes| bytes.len()),
-            Err(FileStop::TooLong),
-            "after call {fails}"
-        );
+    for (row, (fails, outcome)) in table.iter().enumerate() {
+        let mut files = long_file(rt.alloc(), *fails)?;
+        let read = count_of(rt.alloc(), &mut files, 150000);
+        same(&rt, row, read, *outcome);
+        let again = count_of(rt.alloc(), &mut files, 149999);
+        same(&rt, row, again, Err(FileStop::TooLong));
     }
+    Ok(())
+}
+
+// Reads a file as a source, and compares what comes out, and whether it is absent; then reads again.
+fn check_source(
+    rt: &(impl Abort + AllocGlobal),
+    row: usize,
+    files: &mut MemFiles,
+    name: &str,
+    want: &str,
+    absent: bool,
+) -> Result<(), Fail> {
+    let mut source = FileSource::new(files, name);
+    same(rt, row, source.absent(), false);
+    let read = read_all(rt.alloc(), &mut source, 5);
+    same_debug(rt, row, &read, want)?;
+    same(rt, row, source.absent(), absent);
+    // The first fault stays.
+    let _ = read_all(rt.alloc(), &mut source, 5);
+    same(rt, row, source.absent(), absent);
     Ok(())
 }
 
@@ -109,20 +138,9 @@ fn a_file_as_a_source(rt: HostRuntime) -> Result<(), Fail> {
         ("two", 0, "Err(Failed)", true),
         ("two", 1, "Err(Failed)", false),
     ];
-    for (name, fails, outcome, absent) in table {
-        let mut files = small_files(rt.alloc(), fails)?;
-        let mut source = FileSource::new(&mut files, name);
-        assert!(rt; !source.absent());
-        let read = read_all(rt.alloc(), &mut source, 5);
-        assert_eq!(rt;
-            format!(in rt.alloc(); "{read:?}")?.as_str(),
-            outcome,
-            "{name} {fails}"
-        );
-        assert_eq!(rt; source.absent(), absent, "{name} {fails}");
-        // The first fault stays.
-        let _ = read_all(rt.alloc(), &mut source, 5);
-        assert_eq!(rt; source.absent(), absent, "{name} {fails}");
+    for (row, (name, fails, want, absent)) in table.iter().enumerate() {
+        let mut files = small_files(rt.alloc(), *fails)?;
+        check_source(&rt, row, &mut files, name, want, *absent)?;
     }
     Ok(())
 }
@@ -137,6 +155,35 @@ fn make_folder(rt: &HostRuntime) -> Result<PathBuf, Fail> {
     fs::write(rt, folder.join(rt.alloc(), "ten")?, "0123456789")?;
     fs::write(rt, folder.join(rt.alloc(), "abc")?, "abcdefghij")?;
     Ok(folder)
+}
+
+// Reads a part of a file of the folder, and compares what comes out and what the buffer then begins with.
+fn check_part<F: Files>(
+    rt: &impl Abort,
+    row: usize,
+    files: &mut F,
+    path: &Path,
+    at: u64,
+    outcome: Result<usize, FileFault>,
+    placed: [u8; 4],
+) {
+    let mut into = *b"----";
+    let read = files.read_at(path.as_str(), at, &mut into);
+    same(rt, row, read, outcome);
+    same(rt, row, into, placed);
+}
+
+// Reads a file of the folder whole, and compares how many bytes come out.
+fn check_whole<F: Files>(
+    rt: &(impl Abort + AllocGlobal),
+    row: usize,
+    files: &mut F,
+    path: &Path,
+    limit: u64,
+    outcome: Result<usize, FileStop>,
+) {
+    let read = read_file(rt.alloc(), files, path.as_str(), limit);
+    same(rt, row, read.map(|bytes| bytes.len()), outcome);
 }
 
 #[test]
@@ -158,12 +205,17 @@ fn files_of_the_system(rt: HostRuntime) -> Result<(), Fail> {
         ("ten/ten", 0, Err(FileFault::Failed), *b"----"),
         ("abc", 0, Ok(4), *b"abcd"),
     ];
-    for (name, at, outcome, placed) in parts {
-        let path = folder.join(rt.alloc(), name)?;
-        let mut into = *b"----";
-        let read = files.read_at(path.as_path().as_str(), at, &mut into);
-        assert_eq!(rt; read, outcome, "{name} at {at}");
-        assert_eq!(rt; into, placed, "{name} at {at}");
+    for (row, (name, at, outcome, placed)) in parts.iter().enumerate() {
+        let path = folder.join(rt.alloc(), *name)?;
+        check_part(
+            &rt,
+            row,
+            &mut files,
+            &path.as_path(),
+            *at,
+            *outcome,
+            *placed,
+        );
     }
     // the name, the limit, and what comes out of a whole reading
     let wholes = [
@@ -172,14 +224,9 @@ fn files_of_the_system(rt: HostRuntime) -> Result<(), Fail> {
         ("gone", 10, Err(FileStop::Absent)),
         ("folder", 10, Err(FileStop::Failed)),
     ];
-    for (name, limit, outcome) in wholes {
-        let path = folder.join(rt.alloc(), name)?;
-        let read = read_file(rt.alloc(), &mut files, path.as_path().as_str(), limit);
-        assert_eq!(rt;
-            read.map(|bytes| bytes.len()),
-            outcome,
-            "{name} up to {limit}"
-        );
+    for (row, (name, limit, outcome)) in wholes.iter().enumerate() {
+        let path = folder.join(rt.alloc(), *name)?;
+        check_whole(&rt, row, &mut files, &path.as_path(), *limit, *outcome);
     }
     fs::remove_dir_all(&rt, folder.as_path())?;
     Ok(())

@@ -1,8 +1,10 @@
 ghost use Rattle.std.specs.Prelude.{◌≡◌, ◌+◌, ◌^◌, ◌<◌, length, vec_len, All, IfOk, OnOk};
 
+use crate::compare::same;
 use gm_base::NoMemory;
 use gm_mailbox::{Mailbox, Post, make};
 use std::alloc::Global;
+use std::process::Abort;
 use std::sync::Wait;
 use std::test::*;
 use std::thread;
@@ -21,9 +23,11 @@ fn each_sender_in_its_order(rt: HostRuntime) -> Result<(), Fail> {
     assert!(rt; mailbox.send(&rt, &mut one, 'c').is_ok());
     mailbox.join_back(&rt, &mut zero, one);
     let batches = mailbox.collect(&rt, alloc, &mut zero).expect(&rt, "memory");
-    assert_eq!(rt;
+    same(
+        &rt,
+        0,
         batches.as_slice(),
-        [(0, 'a'), (0, 'b'), (1, 'c')].as_slice()
+        [(0, 'a'), (0, 'b'), (1, 'c')].as_slice(),
     );
     let rest = mailbox.collect(&rt, alloc, &mut zero).expect(&rt, "memory");
     assert!(rt; rest.is_empty());
@@ -35,11 +39,11 @@ fn early_takes_the_front(rt: HostRuntime) -> Result<(), Fail> {
     let alloc = rt.alloc();
     let (mut mailbox, mut zero) = make(alloc).expect(&rt, "memory");
     assert!(rt; mailbox.send(&rt, &mut zero, 'a').is_ok());
-    assert_eq!(rt; mailbox.early(&rt, &mut zero), Some((0, 'a')));
-    assert_eq!(rt; mailbox.early(&rt, &mut zero), None);
+    same(&rt, 0, mailbox.early(&rt, &mut zero), Some((0, 'a')));
+    same(&rt, 1, mailbox.early(&rt, &mut zero), None);
     assert!(rt; mailbox.send(&rt, &mut zero, 'b').is_ok());
     let batches = mailbox.collect(&rt, alloc, &mut zero).expect(&rt, "memory");
-    assert_eq!(rt; batches.as_slice(), [(0, 'b')].as_slice());
+    same(&rt, 2, batches.as_slice(), [(0, 'b')].as_slice());
     Ok(())
 }
 
@@ -116,24 +120,33 @@ fn gather<R: Threads + Wait + Sync>(
     mailbox.collect(rt, alloc, &mut zero)
 }
 
+// Counts the batches of each pass, each of which is the next of its pass.
+fn count_batches(
+    rt: &(impl Abort + AllocGlobal),
+    batches: Vec<(u32, u64)>,
+) -> Result<Vec<u64>, Fail> {
+    let mut next = vec![in rt.alloc(); 0u64; 65]?;
+    for (number, batch) in batches {
+        let count = next
+            .get_mut(number as usize)
+            .expect(rt, "the number of a pass");
+        let first = u64::from(number).wrapping_sub(1).wrapping_mul(COUNT);
+        same(rt, number as usize, batch, first.wrapping_add(*count));
+        *count = count.wrapping_add(1);
+    }
+    Ok(next)
+}
+
 #[test]
 fn threads_send_many_batches(rt: HostRuntime) -> Result<(), Fail> {
     let alloc = rt.alloc();
     for passes in [2usize, 8, 64] {
         let batches = gather(&rt, alloc, passes).expect(&rt, "memory");
-        let mut next = vec![in alloc; 0u64; 65]?;
-        for (number, batch) in batches {
-            let count = next
-                .get_mut(number as usize)
-                .expect(&rt, "the number of a pass");
-            let first = u64::from(number).wrapping_sub(1).wrapping_mul(COUNT);
-            assert_eq!(rt; batch, first.wrapping_add(*count));
-            *count = count.wrapping_add(1);
-        }
-        for (number, count) in next.iter().enumerate() {
+        let counts = count_batches(&rt, batches)?;
+        for (number, count) in counts.iter().enumerate() {
             let sends = 1 <= number && number <= passes;
             let wanted = if sends { COUNT } else { 0 };
-            assert_eq!(rt; *count, wanted);
+            same(&rt, number, *count, wanted);
         }
     }
     Ok(())

@@ -1,8 +1,10 @@
 ghost use Rattle.std.specs.Prelude.{◌≡◌, ◌∷◌, [], OnOk, map};
 ghost use Rattle.gm_observe.specs.Audience.{told_to_all};
 
+use crate::compare::{same, same_bytes};
 use gm_base::NoMemory;
 use gm_observe::*;
+use std::alloc::{AllocError, Global};
 use std::cell::Cell;
 use std::rc::Rc;
 use std::test::Fail;
@@ -78,6 +80,29 @@ fn note_of(step: u64, block: u32, messages: u64) -> Note {
     }
 }
 
+// Notes a superstep for each number of messages.
+fn note_each<O: Observer>(observer: &mut O, block: u32, messages: &[u64]) -> Result<(), NoMemory> {
+    let mut step = 0u64;
+    for sent in messages {
+        step = step.saturating_add(1);
+        observer.note(note_of(step, block, *sent))?;
+    }
+    Ok(())
+}
+
+// What an observer reports of supersteps with these numbers of messages.
+fn report_of<O: Observer>(
+    alloc: Global,
+    observer: &mut O,
+    block: u32,
+    messages: &[u64],
+) -> Result<Vec<u8>, NoMemory> {
+    note_each(observer, block, messages)?;
+    let mut out = Vec::new(alloc);
+    observer.report(&mut out)?;
+    Ok(out)
+}
+
 #[test]
 fn counters_count(rt: HostRuntime) -> Result<(), Fail> {
     // the messages of each superstep, and the report
@@ -98,16 +123,10 @@ fn counters_count(rt: HostRuntime) -> Result<(), Fail> {
             "observed 3 supersteps 18446744073709551615 messages\n",
         ),
     ];
-    for (messages, report) in table {
+    for (row, (messages, report)) in table.iter().enumerate() {
         let mut counter = Counter::new(rt.alloc());
-        let mut step = 0u64;
-        for sent in messages {
-            step = step.saturating_add(1);
-            counter.note(note_of(step, 0, *sent))?;
-        }
-        let mut out = Vec::new(rt.alloc());
-        counter.report(&mut out)?;
-        assert_eq!(rt; out.as_slice(), report.as_bytes(), "{messages:?}");
+        let out = report_of(rt.alloc(), &mut counter, 0, messages)?;
+        same_bytes(&rt, row, out.as_slice(), report.as_bytes());
     }
     Ok(())
 }
@@ -123,16 +142,10 @@ fn tables_list(rt: HostRuntime) -> Result<(), Fail> {
             "step 1 block 4 vertices 2 messages 3\nstep 2 block 4 vertices 2 messages 0\nstep 3 block 4 vertices 2 messages 18446744073709551615\n",
         ),
     ];
-    for (messages, report) in table {
+    for (row, (messages, report)) in table.iter().enumerate() {
         let mut listed = Table::new(rt.alloc());
-        let mut step = 0u64;
-        for sent in messages {
-            step = step.saturating_add(1);
-            listed.note(note_of(step, 4, *sent))?;
-        }
-        let mut out = Vec::new(rt.alloc());
-        listed.report(&mut out)?;
-        assert_eq!(rt; out.as_slice(), report.as_bytes(), "{messages:?}");
+        let out = report_of(rt.alloc(), &mut listed, 4, messages)?;
+        same_bytes(&rt, row, out.as_slice(), report.as_bytes());
     }
     Ok(())
 }
@@ -160,49 +173,57 @@ fn all_are_told_and_report_in_order(rt: HostRuntime) -> Result<(), Fail> {
     tell_two(&mut observers, note_of(1, 0, 3), note_of(2, 1, 0))?;
     let mut out = b"turns 0\n".to_vec(rt.alloc())?;
     report_all(&observers, &mut out)?;
-    assert_eq!(rt;
+    same_bytes(
+        &rt,
+        0,
         out.as_slice(),
-        b"turns 0\nobserved 2 supersteps 3 messages\nstep 1 block 0 vertices 2 messages 3\nstep 2 block 1 vertices 2 messages 0\n".as_slice()
+        b"turns 0\nobserved 2 supersteps 3 messages\nstep 1 block 0 vertices 2 messages 3\nstep 2 block 1 vertices 2 messages 0\n",
     );
     // a second report says the same once more
     let before = out.len();
     report_all(&observers, &mut out)?;
-    assert_eq!(rt; out.len().saturating_sub(before), before.saturating_sub(8));
+    same(
+        &rt,
+        1,
+        out.len().saturating_sub(before),
+        before.saturating_sub(8),
+    );
     Ok(())
+}
+
+// Two observers: one that has no memory for its second note, and behind it one that counts its notes and its drops.
+fn two_observers(
+    alloc: Global,
+    told: Rc<Cell<u32>>,
+    drops: Rc<Cell<u32>>,
+) -> Result<Vec<Box<dyn Observer>>, AllocError> {
+    let notes = Vec::new(alloc);
+    let forgetful: Box<dyn Observer> = Box::new(alloc, Forgetful { notes })?;
+    let notes = Vec::new(alloc);
+    let counted: Box<dyn Observer> = Box::new(alloc, Counted { notes, told, drops })?;
+    let mut observers = Vec::new(alloc);
+    observers.push(forgetful)?;
+    observers.push(counted)?;
+    Ok(observers)
 }
 
 #[test]
 fn one_without_memory_stops_the_telling(rt: HostRuntime) -> Result<(), Fail> {
     let told = Rc::new(rt.alloc(), Cell::new(0u32))?;
     let drops = Rc::new(rt.alloc(), Cell::new(0u32))?;
-    let mut observers: Vec<Box<dyn Observer>> = Vec::new(rt.alloc());
-    let forgetful: Box<dyn Observer> = Box::new(
-        rt.alloc(),
-        Forgetful {
-            notes: Vec::new(rt.alloc()),
-        },
-    )?;
-    observers.push(forgetful).map_err(NoMemory::from)?;
-    let counted: Box<dyn Observer> = Box::new(
-        rt.alloc(),
-        Counted {
-            notes: Vec::new(rt.alloc()),
-            told: Rc::clone(&told)?,
-            drops: Rc::clone(&drops)?,
-        },
-    )?;
-    observers.push(counted).map_err(NoMemory::from)?;
-    assert_eq!(rt; tell_all(&mut observers, note_of(1, 0, 3)), Ok(()));
-    assert_eq!(rt; told.get(), 1);
+    let mut observers = two_observers(rt.alloc(), Rc::clone(&told)?, Rc::clone(&drops)?)?;
+    same(&rt, 0, tell_all(&mut observers, note_of(1, 0, 3)), Ok(()));
+    same(&rt, 1, told.get(), 1);
     // the first has no memory for its second note, and the one behind it is not told
-    assert_eq!(rt; tell_all(&mut observers, note_of(2, 0, 3)), Err(NoMemory));
-    assert_eq!(rt; told.get(), 1);
+    let outcome = tell_all(&mut observers, note_of(2, 0, 3));
+    same(&rt, 2, outcome, Err(NoMemory));
+    same(&rt, 3, told.get(), 1);
     // one of them cannot report, and what was written before stays alone
     let mut out = b"turns 0\n".to_vec(rt.alloc())?;
-    assert_eq!(rt; report_all(&observers, &mut out), Err(NoMemory));
-    assert_eq!(rt; out.as_slice(), b"turns 0\n".as_slice());
-    assert_eq!(rt; drops.get(), 0);
+    same(&rt, 4, report_all(&observers, &mut out), Err(NoMemory));
+    same_bytes(&rt, 5, out.as_slice(), b"turns 0\n");
+    same(&rt, 6, drops.get(), 0);
     drop(observers);
-    assert_eq!(rt; drops.get(), 1);
+    same(&rt, 7, drops.get(), 1);
     Ok(())
 }

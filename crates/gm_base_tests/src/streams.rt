@@ -1,5 +1,29 @@
+use crate::compare::{same, same_bytes, same_debug, same_text};
 use gm_base::*;
+use std::alloc::Global;
+use std::process::Abort;
 use std::test::Fail;
+
+// Reads all that is left up to a limit, and compares what comes out.
+fn check_read(
+    rt: &(impl Abort + AllocGlobal),
+    row: usize,
+    source: &mut MemSource,
+    limit: u64,
+    want: &str,
+) -> Result<(), Fail> {
+    let read = read_all(rt.alloc(), source, limit);
+    same_debug(rt, row, &read, want)
+}
+
+// Five bytes, in pieces of 1 to 9; the call with this number fails.
+fn five_bytes(alloc: Global, piece: usize, fails: u64) -> Result<MemSource, Fail> {
+    if piece == 0 {
+        return Err(Fail::from("a piece has a byte"));
+    }
+    let bytes = vec![in alloc; 7u8, 8, 9, 7, 8]?;
+    Ok(MemSource::new(bytes, piece, vec![in alloc; fails]?))
+}
 
 #[test]
 fn reads_all_in_pieces(rt: HostRuntime) -> Result<(), Fail> {
@@ -14,24 +38,20 @@ fn reads_all_in_pieces(rt: HostRuntime) -> Result<(), Fail> {
         (2, 5, 3, "Err(Failed)", "Ok([8])"),
         (2, 5, 4, "Err(Failed)", "Ok([])"),
     ];
-    for (piece, limit, fails, first, second) in table {
-        assert!(rt; 0 < piece);
-        let bytes = vec![in rt.alloc(); 7u8, 8, 9, 7, 8]?;
-        let mut source = MemSource::new(bytes, piece, vec![in rt.alloc(); fails]?);
-        let read = read_all(rt.alloc(), &mut source, limit);
-        assert_eq!(rt;
-            format!(in rt.alloc(); "{read:?}")?.as_str(),
-            first,
-            "{piece} {limit} {fails}"
-        );
-        let again = read_all(rt.alloc(), &mut source, limit);
-        assert_eq!(rt;
-            format!(in rt.alloc(); "{again:?}")?.as_str(),
-            second,
-            "{piece} {limit} {fails}"
-        );
+    for (row, (piece, limit, fails, first, second)) in table.iter().enumerate() {
+        let mut source = five_bytes(rt.alloc(), *piece, *fails)?;
+        check_read(&rt, row, &mut source, *limit, first)?;
+        check_read(&rt, row, &mut source, *limit, second)?;
     }
     Ok(())
+}
+
+// An empty sink that takes pieces of 1 to 10 bytes; the call with this number fails.
+fn empty_sink(alloc: Global, piece: usize, fails: u64, room: usize) -> Result<MemSink, Fail> {
+    if piece == 0 {
+        return Err(Fail::from("a piece has a byte"));
+    }
+    Ok(MemSink::new(alloc, piece, vec![in alloc; fails]?, room)?)
 }
 
 #[test]
@@ -45,12 +65,11 @@ fn writes_all_or_a_part(rt: HostRuntime) -> Result<(), Fail> {
         (10, 0, 0, Err(Failed), ""),
         (1, 0, 26, Ok(()), "abcdefghijklmnopqrstuvwxyz"),
     ];
-    for (piece, fails, room, outcome, taken) in table {
-        assert!(rt; 0 < piece);
-        let mut sink = MemSink::new(rt.alloc(), piece, vec![in rt.alloc(); fails]?, room)?;
+    for (row, (piece, fails, room, outcome, taken)) in table.iter().enumerate() {
+        let mut sink = empty_sink(rt.alloc(), *piece, *fails, *room)?;
         let written = write_all(&mut sink, b"abcdefghijklmnopqrstuvwxyz");
-        assert_eq!(rt; written, outcome, "{piece} {fails} {room}");
-        assert_eq!(rt; sink.taken(), taken.as_bytes(), "{piece} {fails} {room}");
+        same(&rt, row, written, *outcome);
+        same_bytes(&rt, row, sink.taken(), taken.as_bytes());
     }
     Ok(())
 }
@@ -68,8 +87,8 @@ fn codes_of_statuses(rt: HostRuntime) {
         (Status::WriteFault, 7),
         (Status::NoMemory, 8),
     ];
-    for (status, code) in table {
-        assert_eq!(rt; status.code(), code);
+    for (row, (status, code)) in table.iter().enumerate() {
+        same(&rt, row, status.code(), *code);
     }
 }
 
@@ -78,6 +97,14 @@ const fn refusal(rule: Rule, line: u32, col: u32) -> Refusal {
         rule,
         place: Place { line, col },
     }
+}
+
+// The least of two refusals, noted in this order.
+fn least_of(first: Refusal, second: Refusal) -> Option<Refusal> {
+    let mut least = None;
+    first.note(&mut least);
+    second.note(&mut least);
+    least
 }
 
 #[test]
@@ -91,13 +118,9 @@ fn the_least_refusal(rt: HostRuntime) {
         (refusal(Rule::T15, 3, 2), refusal(Rule::R1, 3, 2)),
         (refusal(Rule::R6, 3, 2), refusal(Rule::C1, 3, 2)),
     ];
-    for (lesser, greater) in table {
-        for (first, second) in [(lesser, greater), (greater, lesser)] {
-            let mut least = None;
-            first.note(&mut least);
-            second.note(&mut least);
-            assert_eq!(rt; least, Some(lesser), "{lesser} {greater}");
-        }
+    for (row, (lesser, greater)) in table.iter().enumerate() {
+        same(&rt, row, least_of(*lesser, *greater), Some(*lesser));
+        same(&rt, row, least_of(*greater, *lesser), Some(*lesser));
     }
 }
 
@@ -127,8 +150,8 @@ fn prints(rt: HostRuntime) -> Result<(), Fail> {
         (FileStop::TooLong.to_string(alloc)?, "too long"),
         (FileStop::NoMemory.to_string(alloc)?, "out of memory"),
     ];
-    for (printed, text) in &table {
-        assert_eq!(rt; printed.as_str(), *text);
+    for (row, (printed, text)) in table.iter().enumerate() {
+        same_text(&rt, row, printed.as_str(), text);
     }
     Ok(())
 }
@@ -136,13 +159,13 @@ fn prints(rt: HostRuntime) -> Result<(), Fail> {
 #[test]
 fn lists_and_texts(rt: HostRuntime) -> Result<(), Fail> {
     let items = Items::new(vec![in rt.alloc(); 3u8, 1, 2]?);
-    assert_eq!(rt; items.as_slice(), [3, 1, 2].as_slice());
-    assert_eq!(rt; (items.len(), items.is_empty()), (3, false));
-    assert_eq!(rt; items.into_vec().len(), 3);
+    same_bytes(&rt, 0, items.as_slice(), &[3, 1, 2]);
+    same(&rt, 1, (items.len(), items.is_empty()), (3, false));
+    same(&rt, 2, items.into_vec().len(), 3);
     let none: Items<u8> = Items::new(Vec::new(rt.alloc()));
-    assert_eq!(rt; (none.len(), none.is_empty()), (0, true));
+    same(&rt, 3, (none.len(), none.is_empty()), (0, true));
     let text = Text::new(String::from_str(rt.alloc(), "né")?);
-    assert_eq!(rt; text.as_str(), "né");
-    assert_eq!(rt; text.into_string().len(), 3);
+    same_text(&rt, 4, text.as_str(), "né");
+    same(&rt, 5, text.into_string().len(), 3);
     Ok(())
 }

@@ -1,9 +1,12 @@
 //! What the definitions were not made from: results worked out by hand.
 
+use crate::compare::{same, same_text};
 use gm_value::{
     FaultKind, Op1, Op2, Reduce, Total, VType, Value, apply1, apply2, fold_in, fold_tuple,
     taking_goes_by_ranks, total_add, total_close, total_unit, tuples_have_no_order, unit,
 };
+use std::alloc::{AllocError, Global};
+use std::process::Abort;
 use std::test::Fail;
 
 const INT_MAX: Value = Value::I32(2147483647);
@@ -14,7 +17,7 @@ const INT_MIN: Value = Value::I32(-2147483648);
 fn operations_give_what_was_worked_out(rt: HostRuntime) {
     let overflow = Err(FaultKind::Overflow);
     let by_zero = Err(FaultKind::DivideByZero);
-    for (op, a, b, want) in [
+    let table = [
         (Op2::Add, INT_MAX, Value::I32(1), overflow),
         (
             Op2::Sub,
@@ -42,12 +45,40 @@ fn operations_give_what_was_worked_out(rt: HostRuntime) {
             Value::I64(3),
             Ok(Value::Flag(true)),
         ),
-    ] {
-        assert_eq!(rt; apply2(op, a, b), want, "{op:?} of {a:?} and {b:?}");
+    ];
+    for (row, (op, a, b, want)) in table.iter().enumerate() {
+        same(&rt, row, apply2(*op, *a, *b), *want);
     }
-    assert_eq!(rt; apply1(Op1::Neg, INT_MIN), overflow);
-    assert_eq!(rt; apply1(Op1::ToI64, INT_MIN), Ok(Value::I64(-2147483648)));
-    assert_eq!(rt; apply1(Op1::Not, Value::Flag(true)), Ok(Value::Flag(false)));
+    let wide = Ok(Value::I64(-2147483648));
+    same(&rt, 100, apply1(Op1::Neg, INT_MIN), overflow);
+    same(&rt, 101, apply1(Op1::ToI64, INT_MIN), wide);
+    let turned = apply1(Op1::Not, Value::Flag(true));
+    same(&rt, 102, turned, Ok(Value::Flag(false)));
+}
+
+// Adds one more value to a total that has room for it.
+fn add(rt: &impl Abort, r: Reduce, total: Total, value: Value) -> Total {
+    assert!(rt; total.has_room());
+    total_add(r, total, value)
+}
+
+// Compares the total of three values, and what it is as a value.
+fn check_total(
+    rt: &impl Abort,
+    row: usize,
+    r: Reduce,
+    members: [Value; 3],
+    want_total: Total,
+    want: Result<Value, FaultKind>,
+) {
+    let [a, b, c] = members;
+    let one = add(rt, r, total_unit(r, VType::I32), a);
+    let two = add(rt, r, one, b);
+    let all = add(rt, r, two, c);
+    assert!(rt; all.has_room());
+    same(rt, row, all, want_total);
+    let held = unit(r, VType::I32);
+    same(rt, row, total_close(r, held, all), want);
 }
 
 #[test]
@@ -56,7 +87,7 @@ fn totals_stay_exact(rt: HostRuntime) {
         value: 0,
         over: true,
     };
-    for (r, members, want_total, want) in [
+    let table = [
         (
             Reduce::Sum,
             [INT_MAX, INT_MAX, INT_MIN],
@@ -90,32 +121,30 @@ fn totals_stay_exact(rt: HostRuntime) {
             Total::Small(INT_MIN),
             Ok(INT_MIN),
         ),
-    ] {
-        let [a, b, c] = members;
-        let one = total_add(r, total_unit(r, VType::I32), a);
-        assert!(rt; one.has_room());
-        let two = total_add(r, one, b);
-        assert!(rt; two.has_room());
-        let all = total_add(r, two, c);
-        assert!(rt; all.has_room());
-        assert_eq!(rt; all, want_total, "{r:?} of {members:?}");
-        let held = unit(r, VType::I32);
-        assert_eq!(rt; total_close(r, held, all), want, "{r:?} of {members:?}");
+    ];
+    for (row, (r, members, want_total, want)) in table.iter().enumerate() {
+        check_total(&rt, row, *r, *members, *want_total, *want);
     }
+}
+
+// A fault's name.
+fn name_of(alloc: Global, kind: FaultKind) -> Result<String, AllocError> {
+    format!(in alloc; "{kind}")
 }
 
 #[test]
 fn picks_and_prints(rt: HostRuntime) -> Result<(), Fail> {
     let node = Value::At(Some(0));
-    assert_eq!(rt; fold_in(Reduce::Max, Value::At(None), node), node);
-    assert_eq!(rt; unit(Reduce::Max, VType::Node), Value::At(None));
-    for (kind, want) in [
+    same(&rt, 100, fold_in(Reduce::Max, Value::At(None), node), node);
+    same(&rt, 101, unit(Reduce::Max, VType::Node), Value::At(None));
+    let table = [
         (FaultKind::DivideByZero, "DivideByZero"),
         (FaultKind::NilNode, "NilNode"),
         (FaultKind::Overflow, "Overflow"),
-    ] {
-        let text = format!(in rt.alloc(); "{kind}")?;
-        assert_eq!(rt; text.as_str(), want);
+    ];
+    for (row, (kind, want)) in table.iter().enumerate() {
+        let text = name_of(rt.alloc(), *kind)?;
+        same_text(&rt, row, text.as_str(), want);
     }
     taking_goes_by_ranks::<u8, Value>();
     Ok(())
@@ -133,19 +162,13 @@ fn tuples_are_replaced(rt: HostRuntime) {
         ((4, None), (5, None), false, true),
         ((-4, None), (-5, Some(9)), true, false),
     ];
-    for (held, new, by_min, by_max) in table {
+    for (row, (held, new, by_min, by_max)) in table.iter().enumerate() {
         let first = [Value::I32(held.0), Value::At(held.1)];
         let second = [Value::I32(new.0), Value::At(new.1)];
-        assert_eq!(rt;
-            fold_tuple(Reduce::Min, &first, &second),
-            by_min,
-            "{held:?} {new:?}"
-        );
-        assert_eq!(rt;
-            fold_tuple(Reduce::Max, &first, &second),
-            by_max,
-            "{held:?} {new:?}"
-        );
+        let replaces = fold_tuple(Reduce::Min, &first, &second);
+        same(&rt, row, replaces, *by_min);
+        let replaces = fold_tuple(Reduce::Max, &first, &second);
+        same(&rt, row, replaces, *by_max);
     }
     let flags = [Value::I64(1), Value::Flag(true)];
     let lesser = [Value::I64(1), Value::Flag(false)];

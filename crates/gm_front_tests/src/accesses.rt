@@ -2,6 +2,7 @@
 //! procedure, and its accesses, worked out by hand from the rules in `docs/LANGUAGE.md`.
 
 use crate::races::HEAD;
+use crate::rows::{all_read, is_row, parts_of, same};
 use gm_ast::accesses::{Access, AccessKind, Operation};
 use gm_ast::tree::Declaration;
 use gm_parse::parse;
@@ -14,69 +15,24 @@ use std::process::Abort;
 use std::str;
 use std::test::Fail;
 
-const ACCESSES: [(&str, &str); 16] = [
-    (
-        "Foreach (n: G.Nodes) { n.p = n.v + a; }",
-        "2:24 1.0 p OwnWrite; 2:30 1.0 v OwnRead; 2:36 1.0 a OwnRead",
-    ),
-    (
-        "Foreach (n: G.Nodes) (n.r) { Foreach (t: n.Nbrs) (t.r) { n.p += t.v; t.q max= n.v; } }",
-        "2:23 1.0 r OwnRead; 2:51 1.2 r OtherRead; 2:58 1.2 p OwnReduce(Sum p); 2:65 1.2 v OtherRead; 2:70 1.2 q PushReduce(Max q); 2:79 1.2 v OwnRead",
-    ),
-    (
-        "Foreach (n: G.Nodes) { Int k = 0; Foreach (t: n.Nbrs) { k += t.v; } Foreach (u: n.InNbrs) { n.p += k; } n.q = k; }",
-        "2:57 2.2 k PushReduce(Sum k); 2:62 1.2 v OtherRead; 2:93 1.3 p OwnReduce(Sum p); 2:100 3.3 k OwnRead; 2:105 1.0 q OwnWrite",
-    ),
-    (
-        "Foreach (n: G.Nodes) { n.p += 1; n.q++; n.r ||= c; }",
-        "2:24 1.0 p OwnRead; 2:24 1.0 p OwnWrite; 2:34 1.0 q OwnRead; 2:34 1.0 q OwnWrite; 2:41 1.0 r OwnRead; 2:41 1.0 r OwnWrite; 2:49 1.0 c OwnRead",
-    ),
-    (
-        "Foreach (n: G.Nodes) { n.p <= n.q @ n; s.q <= b == 1 ? 1 : 2; }",
-        "2:24 1.0 p Deferred; 2:31 1.0 q OwnRead; 2:40 1.0 s OwnRead; 2:40 1.0 q StrayWrite; 2:40 1.0 q Deferred; 2:47 1.0 b OwnRead",
-    ),
-    (
-        "InBFS (n: G.Nodes From s) (n.r) { n.p = Sum(t: n.UpNbrs) {t.q}; } InReverse (n.r) { a += Sum(t: n.DownNbrs) {t.p}; }",
-        "2:28 1.0 r OwnRead; 2:35 1.0 p OwnWrite; 2:59 1.2 q LevelRead; 2:78 3.0 r OwnRead; 2:85 3.0 a PushReduce(Sum a); 2:110 3.4 p LevelRead",
-    ),
-    (
-        "G.p = G.q + a;",
-        "2:1 1.0 p OwnWrite; 2:7 1.0 q OwnRead; 2:13 1.0 a OwnRead",
-    ),
-    ("s.p = s.v; a += 1; If (c) { Return a; }", ""),
-    (
-        "Foreach (n: G.Nodes) { Foreach (t: n.Nbrs) { n.p += Sum(u: t.Nbrs) {u.v + t.v}; } }",
-        "2:46 1.2 p OwnReduce(Sum p); 2:69 1.2 v OtherRead; 2:75 1.2 v OtherRead",
-    ),
-    (
-        "Foreach (n: G.Nodes) { Foreach (t: s.Nbrs) { s.p min= t.v; } }",
-        "2:36 1.0 s OwnRead; 2:46 1.2 s OwnRead; 2:46 1.2 p PushReduce(Min p); 2:55 1.2 v OtherRead",
-    ),
-    (
-        "Foreach (n: G.Nodes) { For (t: n.Nbrs) { n.p *= t.v; } }",
-        "2:42 1.0 p OwnRead; 2:42 1.0 p OwnWrite",
-    ),
-    (
-        "Foreach (n: G.Nodes) { Foreach (t: n.Nbrs) { t.p = 1; a = b > 1 ? 1 : 2; } }",
-        "2:46 1.2 p StrayWrite; 2:55 1.2 a StrayWrite; 2:59 1.2 b OwnRead",
-    ),
-    (
-        "Foreach (n: G.Nodes) { n.p = 1; } a = Sum(m: G.Nodes) (m.r) {m.p};",
-        "2:24 1.0 p OwnWrite; 2:56 2.0 r OwnRead; 2:62 2.0 p OwnRead",
-    ),
-    (
-        "Foreach (n: G.Nodes) { Foreach (t: n.Nbrs) { Edge e = t.ToEdge(); n.p += e.w + n.Degree() + t.InDegree() + G.NumNodes(); } }",
-        "2:67 1.2 p OwnReduce(Sum p)",
-    ),
-    (
-        "Foreach (n: G.Nodes) { Int k = 0; k = k + 1; If (k > 1) { k += 1; } n.p = k; s = n; }",
-        "2:69 1.0 p OwnWrite; 2:78 1.0 s StrayWrite",
-    ),
-    (
-        "Foreach (n: G.Nodes) { While (c) { n.r &&= c; } Do { } While (a > 1); c &= True; }",
-        "2:31 1.0 c OwnRead; 2:36 1.0 r OwnRead; 2:36 1.0 r OwnWrite; 2:44 1.0 c OwnRead; 2:63 1.0 a OwnRead; 2:71 1.0 c PushReduce(And c)",
-    ),
-];
+const ACCESSES: &str = "
+Foreach (n: G.Nodes) { n.p = n.v + a; } => 2:24 1.0 p OwnWrite; 2:30 1.0 v OwnRead; 2:36 1.0 a OwnRead
+Foreach (n: G.Nodes) (n.r) { Foreach (t: n.Nbrs) (t.r) { n.p += t.v; t.q max= n.v; } } => 2:23 1.0 r OwnRead; 2:51 1.2 r OtherRead; 2:58 1.2 p OwnReduce(Sum p); 2:65 1.2 v OtherRead; 2:70 1.2 q PushReduce(Max q); 2:79 1.2 v OwnRead
+Foreach (n: G.Nodes) { Int k = 0; Foreach (t: n.Nbrs) { k += t.v; } Foreach (u: n.InNbrs) { n.p += k; } n.q = k; } => 2:57 2.2 k PushReduce(Sum k); 2:62 1.2 v OtherRead; 2:93 1.3 p OwnReduce(Sum p); 2:100 3.3 k OwnRead; 2:105 1.0 q OwnWrite
+Foreach (n: G.Nodes) { n.p += 1; n.q++; n.r ||= c; } => 2:24 1.0 p OwnRead; 2:24 1.0 p OwnWrite; 2:34 1.0 q OwnRead; 2:34 1.0 q OwnWrite; 2:41 1.0 r OwnRead; 2:41 1.0 r OwnWrite; 2:49 1.0 c OwnRead
+Foreach (n: G.Nodes) { n.p <= n.q @ n; s.q <= b == 1 ? 1 : 2; } => 2:24 1.0 p Deferred; 2:31 1.0 q OwnRead; 2:40 1.0 s OwnRead; 2:40 1.0 q StrayWrite; 2:40 1.0 q Deferred; 2:47 1.0 b OwnRead
+InBFS (n: G.Nodes From s) (n.r) { n.p = Sum(t: n.UpNbrs) {t.q}; } InReverse (n.r) { a += Sum(t: n.DownNbrs) {t.p}; } => 2:28 1.0 r OwnRead; 2:35 1.0 p OwnWrite; 2:59 1.2 q LevelRead; 2:78 3.0 r OwnRead; 2:85 3.0 a PushReduce(Sum a); 2:110 3.4 p LevelRead
+G.p = G.q + a; => 2:1 1.0 p OwnWrite; 2:7 1.0 q OwnRead; 2:13 1.0 a OwnRead
+s.p = s.v; a += 1; If (c) { Return a; } => 
+Foreach (n: G.Nodes) { Foreach (t: n.Nbrs) { n.p += Sum(u: t.Nbrs) {u.v + t.v}; } } => 2:46 1.2 p OwnReduce(Sum p); 2:69 1.2 v OtherRead; 2:75 1.2 v OtherRead
+Foreach (n: G.Nodes) { Foreach (t: s.Nbrs) { s.p min= t.v; } } => 2:36 1.0 s OwnRead; 2:46 1.2 s OwnRead; 2:46 1.2 p PushReduce(Min p); 2:55 1.2 v OtherRead
+Foreach (n: G.Nodes) { For (t: n.Nbrs) { n.p *= t.v; } } => 2:42 1.0 p OwnRead; 2:42 1.0 p OwnWrite
+Foreach (n: G.Nodes) { Foreach (t: n.Nbrs) { t.p = 1; a = b > 1 ? 1 : 2; } } => 2:46 1.2 p StrayWrite; 2:55 1.2 a StrayWrite; 2:59 1.2 b OwnRead
+Foreach (n: G.Nodes) { n.p = 1; } a = Sum(m: G.Nodes) (m.r) {m.p}; => 2:24 1.0 p OwnWrite; 2:56 2.0 r OwnRead; 2:62 2.0 p OwnRead
+Foreach (n: G.Nodes) { Foreach (t: n.Nbrs) { Edge e = t.ToEdge(); n.p += e.w + n.Degree() + t.InDegree() + G.NumNodes(); } } => 2:67 1.2 p OwnReduce(Sum p)
+Foreach (n: G.Nodes) { Int k = 0; k = k + 1; If (k > 1) { k += 1; } n.p = k; s = n; } => 2:69 1.0 p OwnWrite; 2:78 1.0 s StrayWrite
+Foreach (n: G.Nodes) { While (c) { n.r &&= c; } Do { } While (a > 1); c &= True; } => 2:31 1.0 c OwnRead; 2:36 1.0 r OwnRead; 2:36 1.0 r OwnWrite; 2:44 1.0 c OwnRead; 2:63 1.0 a OwnRead; 2:71 1.0 c PushReduce(And c)
+";
 
 // The accesses of a procedure with these statements, in their order.
 fn accesses_of(alloc: Global, statements: &str) -> Result<String, Fail> {
@@ -172,16 +128,32 @@ fn said_of(
     )
 }
 
-// Whether the loops of the statements of each row have their accesses.
-pub fn listings_hold(rt: &impl Abort, alloc: Global, rows: &[(&str, &str)]) -> Result<(), Fail> {
-    for (statements, expected) in rows {
-        let said = accesses_of(alloc, statements)?;
-        assert_eq!(rt; said.as_str(), *expected, "{statements}");
+// Compares the accesses of the loops of a row's statements.
+fn listing_holds(rt: &(impl Abort + AllocGlobal), row: &str) -> Result<(), Fail> {
+    let (statements, want) = parts_of(row)?;
+    let said = accesses_of(rt.alloc(), statements)?;
+    same(rt, said.as_str(), want, statements);
+    Ok(())
+}
+
+/// Compares the accesses of so many rows.
+pub(crate) fn listings_hold(
+    rt: &(impl Abort + AllocGlobal),
+    rows: &str,
+    count: usize,
+) -> Result<(), Fail> {
+    let mut read = 0usize;
+    for line in rows.lines() {
+        if is_row(line) {
+            listing_holds(rt, line)?;
+            read = read.saturating_add(1);
+        }
     }
+    all_read(rt, read, count);
     Ok(())
 }
 
 #[test]
 fn listings(rt: HostRuntime) -> Result<(), Fail> {
-    listings_hold(&rt, rt.alloc(), &ACCESSES)
+    listings_hold(&rt, ACCESSES, 16)
 }

@@ -16,6 +16,8 @@ mod procedures;
 #[cfg(test)]
 mod races;
 #[cfg(test)]
+mod rows;
+#[cfg(test)]
 mod tokens;
 #[cfg(test)]
 mod types;

@@ -1,8 +1,9 @@
 //! Tests of what no clause says: texts, and what the written rules make of them.
 
+use crate::rows::{all_read, same};
 use gm_base::{Place, Refusal, Rule, Stop};
-use gm_token::{TokenKind, Tokens, scan};
-use std::alloc::Global;
+use gm_token::{TokenKind, Tokens, Word, scan};
+use std::alloc::{AllocError, Global};
 use std::process::Abort;
 use std::test::Fail;
 
@@ -177,34 +178,57 @@ const KINDS: [(&[u8], usize, TokenKind, Option<Rule>); 11] = [
     (b"Local", 1, TokenKind::Unsupported, Some(Rule::U7)),
 ];
 
+// Writes a token, with its word and its place.
+fn put_token(
+    alloc: Global,
+    line: &mut String,
+    token: &[u8],
+    word: Word,
+    place: Place,
+) -> Result<(), AllocError> {
+    for byte in token {
+        line.push(char::from(*byte))?;
+    }
+    let said = format!(in alloc; " {word:?} {place}, ")?;
+    line.push_str(said.as_str())
+}
+
 // The tokens of a text on one line.
-fn listed(alloc: Global, tokens: &Tokens) -> Result<String, Fail> {
+fn listed(alloc: Global, tokens: &Tokens) -> Result<String, AllocError> {
     let mut line = String::new(alloc);
     for i in 0..tokens.len() {
-        let word = tokens.word(i);
-        let place = tokens.place(i);
-        for byte in tokens.text(i) {
-            line.push(char::from(*byte))?;
-        }
-        line.push_str(format!(in alloc; " {word:?} {place}, ")?.as_str())?;
+        put_token(
+            alloc,
+            &mut line,
+            tokens.text(i),
+            tokens.word(i),
+            tokens.place(i),
+        )?;
     }
     let end = tokens.end();
-    line.push_str(format!(in alloc; "end {end}")?.as_str())?;
+    let said = format!(in alloc; "end {end}")?;
+    line.push_str(said.as_str())?;
     Ok(line)
 }
 
-fn shown(alloc: Global, text: &[u8]) -> Result<String, Fail> {
+fn shown(alloc: Global, text: &[u8]) -> Result<String, AllocError> {
     match scan(alloc, text) {
         Ok(tokens) => listed(alloc, &tokens),
-        Err(stop) => Ok(format!(in alloc; "{stop}")?),
+        Err(stop) => format!(in alloc; "{stop}"),
     }
+}
+
+// Compares the tokens of a text.
+fn check(rt: &(impl Abort + AllocGlobal), text: &[u8], want: &str) -> Result<(), Fail> {
+    let line = shown(rt.alloc(), text)?;
+    same(rt, line.as_str(), want, "tokens");
+    Ok(())
 }
 
 #[test]
 fn texts_have_their_tokens(rt: HostRuntime) -> Result<(), Fail> {
-    for (text, expected) in &CASES {
-        let line = shown(rt.alloc(), text)?;
-        assert_eq!(rt; line.as_str(), *expected);
+    for (text, want) in &CASES {
+        check(&rt, text, want)?;
     }
     Ok(())
 }
@@ -219,62 +243,79 @@ fn all_are(tokens: &Tokens, kind: TokenKind, rule: Option<Rule>) -> bool {
     true
 }
 
+// Compares how many words a text has, and sees that all are of a kind and break a rule.
+fn check_words(
+    rt: &(impl Abort + AllocGlobal),
+    text: &[u8],
+    count: usize,
+    kind: TokenKind,
+    rule: Option<Rule>,
+) -> Result<(), Fail> {
+    let tokens = scan(rt.alloc(), text)?;
+    all_read(rt, tokens.len(), count);
+    assert!(rt; all_are(&tokens, kind, rule));
+    Ok(())
+}
+
 #[test]
 fn words_have_their_kinds(rt: HostRuntime) -> Result<(), Fail> {
     for (text, count, kind, rule) in &KINDS {
-        let tokens = scan(rt.alloc(), text)?;
-        assert_eq!(rt; tokens.len(), *count);
-        assert!(rt; all_are(&tokens, *kind, *rule));
+        check_words(&rt, text, *count, *kind, *rule)?;
     }
     Ok(())
 }
 
 #[test]
 fn other_kinds(rt: HostRuntime) -> Result<(), Fail> {
-    let tokens = scan(rt.alloc(), b"7 1.5 +=")?;
-    assert_eq!(rt; tokens.len(), 3);
-    assert_eq!(rt; tokens.kind(0), TokenKind::Number);
-    assert_eq!(rt; tokens.kind(1), TokenKind::Real);
-    assert_eq!(rt; tokens.word(1).unsupported_rule(), Some(Rule::U8));
-    assert_eq!(rt; tokens.kind(2), TokenKind::Symbol);
-    Ok(())
+    check_words(&rt, b"7", 1, TokenKind::Number, None)?;
+    check_words(&rt, b"1.5", 1, TokenKind::Real, Some(Rule::U8))?;
+    check_words(&rt, b"+=", 1, TokenKind::Symbol, None)?;
+    check(
+        &rt,
+        b"7 1.5 +=",
+        "7 Number 1:1, 1.5 Real 1:3, += PlusAssign 1:7, end 1:9",
+    )
 }
 
 // The number of a text that is one number.
-fn number_in(rt: &impl Abort, alloc: Global, text: &[u8]) -> Result<u64, Fail> {
-    let tokens = scan(alloc, text)?;
-    assert_eq!(rt; tokens.len(), 1);
-    assert_eq!(rt; tokens.word(0), gm_token::Word::Number);
+fn number_in(rt: &(impl Abort + AllocGlobal), text: &[u8]) -> Result<u64, Fail> {
+    let tokens = scan(rt.alloc(), text)?;
+    assert!(rt; tokens.len() == 1);
+    assert!(rt; tokens.word(0) == Word::Number);
     Ok(tokens.number(0))
+}
+
+// Compares the number of a text.
+fn check_number(rt: &(impl Abort + AllocGlobal), text: &[u8], want: u64) -> Result<(), Fail> {
+    let number = number_in(rt, text)?;
+    assert_eq!(rt; number, want);
+    Ok(())
 }
 
 #[test]
 fn numbers_have_their_values(rt: HostRuntime) -> Result<(), Fail> {
-    assert_eq!(rt; number_in(&rt, rt.alloc(), b"0")?, 0);
-    assert_eq!(rt; number_in(&rt, rt.alloc(), b" 0070 ")?, 70);
-    assert_eq!(rt;
-        number_in(&rt, rt.alloc(), b"9223372036854775807")?,
-        9_223_372_036_854_775_807
-    );
-    Ok(())
+    check_number(&rt, b"0", 0)?;
+    check_number(&rt, b" 0070 ", 70)?;
+    check_number(&rt, b"9223372036854775807", 9_223_372_036_854_775_807)
 }
 
-// How a text of one repeated piece ends: at its end or with a refusal.
-fn ending(
-    alloc: Global,
-    piece: &[u8],
-    times: usize,
-    last: &[u8],
-) -> Result<Result<Place, Stop>, Fail> {
+// How the scanning of a text ends: at its end or with a refusal.
+fn ending(alloc: Global, text: &[u8]) -> Result<Place, Stop> {
+    Ok(scan(alloc, text)?.end())
+}
+
+// A text of one repeated piece.
+fn repeated(alloc: Global, piece: &[u8], times: usize, last: &[u8]) -> Result<Vec<u8>, AllocError> {
     let mut text = Vec::new(alloc);
     for _ in 0..times {
         text.extend_from_slice(piece)?;
     }
     text.extend_from_slice(last)?;
-    match scan(alloc, text.as_slice()) {
-        Ok(tokens) => Ok(Ok(tokens.end())),
-        Err(stop) => Ok(Err(stop)),
-    }
+    Ok(text)
+}
+
+fn at(line: u32, col: u32) -> Result<Place, Stop> {
+    Ok(Place { line, col })
 }
 
 fn refused(line: u32, col: u32) -> Result<Place, Stop> {
@@ -284,20 +325,24 @@ fn refused(line: u32, col: u32) -> Result<Place, Stop> {
     }))
 }
 
+// Compares how the scanning of a text of one repeated piece ends.
+fn check_ending(
+    rt: &(impl Abort + AllocGlobal),
+    piece: &[u8],
+    times: usize,
+    last: &[u8],
+    want: Result<Place, Stop>,
+) -> Result<(), Fail> {
+    let text = repeated(rt.alloc(), piece, times, last)?;
+    assert_eq!(rt; ending(rt.alloc(), text.as_slice()), want);
+    Ok(())
+}
+
 #[test]
 fn texts_have_a_limit(rt: HostRuntime) -> Result<(), Fail> {
-    let alloc = rt.alloc();
-    let at = |line: u32, col: u32| Ok(Place { line, col });
-    assert_eq!(rt; ending(alloc, b"a", 1_048_576, b"")?, at(1, 1_048_577));
-    assert_eq!(rt;
-        ending(alloc, b"a", 1_048_576, b";")?,
-        refused(1, 1_048_577)
-    );
-    assert_eq!(rt; ending(alloc, b"#\n", 524_288, b" ")?, refused(524_289, 1));
-    assert_eq!(rt; ending(alloc, b"a;\n", 349_525, b"b")?, at(349_526, 2));
-    assert_eq!(rt;
-        ending(alloc, b"a;\n", 349_525, b"bcd")?,
-        refused(349_526, 2)
-    );
-    Ok(())
+    check_ending(&rt, b"a", 1_048_576, b"", at(1, 1_048_577))?;
+    check_ending(&rt, b"a", 1_048_576, b";", refused(1, 1_048_577))?;
+    check_ending(&rt, b"#\n", 524_288, b" ", refused(524_289, 1))?;
+    check_ending(&rt, b"a;\n", 349_525, b"b", at(349_526, 2))?;
+    check_ending(&rt, b"a;\n", 349_525, b"bcd", refused(349_526, 2))
 }

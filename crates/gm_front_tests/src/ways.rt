@@ -1,11 +1,13 @@
 //! The ways of the reductions of inner loops, and the reads of edges that they forbid.
 
+use crate::rows::same;
 use gm_ast::tree::{Domain, Expr, Head, Key, Stage, Stmt, Target, TotalKey};
 use gm_ast::ways::Way;
 use gm_base::{Place, Refusal, Rule};
 use gm_push_pull::{LoopWays, ways_in_loop};
 use gm_value::Reduce;
 use std::alloc::{AllocError, Global};
+use std::process::Abort;
 use std::test::Fail;
 
 // The variables of the bodies below: a node and its neighbour, two properties of nodes, an edge and its property, and
@@ -131,9 +133,34 @@ fn head(domain: Domain) -> Head {
     }
 }
 
-#[test]
-fn reads_through_locals(rt: HostRuntime) -> Result<(), Fail> {
-    let alloc = rt.alloc();
+// What is found of the reductions of a loop.
+fn found_of(alloc: Global, domain: Domain, filter: &Expr, body: &Stmt) -> Result<String, Fail> {
+    let found = ways_in_loop(alloc, &head(domain), filter, body)?;
+    Ok(format!(in alloc; "{found:?}")?)
+}
+
+// Compares what is found with a text.
+fn check(
+    rt: &(impl Abort + AllocGlobal),
+    domain: Domain,
+    filter: &Expr,
+    body: &Stmt,
+    want: &str,
+) -> Result<(), Fail> {
+    let found = found_of(rt.alloc(), domain, filter, body)?;
+    same(rt, found.as_str(), want, "ways");
+    Ok(())
+}
+
+// These ways, and the column of the first read against the way, written out.
+fn wanted(alloc: Global, ways: Vec<Way>, col: Option<u32>) -> Result<String, AllocError> {
+    let against = against(col);
+    let ways = LoopWays { ways, against };
+    format!(in alloc; "{ways:?}")
+}
+
+// Three locals of which each takes the next one's value, the last one's in a condition, and three reductions.
+fn three_locals(alloc: Global) -> Result<Stmt, AllocError> {
     let mut stmts = Vec::new(alloc);
     stmts.push(declare(FIRST))?;
     stmts.push(declare(SECOND))?;
@@ -144,35 +171,42 @@ fn reads_through_locals(rt: HostRuntime) -> Result<(), Fail> {
     stmts.push(add(alloc, NODE, local(FIRST))?)?;
     stmts.push(add(alloc, NODE, input(NODE))?)?;
     stmts.push(add(alloc, NEIGHBOUR, input(NODE))?)?;
-    let body = Stmt::Block(stmts);
-    // the filter, and what is found
-    let table = [
-        (
-            input(NODE),
-            "LoopWays { ways: [Pull, Home, Push], against: None }",
-        ),
-        (
-            input(NEIGHBOUR),
-            "LoopWays { ways: [Pull, Pull, Push], against: None }",
-        ),
-    ];
-    for (filter, want) in table {
-        let found = ways_in_loop(alloc, &head(Domain::OutNbrs), &filter, &body)?;
-        assert_eq!(rt; format!(in alloc; "{found:?}")?.as_str(), want);
-    }
-    Ok(())
+    Ok(Stmt::Block(stmts))
 }
 
 #[test]
-fn reads_edges_against_the_way(rt: HostRuntime) -> Result<(), Fail> {
-    let alloc = rt.alloc();
+fn reads_through_locals(rt: HostRuntime) -> Result<(), Fail> {
+    let body = three_locals(rt.alloc())?;
+    check(
+        &rt,
+        Domain::OutNbrs,
+        &input(NODE),
+        &body,
+        "LoopWays { ways: [Pull, Home, Push], against: None }",
+    )?;
+    check(
+        &rt,
+        Domain::OutNbrs,
+        &input(NEIGHBOUR),
+        &body,
+        "LoopWays { ways: [Pull, Pull, Push], against: None }",
+    )
+}
+
+// A local with the values of edges, and two reductions.
+fn edge_reads(alloc: Global) -> Result<Stmt, AllocError> {
     let mut stmts = Vec::new(alloc);
     stmts.push(declare(FIRST))?;
     stmts.push(assign(FIRST, weight(20)))?;
     stmts.push(assign(FIRST, weight(9)))?;
     stmts.push(when(alloc, local(FIRST), add(alloc, NEIGHBOUR, weight(12))?)?)?;
     stmts.push(add(alloc, NODE, weight(5))?)?;
-    let body = Stmt::Block(stmts);
+    Ok(Stmt::Block(stmts))
+}
+
+#[test]
+fn reads_edges_against_the_way(rt: HostRuntime) -> Result<(), Fail> {
+    let body = edge_reads(rt.alloc())?;
     // the range, the ways, and the column of the first read
     let table = [
         (Domain::OutNbrs, Way::Home, None),
@@ -181,19 +215,8 @@ fn reads_edges_against_the_way(rt: HostRuntime) -> Result<(), Fail> {
         (Domain::DownNbrs, Way::Pull, Some(5)),
     ];
     for (domain, way, col) in table {
-        let found = ways_in_loop(alloc, &head(domain), &input(NODE), &body)?;
-        assert_eq!(rt;
-            format!(in alloc; "{found:?}")?.as_str(),
-            format!(in alloc;
-                "{:?}",
-                LoopWays {
-                    ways: vec![in alloc; Way::Push, way]?,
-                    against: against(col),
-                }
-            )?
-            .as_str(),
-            "{domain:?}"
-        );
+        let want = wanted(rt.alloc(), vec![in rt.alloc(); Way::Push, way]?, col)?;
+        check(&rt, domain, &input(NODE), &body, want.as_str())?;
     }
     Ok(())
 }
@@ -215,74 +238,62 @@ fn chain(alloc: Global, steps: [(u32, u32); 5]) -> Result<Stmt, AllocError> {
     Ok(Stmt::Block(stmts))
 }
 
+// Compares what is found of a chain.
+fn check_chain(rt: &(impl Abort + AllocGlobal), steps: [(u32, u32); 5]) -> Result<(), Fail> {
+    let body = chain(rt.alloc(), steps)?;
+    check(
+        rt,
+        Domain::OutNbrs,
+        &input(NODE),
+        &body,
+        "LoopWays { ways: [Pull], against: Some(Refusal { rule: C7, place: Place { line: 1, col: 9 } }) }",
+    )
+}
+
 #[test]
 fn reads_through_chains_of_locals(rt: HostRuntime) -> Result<(), Fail> {
-    let alloc = rt.alloc();
     // against the order of the text, along it, and in zig-zag order
-    let table = [
-        [(10, 11), (11, 12), (12, 13), (13, 14), (14, 15)],
-        [(14, 15), (13, 14), (12, 13), (11, 12), (10, 11)],
-        [(10, 11), (14, 15), (11, 12), (13, 14), (12, 13)],
-    ];
-    for steps in table {
-        let body = chain(alloc, steps)?;
-        let found = ways_in_loop(alloc, &head(Domain::OutNbrs), &input(NODE), &body)?;
-        assert_eq!(rt;
-            format!(in alloc; "{found:?}")?.as_str(),
-            "LoopWays { ways: [Pull], against: Some(Refusal { rule: C7, place: Place { line: 1, col: 9 } }) }"
-        );
-    }
-    Ok(())
+    check_chain(&rt, [(10, 11), (11, 12), (12, 13), (13, 14), (14, 15)])?;
+    check_chain(&rt, [(14, 15), (13, 14), (12, 13), (11, 12), (10, 11)])?;
+    check_chain(&rt, [(10, 11), (14, 15), (11, 12), (13, 14), (12, 13)])
+}
+
+// A local in nested conditions, and what the inner condition's local and the outer one's read, which get their values
+// further down only.
+fn conditions(alloc: Global, inner: Expr, outer: Expr) -> Result<Stmt, AllocError> {
+    let mut stmts = Vec::new(alloc);
+    stmts.push(declare(FIRST))?;
+    stmts.push(declare(SECOND))?;
+    stmts.push(declare(THIRD))?;
+    let within = when(alloc, local(SECOND), assign(FIRST, input(NODE)))?;
+    stmts.push(when(alloc, local(THIRD), within)?)?;
+    stmts.push(assign(SECOND, inner))?;
+    stmts.push(assign(THIRD, outer))?;
+    stmts.push(add(alloc, NODE, local(FIRST))?)?;
+    Ok(Stmt::Block(stmts))
+}
+
+// Compares what is found of nested conditions: a way, and the column of the first read against it.
+fn check_conditions(
+    rt: &(impl Abort + AllocGlobal),
+    domain: Domain,
+    inner: Expr,
+    outer: Expr,
+    way: Way,
+    col: Option<u32>,
+) -> Result<(), Fail> {
+    let body = conditions(rt.alloc(), inner, outer)?;
+    let want = wanted(rt.alloc(), vec![in rt.alloc(); way]?, col)?;
+    check(rt, domain, &input(NODE), &body, want.as_str())
 }
 
 #[test]
 fn reads_through_nested_conditions(rt: HostRuntime) -> Result<(), Fail> {
-    let alloc = rt.alloc();
-    // the range, what the inner condition's local and the outer one's read, which get their values further down only,
-    // and what is found
-    let table = [
-        (
-            Domain::OutNbrs,
-            input(NEIGHBOUR),
-            input(NODE),
-            Way::Pull,
-            None,
-        ),
-        (
-            Domain::OutNbrs,
-            input(NODE),
-            input(NEIGHBOUR),
-            Way::Pull,
-            None,
-        ),
-        (Domain::OutNbrs, input(NODE), input(NODE), Way::Home, None),
-        (Domain::InNbrs, input(NODE), weight(7), Way::Pull, None),
-        (Domain::InNbrs, input(NODE), input(NODE), Way::Home, None),
-        (Domain::DownNbrs, weight(7), weight(3), Way::Pull, Some(3)),
-    ];
-    for (domain, inner, outer, way, col) in table {
-        let mut stmts = Vec::new(alloc);
-        stmts.push(declare(FIRST))?;
-        stmts.push(declare(SECOND))?;
-        stmts.push(declare(THIRD))?;
-        let within = when(alloc, local(SECOND), assign(FIRST, input(NODE)))?;
-        stmts.push(when(alloc, local(THIRD), within)?)?;
-        stmts.push(assign(SECOND, inner))?;
-        stmts.push(assign(THIRD, outer))?;
-        stmts.push(add(alloc, NODE, local(FIRST))?)?;
-        let body = Stmt::Block(stmts);
-        let found = ways_in_loop(alloc, &head(domain), &input(NODE), &body)?;
-        assert_eq!(rt;
-            format!(in alloc; "{found:?}")?.as_str(),
-            format!(in alloc;
-                "{:?}",
-                LoopWays {
-                    ways: vec![in alloc; way]?,
-                    against: against(col),
-                }
-            )?
-            .as_str(),
-        );
-    }
-    Ok(())
+    let (out, back, down) = (Domain::OutNbrs, Domain::InNbrs, Domain::DownNbrs);
+    check_conditions(&rt, out, input(NEIGHBOUR), input(NODE), Way::Pull, None)?;
+    check_conditions(&rt, out, input(NODE), input(NEIGHBOUR), Way::Pull, None)?;
+    check_conditions(&rt, out, input(NODE), input(NODE), Way::Home, None)?;
+    check_conditions(&rt, back, input(NODE), weight(7), Way::Pull, None)?;
+    check_conditions(&rt, back, input(NODE), input(NODE), Way::Home, None)?;
+    check_conditions(&rt, down, weight(7), weight(3), Way::Pull, Some(3))
 }

@@ -1,11 +1,13 @@
 //! Words NAME=VALUE and the values that they give.
 ghost use Rattle.std.specs.Prelude.{◌≡◌, IfOk};
+ghost use Rattle.gm_words.specs.Jobs.{AllAssign};
 
 use gm_base::{Items, NoMemory, Text};
 use gm_graph::{Graph, RawGraph, Shape, build};
 use gm_value::{VType, Value};
 use gm_words::{ArgFault, Input, Job, bind, read_words};
 use std::alloc::{AllocError, Global};
+use std::process::Abort;
 use std::test::Fail;
 
 // Words NAME=VALUE, parted by one space each, and the values that they give to an Int `n`, a Long `l`, a Bool `b`
@@ -139,8 +141,8 @@ fn values_text(alloc: Global, values: &[Value]) -> Result<String, AllocError> {
     Ok(text)
 }
 
-// What the words give after `run a b`.
-fn answer(alloc: Global, inputs: &[Input], graph: &Graph, line: &str) -> Result<String, Fail> {
+// The words `run a b` and those of a line.
+fn words_of(alloc: Global, line: &str) -> Result<Vec<String>, AllocError> {
     let mut words = Vec::new(alloc);
     for word in ["run", "a", "b"] {
         words.push(String::from_str(alloc, word)?)?;
@@ -148,13 +150,44 @@ fn answer(alloc: Global, inputs: &[Input], graph: &Graph, line: &str) -> Result<
     for word in line.split(' ') {
         words.push(String::from_str(alloc, word)?)?;
     }
+    Ok(words)
+}
+
+// The values that words give.
+fn bound(
+    alloc: Global,
+    inputs: &[Input],
+    graph: &Graph,
+    args: &[Text],
+) -> Result<String, AllocError>
+    requires { AllAssign args.now }
+{
+    match bind(alloc, inputs, args, graph) {
+        Ok(values) => values_text(alloc, values.as_slice()),
+        Err(fault) => format!(in alloc; "{fault}"),
+    }
+}
+
+// What the words give after `run a b`.
+fn answer(alloc: Global, inputs: &[Input], graph: &Graph, line: &str) -> Result<String, Fail> {
+    let words = words_of(alloc, line)?;
     let Job::Run { args, .. } = read_words(alloc, words.as_slice())? else {
         return Err("no run")?;
     };
-    match bind(alloc, inputs, args.as_slice(), graph) {
-        Ok(values) => Ok(values_text(alloc, values.as_slice())?),
-        Err(fault) => Ok(format!(in alloc; "{fault}")?),
-    }
+    Ok(bound(alloc, inputs, graph, args.as_slice())?)
+}
+
+// Compares what a line of words gives.
+fn check(
+    rt: &(impl Abort + AllocGlobal),
+    inputs: &[Input],
+    graph: &Graph,
+    words: &str,
+    want: &str,
+) -> Result<(), Fail> {
+    let found = answer(rt.alloc(), inputs, graph, words)?;
+    assert!(rt; found.as_str() == want, "{words} => {found}");
+    Ok(())
 }
 
 #[test]
@@ -164,8 +197,7 @@ fn arguments(rt: HostRuntime) -> Result<(), Fail> {
     let graph = small_graph(alloc)?;
     for row in ROWS.lines() {
         let (words, values) = row.split_once(" => ").ok_or("no row")?;
-        let got = answer(alloc, inputs.as_slice(), &graph, words)?;
-        assert!(rt; got.as_str() == values, "{words} => {got}");
+        check(&rt, inputs.as_slice(), &graph, words, values)?;
     }
     let none = bind(alloc, inputs.as_slice(), &[], &graph);
     assert!(rt; matches!(none, Err(ArgFault::Missing(_))));

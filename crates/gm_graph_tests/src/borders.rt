@@ -6,6 +6,7 @@ ghost use Rattle.gm_model.specs.Graphs.{HasNode};
 ghost use Rattle.gm_loader.specs.GraphText.{HasColumns};
 ghost use Rattle.gm_loader.specs.Rows.{weighted};
 
+use crate::compare::same;
 use gm_base::Items;
 use gm_graph::{Graph, Shape};
 use gm_loader::{GraphFault, Limits, consume_graph};
@@ -173,13 +174,11 @@ fn compare(rt: &(impl Abort + AllocGlobal), ring: Ring) -> Result<(), Fail>
 {
     let ends = all_ends(rt.alloc(), ring.nodes)?;
     let text = text_of(rt.alloc(), ring, &ends)?;
-    let Ok(graph) = graph_of(rt.alloc(), text) else {
-        assert!(rt; false, "no graph of {} nodes", ring.nodes);
-        return Ok(());
-    };
-    assert_eq!(rt; graph.node_count(), ring.nodes);
+    let graph = graph_of(rt.alloc(), text)?;
+    same(rt, 0, graph.node_count(), ring.nodes);
     let edges = 4 * u64::from(ring.nodes);
-    assert_eq!(rt; row_counts(&graph, ring, &ends), Some((edges, edges)));
+    let counts = row_counts(&graph, ring, &ends);
+    same(rt, 1, counts, Some((edges, edges)));
     Ok(())
 }
 

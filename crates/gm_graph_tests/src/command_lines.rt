@@ -3,6 +3,7 @@ use gm_base::{Items, Text};
 use gm_partition::Owner;
 use gm_words::{Format, Job, Options, WordsStop, read_words};
 use std::alloc::{AllocError, Global};
+use std::process::Abort;
 use std::test::Fail;
 
 // Words, parted by one space each, and what they ask for: the command, its files, the words that assign, the
@@ -305,6 +306,14 @@ fn words_of(alloc: Global, line: &str) -> Result<Vec<String>, AllocError> {
     Ok(words)
 }
 
+// Compares what a line of words asks for.
+fn check(rt: &(impl Abort + AllocGlobal), words: &str, job: &str) -> Result<(), Fail> {
+    let parts = words_of(rt.alloc(), words)?;
+    let found = answer_text(rt.alloc(), parts.as_slice())?;
+    assert!(rt; found.as_str() == job, "{words} => {found}");
+    Ok(())
+}
+
 #[test]
 fn jobs(rt: HostRuntime) -> Result<(), Fail> {
     let alloc = rt.alloc();
@@ -312,8 +321,7 @@ fn jobs(rt: HostRuntime) -> Result<(), Fail> {
     assert!(rt; matches!(read_words(alloc, nothing.as_slice()), Err(WordsStop::Usage)));
     for row in ROWS.lines() {
         let (words, job) = row.split_once(" => ").ok_or("no row")?;
-        let got = answer_text(alloc, words_of(alloc, words)?.as_slice())?;
-        assert!(rt; got.as_str() == job, "{words} => {got}");
+        check(&rt, words, job)?;
     }
     Ok(())
 }

@@ -3,75 +3,19 @@
 ghost use Rattle.std.specs.Prelude.{◌≤◌, IfOk};
 ghost use Rattle.gm_loader.specs.GraphText.{HasColumns};
 
-use gm_base::Items;
-use gm_graph::{Graph, Shape};
+use crate::compare::same_text;
+use crate::graph_texts::{AMPLE, listing, shape_of};
+use gm_graph::Graph;
 use gm_loader::{GraphFault, Limits, consume_graph, parse_graph};
-use gm_value::{VType, Value};
 use std::alloc::{AllocError, Global};
-use std::fmt::Write;
 use std::process::Abort;
 use std::test::Fail;
-
-const AMPLE: Limits = Limits {
-    nodes: 100,
-    edges: 100,
-    bytes: 1000,
-};
 
 const TIGHT: Limits = Limits {
     nodes: 2,
     edges: 2,
     bytes: 20,
 };
-
-// The types that letters stand for.
-fn types(alloc: Global, letters: &str) -> Result<Items<VType>, AllocError> {
-    let mut types = Vec::new(alloc);
-    for letter in letters.as_bytes() {
-        types.push(match letter {
-            b'i' => VType::I32,
-            b'l' => VType::I64,
-            _ => VType::Flag,
-        })?;
-    }
-    Ok(Items::new(types))
-}
-
-// Writes a value.
-fn write_value(text: &mut String, value: Value) -> Result<(), AllocError> {
-    match value {
-        Value::I32(z) => write!(text, "{z}"),
-        Value::I64(z) => write!(text, "{z}"),
-        Value::Flag(b) => write!(text, "{b}"),
-        Value::At(_) => write!(text, "node"),
-    }
-}
-
-// Each node: its number, then its values, then its edges by their places, each with its target and its values.
-fn listing(alloc: Global, graph: &Graph, nodes: u32, edges: u32) -> Result<String, AllocError>
-    requires { HasColumns nodes edges graph.now }
-{
-    let mut text = String::new(alloc);
-    for node in 0..graph.node_count() {
-        let number = graph.number(node);
-        write!(text, "{number}")?;
-        for column in 0..nodes {
-            text.push(':')?;
-            write_value(&mut text, graph.start_value(node, column))?;
-        }
-        for k in 0..graph.out_degree(node) {
-            let edge = graph.out_edge(node, k);
-            let target = graph.number(graph.out_target(node, k));
-            write!(text, " {edge}>{target}")?;
-            for column in 0..edges {
-                text.push('/')?;
-                write_value(&mut text, graph.out_value(node, k, column))?;
-            }
-        }
-        text.push(';')?;
-    }
-    Ok(text)
-}
 
 // What comes of a graph: its listing, or its fault.
 fn outcome(
@@ -83,9 +27,50 @@ fn outcome(
     requires { IfOk answer (HasColumns nodes edges) }
 {
     match answer {
-        Ok(graph) => listing(alloc, &graph, nodes, edges),
+        Ok(graph) => listing(alloc, &graph, 0, nodes, edges),
         Err(fault) => format!(in alloc; "{fault:?}"),
     }
+}
+
+// What comes of a text by `parse_graph`.
+fn parsed(
+    alloc: Global,
+    letters: (&str, &str),
+    limits: &Limits,
+    text: &[u8],
+) -> Result<String, Fail>
+    requires few_nodes { limits.now.nodes ≤ 2147483647 }
+    requires few_edges { limits.now.edges ≤ 2147483647 }
+{
+    let shape = shape_of(alloc, letters)?;
+    let nodes = shape.nodes.len();
+    let edges = shape.edges.len();
+    if nodes >= 100 || edges >= 100 {
+        return Err(Fail::from("too many letters"));
+    }
+    let answer = parse_graph(alloc, text, &shape, limits);
+    Ok(outcome(alloc, answer, nodes as u32, edges as u32)?)
+}
+
+// What comes of a text by `consume_graph`.
+fn consumed(
+    alloc: Global,
+    letters: (&str, &str),
+    limits: &Limits,
+    text: &[u8],
+) -> Result<String, Fail>
+    requires few_nodes { limits.now.nodes ≤ 2147483647 }
+    requires few_edges { limits.now.edges ≤ 2147483647 }
+{
+    let shape = shape_of(alloc, letters)?;
+    let nodes = shape.nodes.len();
+    let edges = shape.edges.len();
+    if nodes >= 100 || edges >= 100 {
+        return Err(Fail::from("too many letters"));
+    }
+    let bytes = Vec::from_slice(alloc, text)?;
+    let answer = consume_graph(alloc, bytes, &shape, limits);
+    Ok(outcome(alloc, answer, nodes as u32, edges as u32)?)
 }
 
 // Reads texts, with columns of the types of some letters, and compares what comes of each by `parse_graph` and by
@@ -99,21 +84,11 @@ fn compare(
     requires few_nodes { limits.now.nodes ≤ 2147483647 }
     requires few_edges { limits.now.edges ≤ 2147483647 }
 {
-    let shape = Shape {
-        nodes: types(rt.alloc(), letters.0)?,
-        edges: types(rt.alloc(), letters.1)?,
-    };
-    let nodes = shape.nodes.len();
-    let edges = shape.edges.len();
-    assert!(rt; nodes < 100 && edges < 100);
-    for (text, want) in cases {
-        let result = parse_graph(rt.alloc(), text.as_bytes(), &shape, limits);
-        let found = outcome(rt.alloc(), result, nodes as u32, edges as u32)?;
-        assert_eq!(rt; found.as_str(), *want, "of {text:?}");
-        let bytes = Vec::from_slice(rt.alloc(), text.as_bytes())?;
-        let consumed = consume_graph(rt.alloc(), bytes, &shape, limits);
-        let consumed = outcome(rt.alloc(), consumed, nodes as u32, edges as u32)?;
-        assert_eq!(rt; consumed.as_str(), *want, "of {text:?}");
+    for (row, (text, want)) in cases.iter().enumerate() {
+        let found = parsed(rt.alloc(), letters, limits, text.as_bytes())?;
+        same_text(rt, row, found.as_str(), want);
+        let found = consumed(rt.alloc(), letters, limits, text.as_bytes())?;
+        same_text(rt, row, found.as_str(), want);
     }
     Ok(())
 }
@@ -269,6 +244,11 @@ fn values_have_their_spellings(rt: HostRuntime) -> Result<(), Fail> {
     Ok(())
 }
 
+// What a fault says.
+fn said_of(alloc: Global, fault: GraphFault) -> Result<String, AllocError> {
+    format!(in alloc; "{fault}")
+}
+
 #[test]
 fn faults_say_what_and_where(rt: HostRuntime) -> Result<(), Fail> {
     let said = [
@@ -293,9 +273,9 @@ fn faults_say_what_and_where(rt: HostRuntime) -> Result<(), Fail> {
         (GraphFault::TooLong, "too long"),
         (GraphFault::NoMemory, "out of memory"),
     ];
-    for (fault, want) in said {
-        let text = format!(in rt.alloc(); "{fault}")?;
-        assert_eq!(rt; text.as_str(), want, "of {fault:?}");
+    for (row, (fault, want)) in said.iter().enumerate() {
+        let text = said_of(rt.alloc(), *fault)?;
+        same_text(&rt, row, text.as_str(), want);
     }
     Ok(())
 }

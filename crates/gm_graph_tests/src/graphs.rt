@@ -3,7 +3,9 @@
 ghost use Rattle.std.specs.Prelude.{◌≡◌, [], ◌∷◌, All, IfOk, length};
 ghost use Rattle.gm_value.specs.declared.values.VType.TheVariants.{I32};
 ghost use Rattle.gm_graph.specs.Builds.{IsBuildable, types_of};
+ghost use Rattle.gm_model.specs.Graphs.{HasNode};
 
+use crate::compare::{same, same_text};
 use gm_base::{Items, NoMemory};
 use gm_columns::{Column, Values};
 use gm_graph::{Graph, RawGraph, Shape, build};
@@ -60,22 +62,48 @@ fn far_line(alloc: Global) -> Result<RawGraph, NoMemory>
     })
 }
 
+// Writes an edge with its place and other end behind a mark.
+fn put_edge(text: &mut String, mark: char, edge: u32, end: u32) -> Result<(), AllocError> {
+    write!(text, " {mark}{edge}/{end}")
+}
+
+// Writes the edges away from a node (`>`).
+fn put_edges_away(text: &mut String, graph: &Graph, node: u32) -> Result<(), AllocError>
+    requires { HasNode graph.now node }
+{
+    for k in 0..graph.out_degree(node) {
+        put_edge(
+            text,
+            '>',
+            graph.out_edge(node, k),
+            graph.out_target(node, k),
+        )?;
+    }
+    Ok(())
+}
+
+// Writes the edges to a node (`<`).
+fn put_edges_to(text: &mut String, graph: &Graph, node: u32) -> Result<(), AllocError>
+    requires { HasNode graph.now node }
+{
+    for k in 0..graph.in_degree(node) {
+        put_edge(text, '<', graph.in_edge(node, k), graph.in_source(node, k))?;
+    }
+    Ok(())
+}
+
+// Writes a node's number.
+fn put_number(text: &mut String, number: u64) -> Result<(), AllocError> {
+    write!(text, "{number}:")
+}
+
 // Each node's number, then its edges with their places and other ends, away from it (`>`) and to it (`<`).
 fn listing(alloc: Global, graph: &Graph) -> Result<String, AllocError> {
     let mut text = String::new(alloc);
     for node in 0..graph.node_count() {
-        let number = graph.number(node);
-        write!(text, "{number}:")?;
-        for k in 0..graph.out_degree(node) {
-            let edge = graph.out_edge(node, k);
-            let target = graph.out_target(node, k);
-            write!(text, " >{edge}/{target}")?;
-        }
-        for k in 0..graph.in_degree(node) {
-            let edge = graph.in_edge(node, k);
-            let source = graph.in_source(node, k);
-            write!(text, " <{edge}/{source}")?;
-        }
+        put_number(&mut text, graph.number(node))?;
+        put_edges_away(&mut text, graph, node)?;
+        put_edges_to(&mut text, graph, node)?;
         text.push(';')?;
     }
     Ok(text)
@@ -85,13 +113,15 @@ fn listing(alloc: Global, graph: &Graph) -> Result<String, AllocError> {
 fn a_graph_is_made_and_read(rt: HostRuntime) -> Result<(), Fail> {
     let graph = build(rt.alloc(), lines(rt.alloc())?)?;
     let text = listing(rt.alloc(), &graph)?;
-    assert_eq!(rt;
+    same_text(
+        &rt,
+        0,
         text.as_str(),
-        "3: >2/1 <0/1 <1/1;7: >0/0 >1/0 >3/1 <2/0 <3/1;9:;"
+        "3: >2/1 <0/1 <1/1;7: >0/0 >1/0 >3/1 <2/0 <3/1;9:;",
     );
-    assert_eq!(rt; graph.edge_count(), 4);
-    assert_eq!(rt; graph.node_column_count(), 1);
-    assert_eq!(rt; graph.edge_column_count(), 1);
+    same(&rt, 1, graph.edge_count(), 4);
+    same(&rt, 2, graph.node_column_count(), 1);
+    same(&rt, 3, graph.edge_column_count(), 1);
     for (number, node) in [
         (3, Some(0)),
         (7, Some(1)),
@@ -100,7 +130,7 @@ fn a_graph_is_made_and_read(rt: HostRuntime) -> Result<(), Fail> {
         (8, None),
         (u64::MAX, None),
     ] {
-        assert_eq!(rt; graph.node_of(number), node);
+        same(&rt, 4, graph.node_of(number), node);
     }
     Ok(())
 }
@@ -109,7 +139,7 @@ fn a_graph_is_made_and_read(rt: HostRuntime) -> Result<(), Fail> {
 fn numbers_far_apart_have_indices(rt: HostRuntime) -> Result<(), Fail> {
     let graph = build(rt.alloc(), far_line(rt.alloc())?)?;
     let text = listing(rt.alloc(), &graph)?;
-    assert_eq!(rt; text.as_str(), "3: <0/1;9223372036854775807: >0/0;");
+    same_text(&rt, 0, text.as_str(), "3: <0/1;9223372036854775807: >0/0;");
     Ok(())
 }
 
@@ -120,11 +150,11 @@ fn values_of_any_type_are_kept(rt: HostRuntime) -> Result<(), Fail> {
         Value::I64(-5),
         Value::At(Some(u32::MAX)),
     ]?);
-    assert_eq!(rt; values.len(), 3);
+    same(&rt, 0, values.len(), 3);
     if values.len() == 3 {
-        assert_eq!(rt; values.get(0), Value::Flag(true));
-        assert_eq!(rt; values.get(1), Value::I64(-5));
-        assert_eq!(rt; values.get(2), Value::At(Some(u32::MAX)));
+        same(&rt, 1, values.get(0), Value::Flag(true));
+        same(&rt, 2, values.get(1), Value::I64(-5));
+        same(&rt, 3, values.get(2), Value::At(Some(u32::MAX)));
     }
     Ok(())
 }

@@ -2,6 +2,7 @@
 
 ghost use Rattle.std.specs.Prelude.{◌<◌};
 
+use crate::compare::same_bytes;
 use gm_base::{MemSource, read_all};
 use gm_input::{FrontStop, read_front, read_rest};
 use std::alloc::{AllocError, Global};
@@ -58,7 +59,7 @@ fn inputs_are_parted_at_the_first_mark(rt: HostRuntime) -> Result<(), Fail> {
     for (text, shown) in table {
         for piece in 1..10 {
             let read = parts(rt.alloc(), text, piece, 1_048_577, 1_000, 0)?;
-            assert_eq!(rt; read.as_slice(), shown, "{piece}");
+            same_bytes(&rt, piece, read.as_slice(), shown);
         }
     }
     Ok(())
@@ -76,16 +77,23 @@ fn inputs_are_read_within_their_limits(rt: HostRuntime) -> Result<(), Fail> {
         (4, 3, 4, b"ab\n|failed"),
         (2, 9, 0, b"ab|\n%%\n1 2"),
     ];
-    for (most, limit, fails, shown) in table {
-        let read = parts(rt.alloc(), b"ab\n%%\n1 2", 2, most, limit, fails)?;
-        assert_eq!(rt; read.as_slice(), shown, "{most} {limit} {fails}");
+    for (row, (most, limit, fails, shown)) in table.iter().enumerate() {
+        let read = parts(rt.alloc(), b"ab\n%%\n1 2", 2, *most, *limit, *fails)?;
+        same_bytes(&rt, row, read.as_slice(), shown);
     }
     Ok(())
 }
 
+// What an input has left once so many bytes of its program are read.
+fn rest_behind(alloc: Global, most: usize) -> Result<Vec<u8>, Fail> {
+    let text = Vec::from_slice(alloc, b"abcdef\n%%\n1 2\n3")?;
+    let mut source = MemSource::new(text, 2, Vec::new(alloc));
+    let _ = read_front(alloc, &mut source, most);
+    Ok(read_all(alloc, &mut source, 1_000)?)
+}
+
 #[test]
 fn no_more_is_read_than_the_program_asks_for(rt: HostRuntime) -> Result<(), Fail> {
-    let alloc = rt.alloc();
     // how many bytes of the program are read at most, and what the input has left
     let table = [
         (1, b"cdef\n%%\n1 2\n3".as_slice()),
@@ -94,13 +102,8 @@ fn no_more_is_read_than_the_program_asks_for(rt: HostRuntime) -> Result<(), Fail
         (8, b"1 2\n3"),
     ];
     for (most, left) in table {
-        let text = Vec::from_slice(alloc, b"abcdef\n%%\n1 2\n3")?;
-        let mut source = MemSource::new(text, 2, Vec::new(alloc));
-        let _ = read_front(alloc, &mut source, most);
-        match read_all(alloc, &mut source, 1_000) {
-            Ok(rest) => assert_eq!(rt; rest.as_slice(), left, "{most}"),
-            Err(stop) => panic!(rt; "{stop:?}"),
-        }
+        let rest = rest_behind(rt.alloc(), most)?;
+        same_bytes(&rt, most, rest.as_slice(), left);
     }
     Ok(())
 }

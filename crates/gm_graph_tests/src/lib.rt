@@ -8,9 +8,13 @@ mod borders;
 #[cfg(test)]
 mod command_lines;
 #[cfg(test)]
+mod compare;
+#[cfg(test)]
 mod demos;
 #[cfg(test)]
 mod edge_lists;
+#[cfg(test)]
+mod graph_texts;
 #[cfg(test)]
 mod graphs;
 #[cfg(test)]

@@ -4,6 +4,7 @@ ghost use Rattle.std.specs.Prelude.{IfOk};
 ghost use Rattle.gm_graph.specs.Builds.{IsBuildable};
 ghost use Rattle.gm_columns.specs.Columns.{CanHold};
 
+use crate::compare::{same, same_bytes};
 use gm_base::{Items, NoMemory, Place, Status};
 use gm_columns::{Column, Values};
 use gm_graph::{Graph, RawGraph, Shape, build};
@@ -122,7 +123,7 @@ fn assert_listing(
     expected: &[u8],
 ) -> Result<(), NoMemory> {
     let text = listing(alloc, outputs, graph, outcome, ending)?;
-    assert_eq!(rt; text.as_slice(), expected);
+    same_bytes(rt, 0, text.as_slice(), expected);
     Ok(())
 }
 
@@ -161,7 +162,7 @@ fn scalars_result_nodes_and_turns(rt: HostRuntime) -> Result<(), Fail> {
         Ending::Turns,
         b"n = -5\nfar_away = 12345678901\nboth = False\nroot = 70\ngone = NIL\nreturn = True\nnode least far flag next\n3 -2147483648 9223372036854775807 True 9223372036854775807\n70 0 -9223372036854775808 False NIL\n9223372036854775807 2147483647 -10 True 3\nturns 1000000\n",
     )?;
-    assert_eq!(rt; status_of(&outcome), Status::Done);
+    same(&rt, 1, status_of(&outcome), Status::Done);
     Ok(())
 }
 
@@ -244,7 +245,7 @@ fn faults_and_cuts_are_one_line(rt: HostRuntime) -> Result<(), Fail> {
             Ending::Turns,
             expected,
         )?;
-        assert_eq!(rt; status_of(&outcome), Status::Fault);
+        same(&rt, 1, status_of(&outcome), Status::Fault);
     }
     let cut = Outcome::Cut { turns: 1_000_000 };
     let counts = Ending::Counts {
@@ -260,7 +261,7 @@ fn faults_and_cuts_are_one_line(rt: HostRuntime) -> Result<(), Fail> {
         counts,
         b"cut after 1000000 turns\n",
     )?;
-    assert_eq!(rt; status_of(&cut), Status::Cut);
+    same(&rt, 1, status_of(&cut), Status::Cut);
     Ok(())
 }
 

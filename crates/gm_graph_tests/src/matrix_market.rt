@@ -3,85 +3,20 @@
 ghost use Rattle.std.specs.Prelude.{◌≤◌, IfOk};
 ghost use Rattle.gm_loader.specs.GraphText.{HasColumns};
 
-use gm_base::Items;
-use gm_graph::{Graph, Shape};
+use crate::compare::{same, same_text};
+use crate::graph_texts::{AMPLE, listing, shape_of};
+use gm_graph::Graph;
 use gm_loader::{GraphFault, Limits, parse_graph};
 use gm_mtx::{MtxFault, consume_mtx};
-use gm_value::{VType, Value};
 use std::alloc::{AllocError, Global};
-use std::fmt::Write;
 use std::process::Abort;
 use std::test::Fail;
-
-const AMPLE: Limits = Limits {
-    nodes: 100,
-    edges: 100,
-    bytes: 1000,
-};
 
 const TIGHT: Limits = Limits {
     nodes: 2,
     edges: 2,
     bytes: 60,
 };
-
-// The types that letters stand for.
-fn types(alloc: Global, letters: &str) -> Result<Items<VType>, AllocError> {
-    let mut types = Vec::new(alloc);
-    for letter in letters.as_bytes() {
-        types.push(match letter {
-            b'i' => VType::I32,
-            b'l' => VType::I64,
-            _ => VType::Flag,
-        })?;
-    }
-    Ok(Items::new(types))
-}
-
-// Writes a value.
-fn write_value(text: &mut String, value: Value) -> Result<(), AllocError> {
-    match value {
-        Value::I32(z) => write!(text, "{z}"),
-        Value::I64(z) => write!(text, "{z}"),
-        Value::Flag(b) => write!(text, "{b}"),
-        Value::At(_) => write!(text, "node"),
-    }
-}
-
-// Each node: its number less a first one, then its values, then its edges by their places, each with its target less
-// the first one and its values.
-fn listing(
-    alloc: Global,
-    graph: &Graph,
-    first: u64,
-    nodes: u32,
-    edges: u32,
-) -> Result<String, AllocError>
-    requires { HasColumns nodes edges graph.now }
-{
-    let mut text = String::new(alloc);
-    for node in 0..graph.node_count() {
-        let number = graph.number(node).saturating_sub(first);
-        write!(text, "{number}")?;
-        for column in 0..nodes {
-            text.push(':')?;
-            write_value(&mut text, graph.start_value(node, column))?;
-        }
-        for k in 0..graph.out_degree(node) {
-            let edge = graph.out_edge(node, k);
-            let target = graph
-                .number(graph.out_target(node, k))
-                .saturating_sub(first);
-            write!(text, " {edge}>{target}")?;
-            for column in 0..edges {
-                text.push('/')?;
-                write_value(&mut text, graph.out_value(node, k, column))?;
-            }
-        }
-        text.push(';')?;
-    }
-    Ok(text)
-}
 
 // What comes of a graph: its listing, or its fault.
 fn outcome(
@@ -114,14 +49,6 @@ fn edge_outcome(
     }
 }
 
-// Columns of the types of some letters.
-fn shape_of(alloc: Global, letters: (&str, &str)) -> Result<Shape, AllocError> {
-    Ok(Shape {
-        nodes: types(alloc, letters.0)?,
-        edges: types(alloc, letters.1)?,
-    })
-}
-
 // What comes of a text, with columns of the types of some letters.
 fn comes_of(
     rt: &(impl Abort + AllocGlobal),
@@ -152,9 +79,9 @@ fn compare(
     requires few_nodes { limits.now.nodes ≤ 2147483647 }
     requires few_edges { limits.now.edges ≤ 2147483647 }
 {
-    for (text, want) in cases {
+    for (row, (text, want)) in cases.iter().enumerate() {
         let found = comes_of(rt, letters, limits, text.as_bytes())?;
-        assert_eq!(rt; found.as_str(), *want, "of {text:?}");
+        same_text(rt, row, found.as_str(), want);
     }
     Ok(())
 }
@@ -558,14 +485,10 @@ fn prefixes_are_judged(rt: HostRuntime) -> Result<(), Fail> {
         (73, "1 0>2/40;2;3 1>1/-7;"),
     ];
     let bytes = text.as_bytes();
-    assert_eq!(rt; bytes.len(), 74);
+    same(&rt, 0, bytes.len(), 74);
     for length in 0..bytes.len() + 1 {
         let found = comes_of(&rt, ("", "i"), &AMPLE, &bytes[..length])?;
-        assert_eq!(rt;
-            found.as_str(),
-            wanted(&answers, length),
-            "of {length} bytes"
-        );
+        same_text(&rt, length, found.as_str(), wanted(&answers, length));
     }
     Ok(())
 }
@@ -586,12 +509,19 @@ fn edge_lists_give_the_same(rt: HostRuntime) -> Result<(), Fail> {
     let bytes = Vec::from_slice(alloc, matrix.as_bytes())?;
     let matrixed = consume_mtx(alloc, bytes, &shape, &AMPLE);
     let matrixed = outcome(alloc, matrixed, 1, node_columns as u32, edge_columns as u32)?;
-    assert_eq!(rt;
+    same_text(
+        &rt,
+        0,
         listed.as_str(),
-        "0:0 0>1/4 1>2/1;1:0 4>1/0;2:0 2>1/-2 3>1/-2;3:0;"
+        "0:0 0>1/4 1>2/1;1:0 4>1/0;2:0 2>1/-2 3>1/-2;3:0;",
     );
-    assert_eq!(rt; matrixed.as_str(), listed.as_str());
+    same_text(&rt, 1, matrixed.as_str(), listed.as_str());
     Ok(())
+}
+
+// What a fault says.
+fn said_of(alloc: Global, fault: MtxFault) -> Result<String, AllocError> {
+    format!(in alloc; "{fault}")
 }
 
 #[test]
@@ -620,9 +550,9 @@ fn faults_say_what_and_where(rt: HostRuntime) -> Result<(), Fail> {
         (MtxFault::TooLong, "too long"),
         (MtxFault::NoMemory, "out of memory"),
     ];
-    for (fault, want) in said {
-        let text = format!(in rt.alloc(); "{fault}")?;
-        assert_eq!(rt; text.as_str(), want, "of {fault:?}");
+    for (row, (fault, want)) in said.iter().enumerate() {
+        let text = said_of(rt.alloc(), *fault)?;
+        same_text(&rt, row, text.as_str(), want);
     }
     Ok(())
 }

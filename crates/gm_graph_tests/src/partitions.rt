@@ -1,5 +1,21 @@
 //! Owners at small and at the largest numbers.
+use crate::compare::same;
 use gm_partition::{Owner, owner_of};
+use std::process::Abort;
+
+// Compares the worker that owns a node.
+fn check(
+    rt: &impl Abort,
+    row: usize,
+    owner: Owner,
+    workers: u32,
+    nodes: u32,
+    node: u32,
+    worker: u32,
+) {
+    assert!(rt; 1 <= workers && workers <= 64 && node < nodes);
+    same(rt, row, owner_of(owner, workers, nodes, node), worker);
+}
 
 #[test]
 fn owners(rt: HostRuntime) {
@@ -22,8 +38,7 @@ fn owners(rt: HostRuntime) {
         (Owner::Spread(4294967295), 64, 10, 0, 63),
         (Owner::Spread(4294967295), 64, 4294967295, 4294967294, 17),
     ];
-    for (owner, workers, nodes, node, worker) in rows {
-        assert!(rt; 1 <= workers && workers <= 64 && node < nodes);
-        assert_eq!(rt; owner_of(owner, workers, nodes, node), worker);
+    for (row, (owner, workers, nodes, node, worker)) in rows.iter().enumerate() {
+        check(&rt, row, *owner, *workers, *nodes, *node, *worker);
     }
 }

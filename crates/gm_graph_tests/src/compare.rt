@@ -1,0 +1,19 @@
+//! Comparisons that the tests share. An assertion writes both values and a message, so it stands here once for all.
+
+use std::fmt::Debug;
+use std::process::Abort;
+
+/// Compares what a row of a table gives with what is wanted.
+pub(crate) fn same<T: Copy + PartialEq + Debug>(rt: &impl Abort, row: usize, found: T, want: T) {
+    assert_eq!(rt; found, want, "row {row}");
+}
+
+/// Compares texts.
+pub(crate) fn same_text(rt: &impl Abort, row: usize, found: &str, want: &str) {
+    assert_eq!(rt; found, want, "row {row}");
+}
+
+/// Compares bytes.
+pub(crate) fn same_bytes(rt: &impl Abort, row: usize, found: &[u8], want: &[u8]) {
+    assert_eq!(rt; found, want, "row {row}");
+}
