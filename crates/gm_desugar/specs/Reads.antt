@@ -115,20 +115,31 @@ apart n (Do k at s e) = Do k at (apart n s) e
 apart n (Return k at (Some e)) = after_reads (is_told e) n k e (λ d. Return k at (Some d))
 apart n s = s
 
--- the types of the variables, in the same order
+-- the types of the variables of an expression's reads, where they are set before
 abbrev pub types_unless : Bool → List Declaration → Expr → List VType
 types_unless true ds e = []
 types_unless false ds e = types_read ds e
 
+-- those of what a declaration sets, if anything
+abbrev pub types_declared : List Declaration → Option Expr → List VType
+types_declared ds (Some e) = types_unless (is_single e) ds e
+types_declared ds None = []
+
+-- those of what is returned, if anything
+abbrev pub types_returned : List Declaration → Option Expr → List VType
+types_returned ds (Some e) = types_unless (is_told e) ds e
+types_returned ds None = []
+
+-- the types of all these variables, in the same order
 abbrev pub types_apart : List Declaration → Stmt → List VType
 types_apart ds (Then a b) = types_apart ds a ++ types_apart ds b
-types_apart ds (Declare k x (Some e)) = types_unless (is_single e) ds e
+types_apart ds (Declare k x e) = types_declared ds e
 types_apart ds (Assign k t e) = types_unless (stays_alone t e) ds e
 types_apart ds (For k at h e s) = types_apart ds s
 types_apart ds (If k e a b) = types_apart ds a ++ types_apart ds b
 types_apart ds (While k at e s) = types_apart ds s
 types_apart ds (Do k at s e) = types_apart ds s
-types_apart ds (Return k at (Some e)) = types_unless (is_told e) ds e
+types_apart ds (Return k at e) = types_returned ds e
 types_apart ds s = []
 
 -- a program with its reads apart, each set to a variable of its own

@@ -47,7 +47,7 @@ pub fn conditions_out(alloc: Global, program: Work) -> Result<Work, NoMemory>
 }
 
 // A variable that no text declares.
-fn fresh(alloc: Global, vtype: VType) -> Declaration
+pub(crate) fn fresh(alloc: Global, vtype: VType) -> Declaration
     ensures { result ≡ Conditions.fresh vtype }
 {
     Declaration {
@@ -68,7 +68,7 @@ fn nowhere() -> Place
 }
 
 // The variable set to a condition.
-fn set_to(variable: u32, key: Key, value: Expr) -> Stmt
+pub(crate) fn set_to(variable: u32, key: Key, value: Expr) -> Stmt
     ensures { stmt_of result ≡ Conditions.set_to variable key (expr_of value) }
 {
     let target = Target::Scalar {
@@ -79,7 +79,7 @@ fn set_to(variable: u32, key: Key, value: Expr) -> Stmt
 }
 
 // The variable as a condition.
-fn asked(variable: u32) -> Expr
+pub(crate) fn asked(variable: u32) -> Expr
     ensures { expr_of result ≡ Conditions.asked variable }
 {
     Expr::Var {
@@ -99,7 +99,7 @@ fn in_turn(alloc: Global, first: Stmt, second: Stmt) -> Result<Stmt, AllocError>
 }
 
 // Whether scalars and counts tell an expression.
-fn is_told(e: &Expr) -> bool
+pub(crate) fn is_told(e: &Expr) -> bool
     ensures { result ≡ is_told (expr_of e.now) }
 {
     match e {

@@ -7,6 +7,8 @@
 //! 2. `compounds_out`: reductions that are done at once become assignments, but for those that pick.
 //! 3. `literals_out`: a minus before a literal becomes a negative literal.
 //! 4. `conditions_out`: conditions of the sequential phase become assignments to a new variable, which is asked instead.
+//! 5. `reads_out`: reads, degrees, checks and reductions in what is declared, assigned or returned there are set to new
+//!    variables of their own, from left to right.
 //!
 //! A pass is a function on trees in `specs/`, the code that gives what this function gives, and a law: the result
 //! means the same, keeps what every pass keeps (`IsSane`), and has the next form. Trees are rebuilt by value, and only
@@ -19,3 +21,4 @@ pub mod conditions;
 mod copies;
 pub mod groups;
 pub mod literals;
+pub mod reads;

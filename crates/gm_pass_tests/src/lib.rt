@@ -10,4 +10,6 @@ mod groups;
 #[cfg(test)]
 mod literals;
 #[cfg(test)]
+mod reads;
+#[cfg(test)]
 mod runs;

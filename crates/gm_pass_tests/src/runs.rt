@@ -7,6 +7,7 @@ use gm_desugar::compounds::compounds_out;
 use gm_desugar::conditions::conditions_out;
 use gm_desugar::groups::groups_out;
 use gm_desugar::literals::literals_out;
+use gm_desugar::reads::reads_out;
 use gm_graph::{Graph, RawGraph, Shape, build};
 use gm_meaning::{evaluate, work_of};
 use gm_value::Value;
@@ -71,7 +72,11 @@ fn after(alloc: Global, program: Work, passes: u32) -> Result<Work, NoMemory> {
     if passes == 3 {
         return Ok(program);
     }
-    conditions_out(alloc, program)
+    let program = conditions_out(alloc, program)?;
+    if passes == 4 {
+        return Ok(program);
+    }
+    reads_out(alloc, program)
 }
 
 // How a run ends, in words.
@@ -98,7 +103,7 @@ fn same_on(rt: &impl Abort, alloc: Global, body: &str, graph: &Graph) -> Result<
     )?;
     let before = ending_after(alloc, text.as_str(), graph, 0)?;
     assert!(rt; before.as_str() != "refused", "{body}");
-    for passes in 1..=4u32 {
+    for passes in 1..=5u32 {
         let ending = ending_after(alloc, text.as_str(), graph, passes)?;
         assert_eq!(rt; ending.as_str(), before.as_str(), "{body}");
     }

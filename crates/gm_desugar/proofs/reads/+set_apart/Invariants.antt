@@ -1,0 +1,11 @@
+use Rattle.std.proofs.Common.{◌≡◌, ◌+◌, ◌++◌, map, length}
+use Rattle.std.specs.Vec.Iter.{into_iter_items, into_iter_len}
+use Rattle.gm_ast.specs.Tree.{stmt_of}
+use Rattle.gm_desugar.proofs.ReadsOut.{all_apart, all_counts}
+use Rattle.gm_desugar.proofs.reads.+set_apart.Given as goal
+
+abbrev pub invariant-loop-stmt : goal.invariant-loop-stmt
+invariant-loop-stmt l = (l.yielded ++ into_iter_items l.stmt-iterator ≡ into_iter_items l.initial.stmt-iterator)
+    × (map stmt_of l.out.items ≡ all_apart l.fn.next (map stmt_of l.yielded))
+    × (into_iter_len l.stmt-iterator ≡ length (into_iter_items l.stmt-iterator))
+    × (l.next ≡ l.fn.next + all_counts (map stmt_of l.yielded))
