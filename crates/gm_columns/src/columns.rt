@@ -1,6 +1,7 @@
 //! Columns of values of one type, as rows of plain numbers.
 
-ghost use Rattle.std.specs.Prelude.{◌≡◌, ◌<◌, ◌==◌, [], ◌∷◌, ◌++◌, All, Some, length, slice_get, OnOk, OnErr};
+ghost use Rattle.std.specs.Prelude.{◌≡◌, ◌<◌, ◌==◌, [], ◌∷◌, ◌++◌, All, IfOk, Some, length, map, slice_get, slice_index_or, OnOk, OnErr};
+ghost use Rattle.gm_value.specs.declared.values.Value.{Value as AnyValue};
 ghost use Rattle.gm_value.specs.declared.values.Value.TheVariants.{At};
 ghost use Rattle.gm_columns.specs.Columns.{CanHold, IsStorable};
 ghost use Rattle.gm_columns.specs.TypedRows.{typed_row};
@@ -121,6 +122,49 @@ impl Column {
             _ => unreachable!(),
         }
         Ok(())
+    }
+}
+
+// The cells of some rows, one after another.
+fn picked<T: Copy>(alloc: Global, cells: &[T], rows: &[u32]) -> Result<Vec<T>, NoMemory>
+    requires { All (λ row. row < length cells.now) rows.now }
+    ensures { IfOk result (λ picked. (d : T) → picked.items ≡ map (λ row. slice_index_or cells.now row d) rows.now) }
+{
+    let mut picked = Vec::with_capacity(alloc, rows.len())?;
+    for row in rows {
+        picked.push(cells[*row as usize])?;
+    }
+    Ok(picked)
+}
+
+impl TypedCells {
+    // The cells of some rows, one after another.
+    fn picked(&self, alloc: Global, rows: &[u32]) -> Result<TypedCells, NoMemory>
+        requires { All (λ row. row < length (typed_row self.now).values) rows.now }
+        ensures vtype { IfOk result (λ cells. (typed_row cells).vtype ≡ (typed_row self.now).vtype) }
+        ensures values { IfOk result (λ cells. (d : AnyValue)
+            → (typed_row cells).values ≡ map (λ row. slice_index_or (typed_row self.now).values row d) rows.now) }
+    {
+        match self {
+            TypedCells::Ints(cells) => Ok(TypedCells::Ints(picked(alloc, cells, rows)?)),
+            TypedCells::Longs(cells) => Ok(TypedCells::Longs(picked(alloc, cells, rows)?)),
+            TypedCells::Flags(cells) => Ok(TypedCells::Flags(picked(alloc, cells, rows)?)),
+            TypedCells::Nodes(cells) => Ok(TypedCells::Nodes(picked(alloc, cells, rows)?)),
+        }
+    }
+}
+
+impl Column {
+    /// The values of some rows, one after another, in a column of the same type. The rows are indices from 0.
+    pub fn picked(&self, alloc: Global, rows: &[u32]) -> Result<Column, NoMemory>
+        requires { All (λ row. row < length self.now.values) rows.now }
+        ensures vtype { IfOk result (λ column. column.vtype ≡ self.now.vtype) }
+        ensures values { IfOk result (λ column. (d : AnyValue)
+            → column.values ≡ map (λ row. slice_index_or self.now.values row d) rows.now) }
+    {
+        Ok(Column {
+            cells: self.cells.picked(alloc, rows)?,
+        })
     }
 }
 

@@ -10,8 +10,7 @@ use Rattle.gm_graph.specs.declared.groups.Groups.{Groups}
 use Rattle.gm_columns.specs.Columns.{TypedRow}
 use Rattle.gm_graph.specs.Builds.{IsBuildable, distinct, numbers_of, spread_out}
 use Rattle.gm_graph.specs.Spreads.{IsRowOf, HasRow, value_in}
-use Rattle.gm_graph.specs.Rows.{IsGrouped, lines_of}
-use Rattle.gm_graph.proofs.Steps.{line-at}
+use Rattle.gm_graph.specs.Rows.{IsGrouped}
 use Rattle.gm_graph.proofs.Building.{numbers-few, rows-few, columns-spread, spread-rows}
 
 -- the ascending numbers that name nodes
@@ -101,22 +100,13 @@ ends-length f xs ys e = sym (length-map xs f) ∙ ap length e
 pub within-as : (a b : ℕ) (xs : List ℕ) → a ≡ b → All (λ n. n < a) xs → All (λ n. n < b) xs
 within-as a b xs e h = let P : ℕ → Type 0 = λ m. All (λ n. n < m) xs in subst P e h
 
--- groups by the lists that were lent, whose numbers are the places of the lines
-pub grouped-as : (a b count : ℕ) (keys others numbers xs ys counted : List ℕ) (g : Groups) → a ≡ b → keys ≡ xs → others ≡ ys → numbers ≡ counted → length xs ≡ count → ((e : ℕ) → e < count → slice_index counted e ≡ e) → IsGrouped a keys others numbers g → IsGrouped b xs ys (lines_of count) g
-grouped-as a b count keys others numbers xs ys counted g e f h same long lines held =
-    let P : ℕ → Type 0 = λ m. IsGrouped m keys others numbers g in
-    let Q : List ℕ → Type 0 = λ l. IsGrouped b l others numbers g in
-    let R : List ℕ → Type 0 = λ l. IsGrouped b xs l numbers g in
-    let S : List ℕ → Type 0 = λ l. IsGrouped b xs ys l g in
-    let moved : IsGrouped b xs ys counted g = subst S same (subst R h (subst Q f (subst P e held))) in
-    record {
-      starts = moved.starts;
-      nodes_row = moved.nodes_row;
-      edges_row = record {
-        len = moved.edges_row.len;
-        at = λ edge within. moved.edges_row.at edge within ∙ (lines edge (omega arith) ∙ sym (line-at count edge (omega arith)));
-      };
-    }
+-- groups by the lists that were lent
+pub grouped-as : (a b : ℕ) (keys others xs ys : List ℕ) (g : Groups) → a ≡ b → keys ≡ xs → others ≡ ys → IsGrouped a keys others g → IsGrouped b xs ys g
+grouped-as a b keys others xs ys g e f h held =
+    let P : ℕ → Type 0 = λ m. IsGrouped m keys others g in
+    let Q : List ℕ → Type 0 = λ l. IsGrouped b l others g in
+    let R : List ℕ → Type 0 = λ l. IsGrouped b xs l g in
+    subst R h (subst Q f (subst P e held))
 
 pub lengths-as : (a b : ℕ) (xs ys : List TypedRow) → a ≡ b → ys ≡ xs → All (λ c. length c.values ≡ a) xs → All (λ c. length c.values ≡ b) ys
 lengths-as a b xs ys e f h =

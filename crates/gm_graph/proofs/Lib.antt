@@ -10,3 +10,6 @@ pub mod Views
 pub mod Worked
 pub mod Determined
 pub mod Typing
+pub mod Lines
+pub mod ByLine
+pub mod EdgeRows

@@ -108,7 +108,7 @@ pub group-size : (nodes n : ℕ) (keys : List ℕ) (groups : Groups) → AreStar
 group-size nodes n keys groups held within =
     omega (arith, held.at n (omega arith), held.at (n + 1) (omega arith), count_below-step n keys)
 
--- the number of an edge is its place among the lines
+-- each line is its own number
 pub line-at : (count e : ℕ) → e < count → slice_index (lines_of count) e ≡ e
 line-at count e h =
     let none_more : 0 + e ≡ e = omega arith in
@@ -118,12 +118,12 @@ line-at count e h =
 pub record IsEdgeAt (n k : ℕ) (ss ts : List ℕ) (groups : Groups) (steps : List Step) : Type 0 where
   pub placed : slice_index groups.starts.items n + k < length ss
   pub edge : ℕ
-  pub is : slice_index groups.edges.items (slice_index groups.starts.items n + k) ≡ edge
+  pub is : slice_index groups.lines.items (slice_index groups.starts.items n + k) ≡ edge
   pub other : slice_index groups.nodes.items (slice_index groups.starts.items n + k) ≡ get_or ts edge 0
   pub within : edge < length ss
   pub step : slice_get steps k ≡ Some (record { node = get_or ts edge 0; edge = edge })
 
-pub edge-at : (nodes n k : ℕ) (ss ts : List ℕ) (groups : Groups) → IsGrouped nodes ss ts (lines_of (length ts)) groups → length ss ≡ length ts → n < nodes → k < length (steps_out 0 n (edge_list ss ts)) → IsEdgeAt n k ss ts groups (steps_out 0 n (edge_list ss ts))
+pub edge-at : (nodes n k : ℕ) (ss ts : List ℕ) (groups : Groups) → IsGrouped nodes ss ts groups → length ss ≡ length ts → n < nodes → k < length (steps_out 0 n (edge_list ss ts)) → IsEdgeAt n k ss ts groups (steps_out 0 n (edge_list ss ts))
 edge-at nodes n k ss ts groups held long within some =
     let at : IsStepAt 0 n k ss ts (steps_out 0 n (edge_list ss ts)) = step-at 0 n k ss ts long (omega (arith, length-steps 0 n ss ts long)) in
     let start = held.starts.at n (omega arith) in
@@ -132,7 +132,7 @@ edge-at nodes n k ss ts groups held long within some =
     record {
       placed = omega (arith, place_of-within ss at.place at.within);
       edge = at.place;
-      is = ap (λ p. slice_index groups.edges.items p) (sym here) ∙ (held.edges_row.at at.place at.within ∙ line-at (length ts) at.place (omega (arith, at.within)));
+      is = ap (λ p. slice_index groups.lines.items p) (sym here) ∙ (held.lines_row.at at.place at.within ∙ line-at (length ss) at.place at.within);
       other = ap (λ p. slice_index groups.nodes.items p) (sym here) ∙ held.nodes_row.at at.place at.within;
       within = at.within;
       step = at.step ∙ ap (step_to (get_or ts at.place 0)) (omega arith);

@@ -1,7 +1,7 @@
 -- The values of a graph are of the types of its columns.
 use Rattle.std.proofs.Common.{inl, inr, ◌≡◌, ℕ, List, [], ◌∷◌, map, get_or, refl, sym, subst}
 use Rattle.std.specs.Prelude.{All}
-use Rattle.std.proofs.lemmas.Bool.{cases_lt, cases_eq, lt-ltb, le-ltb, eq-eqb, ne_eqb}
+use Rattle.std.proofs.lemmas.Bool.{cases_eq, eq-eqb, ne_eqb}
 use Rattle.std.proofs.lemmas.List.Elements.{All-map, All-head, All-tail}
 use Rattle.gm_value.specs.declared.values.VType.{VType}
 use Rattle.gm_value.specs.declared.values.VType.TheVariants.{I32, I64, Flag, Node}
@@ -49,9 +49,9 @@ node-types raw numbers columns lent can spread a held =
     let R : List (List Value) → Type 0 = λ l. HaveTypes raw.shape.nodes l in
     subst R (sym spread) (subst Q can.node_types (typed-spread raw.node_columns numbers raw.extra (subst P a held)))
 
-pub edge-types : (raw : RawGraph) (columns lent : List TypedRow) → IsBuildable raw → columns ≡ raw.edge_columns → lent ≡ raw.edge_columns → All (λ c. All (CanHold c.vtype) c.values) lent → HaveTypes raw.shape.edges (map (λ c. c.values) columns)
+pub edge-types : (raw : RawGraph) (columns : List (List Value)) (lent : List TypedRow) → IsBuildable raw → columns ≡ map (λ c. c.values) raw.edge_columns → lent ≡ raw.edge_columns → All (λ c. All (CanHold c.vtype) c.values) lent → HaveTypes raw.shape.edges columns
 edge-types raw columns lent can is a held =
     let P : List TypedRow → Type 0 = λ l. All (λ (c : TypedRow). All (CanHold c.vtype) c.values) l in
     let Q : List VType → Type 0 = λ l. HaveTypes l (map (λ (c : TypedRow). c.values) raw.edge_columns) in
-    let R : List TypedRow → Type 0 = λ l. HaveTypes raw.shape.edges (map (λ (c : TypedRow). c.values) l) in
+    let R : List (List Value) → Type 0 = λ l. HaveTypes raw.shape.edges l in
     subst R (sym is) (subst Q can.edge_types (typed-columns raw.edge_columns (subst P a held)))

@@ -1,7 +1,8 @@
 //! The making of a graph from its lines.
 
-ghost use Rattle.std.specs.Prelude.{◌≡◌, ◌<◌, ◌≤◌, ℕ, All, IfOk, slice_index, vec_len};
+ghost use Rattle.std.specs.Prelude.{◌≡◌, ◌<◌, ◌≤◌, ℕ, All, IfOk, length, map, slice_index};
 ghost use Rattle.gm_graph.specs.Builds.{IsBuildable, IsBuiltOf, HasShape};
+ghost use Rattle.gm_graph.specs.Rows.{count_below, lines_of, place_of, value_at};
 ghost use Rattle.gm_columns.specs.Columns.{CanHold};
 
 use crate::graphs::Graph;
@@ -51,49 +52,85 @@ pub fn build(alloc: Global, raw: RawGraph) -> Result<Graph, NoMemory>
     drop(raw.from);
     let targets = numbering.indices(alloc, raw.to.as_slice())?;
     drop(raw.to);
-    let rows = rows_of(alloc, &numbering, raw.extra.as_slice())?;
+    let node_rows = rows_of(alloc, &numbering, raw.extra.as_slice())?;
     let numbers = numbering.into_numbers();
-    let node_columns = spread_all(alloc, rows.as_slice(), raw.node_columns.as_slice())?;
-    let lines = counting_up(alloc, sources.len())?;
-    let outward = Groups::new(
-        alloc,
-        sources.as_slice(),
-        targets.as_slice(),
-        lines.as_slice(),
-        numbers.len(),
-    )?;
-    let inward = Groups::new(
-        alloc,
-        targets.as_slice(),
-        sources.as_slice(),
-        lines.as_slice(),
-        numbers.len(),
-    )?;
-    drop(lines);
+    let node_columns = spread_all(alloc, node_rows.as_slice(), raw.node_columns.as_slice())?;
+    drop(node_rows);
+    let count = numbers.len();
+    let outward = Groups::new(alloc, sources.as_slice(), targets.as_slice(), count)?;
+    let inward = Groups::new(alloc, targets.as_slice(), sources.as_slice(), count)?;
+    drop(targets);
     know_types(raw.edge_columns.as_slice());
     know_types(raw.node_columns.as_slice());
+    let rows = rows_of_lines(
+        alloc,
+        raw.edge_columns.len(),
+        sources.as_slice(),
+        outward.starts.as_slice(),
+    )?;
+    drop(sources);
+    let edge_columns = columns_by_row(
+        alloc,
+        outward.lines.as_slice(),
+        raw.edge_columns.as_slice(),
+    )?;
     Ok(Graph {
         numbers,
-        sources,
-        targets,
         outward,
         inward,
         node_columns,
-        edge_columns: raw.edge_columns.into_vec(),
+        edge_columns,
+        rows,
     })
 }
 
-// The numbers below a count, from 0.
-fn counting_up(alloc: Global, count: usize) -> Result<Vec<u32>, NoMemory>
-    requires { count ≤ 2147483647 }
-    ensures len { IfOk result (λ numbers. vec_len numbers ≡ count) }
-    ensures each { IfOk result (λ numbers. (k : ℕ) → k < count → slice_index numbers.items k ≡ k) }
+// The row of each line among the rows of the edges that are grouped by their keys, if there are columns of edges.
+fn rows_of_lines(
+    alloc: Global,
+    columns: usize,
+    keys: &[u32],
+    starts: &[u32],
+) -> Result<Vec<u32>, NoMemory>
+    requires keys_within { All (λ key. key < length starts.now) keys.now }
+    requires few_keys { length keys.now ≤ 2147483647 }
+    requires starts_at { (n : ℕ) → n < length starts.now → slice_index starts.now n ≡ count_below n keys.now }
+    ensures { IfOk result (λ rows. 0 < columns → rows.items ≡ map (place_of keys.now) (lines_of (length keys.now))) }
 {
-    let mut numbers = vec![in alloc; 0u32; count]?;
-    for k in 0..count {
-        numbers[k] = k as u32;
+    if columns == 0 {
+        return Ok(Vec::new(alloc));
     }
-    Ok(numbers)
+    places(alloc, keys, starts)
+}
+
+// The place of each edge among the edges that are grouped by their keys.
+fn places(alloc: Global, keys: &[u32], starts: &[u32]) -> Result<Vec<u32>, NoMemory>
+    requires keys_within { All (λ key. key < length starts.now) keys.now }
+    requires few_keys { length keys.now ≤ 2147483647 }
+    requires starts_at { (n : ℕ) → n < length starts.now → slice_index starts.now n ≡ count_below n keys.now }
+    ensures { IfOk result (λ rows. rows.items ≡ map (place_of keys.now) (lines_of (length keys.now))) }
+{
+    let mut next = starts.to_vec(alloc)?;
+    let mut rows = vec![in alloc; 0u32; keys.len()]?;
+    for line in 0..keys.len() {
+        let key = keys[line] as usize;
+        let row = next[key];
+        next[key] = row + 1;
+        rows[line] = row;
+    }
+    Ok(rows)
+}
+
+// Columns whose values stand in the order of the lines, with their values in the order of rows. The rows have these lines.
+fn columns_by_row(alloc: Global, lines: &[u32], columns: &[Column]) -> Result<Vec<Column>, NoMemory>
+    requires { All (λ c. All (λ line. line < length c.values) lines.now) columns.now }
+    ensures { IfOk result (λ placed. map (λ c. c.values) placed.items
+        ≡ map (λ c. map (value_at c.values) lines.now) columns.now) }
+{
+    let mut placed = Vec::with_capacity(alloc, columns.len())?;
+    for column in columns {
+        placed.push(column.picked(alloc, lines)?)?;
+    }
+    Ok(placed)
 }
 
 // Shows that the values of each column are of its type.

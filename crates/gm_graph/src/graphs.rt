@@ -11,16 +11,18 @@ use gm_value::Value;
 use std::marker::Model;
 
 /// A graph. Contracts see its ascending node numbers, its edges between node indices, in the order of their
-/// lines, and the values of its columns.
+/// lines, and the values of its columns. In memory the edges, with their values, stand as a walk along them goes:
+/// those away from the first node, then those away from the second, and so on.
 #[derive(Debug, Drop)]
 pub struct Graph {
     pub(crate) numbers: Vec<u64>,
-    pub(crate) sources: Vec<u32>,
-    pub(crate) targets: Vec<u32>,
     pub(crate) outward: Groups,
     pub(crate) inward: Groups,
     pub(crate) node_columns: Vec<Column>,
+    // In the order of the rows of `outward`.
     pub(crate) edge_columns: Vec<Column>,
+    // The row of each line among those of `outward`. It is empty where there is no column of edges.
+    pub(crate) rows: Vec<u32>,
 }
 
 impl Model for Graph {
@@ -49,7 +51,7 @@ impl Graph {
         ensures count { result ≡ edge_count self.now }
         ensures known { IsGraph self.now }
     {
-        self.targets.len() as u32
+        self.outward.lines.len() as u32
     }
 
     /// How many node columns there are. Their indices are the numbers below.
@@ -97,7 +99,7 @@ impl Graph {
         ensures edge { slice_get (edges_of (out_steps self.now node)) k ≡ Some result }
         ensures known { HasEdge self.now result }
     {
-        self.outward.edge(node, k)
+        self.outward.line(node, k)
     }
 
     /// The node to which the k-th edge leads that leads from a node, from 0 and in the order of the lines.
@@ -120,7 +122,7 @@ impl Graph {
         cell(
             self.edge_columns.as_slice(),
             column,
-            self.outward.edge(node, k),
+            self.outward.row(node, k),
         )
     }
 
@@ -140,7 +142,7 @@ impl Graph {
         ensures edge { slice_get (edges_of (in_steps self.now node)) k ≡ Some result }
         ensures known { HasEdge self.now result }
     {
-        self.inward.edge(node, k)
+        self.inward.line(node, k)
     }
 
     /// The node from which the k-th edge leads that leads to a node, from 0 and in the order of the lines.
@@ -168,7 +170,11 @@ impl Graph {
         requires column { HasEdgeColumn self.now column }
         ensures { cell_at self.now.edge_columns column edge ≡ Some result }
     {
-        cell(self.edge_columns.as_slice(), column, edge)
+        cell(
+            self.edge_columns.as_slice(),
+            column,
+            self.rows[edge as usize],
+        )
     }
 }
 

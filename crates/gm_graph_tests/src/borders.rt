@@ -132,16 +132,21 @@ fn has_out_row(graph: &Graph, ends: &[Ends], node: u32) -> bool
     true
 }
 
-// Whether the edges to a node are among some, in their order.
+// Whether the edges to a node are among some, in their order, with the value of each.
 fn has_in_row(graph: &Graph, ends: &[Ends], node: u32) -> bool
-    requires { HasNode graph.now node }
+    requires node { HasNode graph.now node }
+    requires columns { HasColumns 0 1 graph.now }
 {
     let mut least = 0;
     for k in 0..graph.in_degree(node) {
         let edge = graph.in_edge(node, k);
         let from = graph.in_source(node, k);
+        let value = graph.edge_value(edge, 0);
         let here = Ends { from, to: node };
         if u64::from(edge) < least || ends.get(edge as usize) != Some(&here) {
+            return false;
+        }
+        if value != Value::I32(i32::try_from(edge).unwrap_or(-1)) {
             return false;
         }
         least = u64::from(edge) + 1;

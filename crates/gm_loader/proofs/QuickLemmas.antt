@@ -1,6 +1,6 @@
 -- The front of an edge line that is read in one pass.
 use Rattle.std.proofs.Common.{◌≡◌, ◌≢◌, ◌≤◌, ◌<◌, ◌+◌, ◌-◌, ◌*◌, ℕ, zero, suc, Bool, true, false, cond, ◌&&◌, ◌||◌, eqb, leb, ltb, List, [], ◌∷◌, ◌++◌, length, take, drop, get_or, filter, refl, ap, sym, ◌∙◌, arith, append_assoc, length-drop, drop-cons, add-one}
-use Rattle.std.specs.Prelude.{Some, None, Ok}
+use Rattle.std.specs.Prelude.{Some, None, Ok, pos, neg_ℤ, option_map}
 use Rattle.std.specs.List.{list_all, position, slice_split, onto_first}
 use Rattle.std.specs.Str.Lines.{lines, lines_of_parts, strip_carriage_return}
 use Rattle.std.proofs.lemmas.Bool.Decides.{nat_tests}
@@ -12,9 +12,9 @@ use Rattle.gm_fields.specs.Fields.{fields, is_blank, is_digit, is_some_part, dec
 use Rattle.gm_fields.proofs.Parting.{lines_some, lines_none}
 use Rattle.gm_fields.proofs.Digits.{digit_yes}
 use Rattle.gm_graph.specs.declared.builds.Shape.{Shape}
-use Rattle.gm_loader.specs.Fields.{node_number, top_number}
+use Rattle.gm_loader.specs.Fields.{node_number, top_number, whole_in}
 use Rattle.gm_loader.specs.Lines.{edge_line, edge_with, line_in, line_of}
-use Rattle.gm_loader.specs.Quick.{BeginsNumber, BeginsEdge, ends_field}
+use Rattle.gm_loader.specs.Quick.{BeginsDigits, BeginsNumber, BeginsEdge, BeginsWhole, ends_field}
 
 heads : {X : Type 0} (x y : X) (xs ys : List X) → x ∷ xs ≡ y ∷ ys → x ≡ y
 heads x y xs ys e = cc
@@ -266,4 +266,46 @@ begins_edge text behind rest blank a b end more_end first is blank_there behind_
           ap (line_of shape) (joined line)
           ∙ front_line shape (take end text) (take more_end behind) line blank a b (take_some end text first.some first.within) (take_some more_end behind second.some second.within) first.digits second.digits blank_there
           first.spelled second.spelled first.small second.small (ends_line rest line more ends e);
+    }
+
+-- the field that stands behind one blank
+take_first : (k : ℕ) (text : List ℕ) → 0 < k → k ≤ length text → 0 < length (take k text)
+take_first zero text h i = absurd (omega (arith, h))
+take_first (suc k) [] h i = absurd (omega (arith, i))
+take_first (suc k) (x ∷ text) h i = omega arith
+
+part_ends : (rest : List ℕ) → (eqb (length rest) 0 || is_blank (get_or rest 0 0)) ≡ true → EmptyFirst rest
+part_ends [] h = ([], refl)
+part_ends (x ∷ rest) h =
+    let some : eqb (length (x ∷ rest)) 0 ≡ false = grind (arith, nat_tests) in
+    let blank : is_blank x ≡ true = ap (λ b. b || is_blank x) (sym some) ∙ h in
+    (slice_split is_blank rest, slice_split-cons_yes is_blank x rest blank)
+
+one_field : (digits line : List ℕ) (blank : ℕ) → 0 < length digits → list_all is_digit digits ≡ true → is_blank blank ≡ true → EmptyFirst line → fields (blank ∷ (digits ++ line)) ≡ digits ∷ fields line
+one_field digits line blank some all is_blank_there first =
+    let behind : slice_split is_blank (digits ++ line) ≡ digits ∷ first.0 = split_front digits line first.0 all first.1 in
+    let whole : slice_split is_blank (blank ∷ (digits ++ line)) ≡ [] ∷ digits ∷ first.0 = slice_split-cons_yes is_blank blank (digits ++ line) is_blank_there ∙ ap (λ z. [] ∷ z) behind in
+    let rest : fields line ≡ filter is_some_part first.0 = ap (filter is_some_part) first.1 in
+    ap (filter is_some_part) whole
+    ∙ kept digits first.0 some
+    ∙ ap (λ z. digits ∷ z) (sym rest)
+
+whole_is : (digits : List ℕ) (n : ℕ) → 0 < length digits → list_all is_digit digits ≡ true → decimal_value digits ≡ n → whole_in digits ≡ Some (pos n)
+whole_is [] n some h e = absurd (omega (arith, some))
+whole_is (x ∷ digits) n some h e =
+    let low : 48 ≤ x = digit_low x (both_left (is_digit x) (list_all is_digit digits) h) in
+    let no_minus : eqb x 45 ≡ false = grind (arith, nat_tests, low) in
+    ap (λ b. cond b (option_map (λ k. neg_ℤ (pos k)) (number_in (drop 1 (x ∷ digits)))) (option_map pos (number_in (x ∷ digits)))) no_minus
+    ∙ ap (λ b. option_map pos (cond b (Some (decimal_value (x ∷ digits))) None)) h
+    ∙ ap (λ k. Some (pos k)) e
+
+pub begins_whole : (line behind rest : List ℕ) (number end : ℕ) → is_blank (get_or line 0 0) ≡ true → behind ≡ drop 1 line → BeginsDigits behind number end → 0 < end → rest ≡ drop end behind → (eqb (length rest) 0 || is_blank (get_or rest 0 0)) ≡ true → BeginsWhole line number rest
+begins_whole [] behind rest number end blank behind_is digits some rest_is ends = absurd (cc)
+begins_whole (x ∷ xs) behind rest number end blank behind_is digits some rest_is ends =
+    let parted : xs ≡ take end behind ++ rest = sym behind_is ∙ (sym (take-append-drop end behind) ∙ ap (λ z. take end behind ++ z) (sym rest_is)) in
+    let field : 0 < length (take end behind) = take_first end behind some digits.within in
+    record {
+      part = take end behind;
+      first = ap (λ z. fields (x ∷ z)) parted ∙ one_field (take end behind) rest x field digits.digits blank (part_ends rest ends);
+      spelled = whole_is (take end behind) number field digits.digits digits.spelled;
     }

@@ -1,10 +1,10 @@
--- The front of an edge line that is read in one pass.
-use Rattle.std.specs.Prelude.{◌≡◌, ◌<◌, ◌≤◌, ℕ, nat_lt, Bool, true, ◌&&◌, ◌||◌, ◌==◌, List, ◌∷◌, ◌++◌, length, take, slice_index}
+-- What is read in one pass: the front of an edge line, and whole numbers.
+use Rattle.std.specs.Prelude.{◌≡◌, ◌<◌, ◌≤◌, ℕ, nat_lt, pos, Some, Bool, true, ◌&&◌, ◌||◌, ◌==◌, List, ◌∷◌, ◌++◌, length, take, slice_index}
 use Rattle.std.specs.List.{list_all}
 use Rattle.std.specs.Str.Lines.{lines}
 use Rattle.gm_fields.specs.Fields.{fields, is_blank, is_digit, decimal_value}
 use Rattle.gm_graph.specs.declared.builds.Shape.{Shape}
-use Rattle.gm_loader.specs.Fields.{top_number}
+use Rattle.gm_loader.specs.Fields.{top_number, whole_in}
 use Rattle.gm_loader.specs.Lines.{edge_with, line_of}
 
 -- a text begins with the digits of a node number, and goes on behind them
@@ -14,6 +14,19 @@ pub record BeginsNumber (text : List ℕ) (number end : ℕ) : Type 0 where
   pub digits : list_all is_digit (take end text) ≡ true
   pub spelled : decimal_value (take end text) ≡ number
   pub small : number ≤ top_number
+
+-- a text begins with some digits, or with none
+pub record BeginsDigits (text : List ℕ) (number end : ℕ) : Type 0 where
+  pub within : end ≤ length text
+  pub digits : list_all is_digit (take end text) ≡ true
+  pub spelled : decimal_value (take end text) ≡ number
+  pub small : number ≤ top_number
+
+-- the first field of a line is a whole number without a sign, and the rest has the fields behind it
+pub record BeginsWhole (line : List ℕ) (number : ℕ) (rest : List ℕ) : Type 0 where
+  pub part : List ℕ
+  pub first : fields line ≡ part ∷ fields rest
+  pub spelled : whole_in part ≡ Some (pos number)
 
 -- whether some text begins with a blank or with the end of a line
 abbrev pub ends_field : List ℕ → Bool

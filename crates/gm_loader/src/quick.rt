@@ -1,9 +1,9 @@
-//! The front of an edge line, read in one pass over its bytes. It knows only lines of the plainest form; what it does not
-//! know is read field by field.
+//! The front of an edge line and the whole numbers of its values, read in one pass over their bytes. It knows only what is
+//! of the plainest form; what it does not know is read field by field.
 
-ghost use Rattle.std.specs.Prelude.{◌≡◌, ⊤, MatchOption};
+ghost use Rattle.std.specs.Prelude.{◌≡◌, ◌==◌, ◌||◌, ⊤, length, slice_index, MatchOption};
 ghost use Rattle.gm_fields.specs.Fields.{is_blank};
-ghost use Rattle.gm_loader.specs.Quick.{BeginsEdge, BeginsNumber, ends_field};
+ghost use Rattle.gm_loader.specs.Quick.{BeginsDigits, BeginsEdge, BeginsNumber, BeginsWhole, ends_field};
 
 use crate::fields::first_byte;
 
@@ -25,26 +25,36 @@ pub struct Ends<'a> {
     pub rest: &'a [u8],
 }
 
-// The number that a text begins with, if it has at most 18 digits and the text goes on behind them.
-fn leading_number(text: &[u8]) -> Option<Leading>
-    ensures { MatchOption result ⊤ (λ leading. BeginsNumber text.now leading.number leading.end) }
+// The number that the digits spell with which a text begins, and where they end, if there are at most 18 of them.
+fn leading_digits(text: &[u8]) -> Option<Leading>
+    ensures { MatchOption result ⊤ (λ leading. BeginsDigits text.now leading.number leading.end) }
 {
     let mut number: u64 = 0;
     for end in 0..text.len() {
         let digit = text[end];
         if digit < b'0' || digit > b'9' {
-            return if end > 0 {
-                Some(Leading { number, end })
-            } else {
-                None
-            };
+            return Some(Leading { number, end });
         }
         if number >= MOST_NUMBER {
             return None;
         }
         number = 10 * number + u64::from(digit - b'0');
     }
-    None
+    Some(Leading {
+        number,
+        end: text.len(),
+    })
+}
+
+// The number that a text begins with, if it has at most 18 digits and the text goes on behind them.
+fn leading_number(text: &[u8]) -> Option<Leading>
+    ensures { MatchOption result ⊤ (λ leading. BeginsNumber text.now leading.number leading.end) }
+{
+    let digits = leading_digits(text)?;
+    if digits.end == 0 || digits.end == text.len() {
+        return None;
+    }
+    Some(digits)
 }
 
 // Whether a byte is a space or a tab.
@@ -80,6 +90,42 @@ pub fn ends_of<'a>(text: &'a [u8]) -> Option<Ends<'a>>
     Some(Ends {
         from: from.number,
         to: to.number,
+        rest,
+    })
+}
+
+// A whole number that the next field of a line is, and the line behind it.
+#[derive(Clone, Copy)]
+pub struct Whole<'a> {
+    pub number: u64,
+    pub rest: &'a [u8],
+}
+
+// Whether a field that stands before the rest of a line ends there: nothing is left, or a blank comes next.
+fn ends_part(rest: &[u8]) -> bool
+    ensures { result ≡ (length rest.now == 0 || is_blank (slice_index rest.now 0)) }
+{
+    rest.is_empty() || is_blank(rest[0])
+}
+
+// The whole number that the next field of a line is, if one blank stands before it, and it is at most 18 digits.
+pub fn whole_of<'a>(line: &'a [u8]) -> Option<Whole<'a>>
+    ensures { MatchOption result ⊤ (λ whole. BeginsWhole line.now whole.number whole.rest.now) }
+{
+    if !is_blank(first_byte(line)) {
+        return None;
+    }
+    let text = &line[1..];
+    let digits = leading_digits(text)?;
+    if digits.end == 0 {
+        return None;
+    }
+    let rest = &text[digits.end..];
+    if !ends_part(rest) {
+        return None;
+    }
+    Some(Whole {
+        number: digits.number,
         rest,
     })
 }

@@ -1,6 +1,6 @@
 //! The tables that are filled line by line.
 
-ghost use Rattle.std.specs.Prelude.{◌≡◌, ◌<◌, ◌∷◌, [], ℕ, List, IfOk, IfErr, OnOk, Ok, Err, length};
+ghost use Rattle.std.specs.Prelude.{◌≡◌, ◌<◌, ◌∷◌, [], ℕ, List, IfOk, IfErr, MatchOption, OnOk, Ok, Err, length};
 ghost use Rattle.std.specs.Str.Lines.{lines};
 ghost use Rattle.gm_graph.specs.declared.builds.Shape.{Shape as ShapeValue};
 ghost use Rattle.gm_loader.specs.declared.limits.Limits.{Limits as LimitsValue};
@@ -13,14 +13,17 @@ use crate::counts::NodeCount;
 use crate::faults::{LineFault, LineStop};
 use crate::fields::{first_byte, is_word, node_number, value_in};
 use crate::limits::Limits;
-use crate::quick::ends_of;
+use crate::quick::{ends_of, whole_of};
 use crate::sets::NumberSet;
 use gm_base::{Items, NoMemory};
 use gm_columns::Column;
 use gm_fields::{cut_field, cut_line};
 use gm_graph::{RawGraph, Shape};
-use gm_value::VType;
+use gm_value::{VType, Value};
 use std::alloc::{AllocError, Global};
+
+// The greatest value of an Int.
+const GREATEST_INT: u64 = 2_147_483_647;
 
 // What was read so far: the edges by their node numbers, the nodes that have lines of their own, the values of
 // both, the count of all numbers, and the set of the numbers with lines of their own.
@@ -46,11 +49,33 @@ pub fn empty_columns(alloc: Global, types: &[VType]) -> Result<Vec<Column>, Allo
     Ok(columns)
 }
 
+// Reads the value of a column of Ints from the first field of some text, if it is of the plainest form, adds it to the
+// column, and answers the text behind. Otherwise the column stays as it was.
+fn read_whole<'a>(column: &mut Column, text: &'a [u8]) -> Result<Option<&'a [u8]>, NoMemory>
+    ensures { IfOk result (λ read. MatchOption read (column.new ≡ column.old)
+        (λ rest. ReadsValue column.old column.new (fields text.now) (fields rest.now))) }
+{
+    if column.vtype() != VType::I32 {
+        return Ok(None);
+    }
+    let Some(whole) = whole_of(text) else {
+        return Ok(None);
+    };
+    if whole.number > GREATEST_INT {
+        return Ok(None);
+    }
+    column.push(Value::I32(whole.number as i32))?;
+    Ok(Some(whole.rest))
+}
+
 // Reads the value of a column from the first field of some text, adds it to the column, and answers the text behind.
 fn read_value<'a>(column: &mut Column, text: &'a [u8]) -> Result<&'a [u8], LineStop>
     ensures read { IfOk result (λ rest. ReadsValue column.old column.new (fields text.now) (fields rest.now)) }
     ensures fault { IfErr result (λ stop. IfFault stop (λ e. row_added (column.old ∷ []) (fields text.now) ≡ Err e)) }
 {
+    if let Some(rest) = read_whole(column, text)? {
+        return Ok(rest);
+    }
     let Some((field, rest)) = cut_field(text) else {
         return Err(LineStop::Fault(LineFault::MissingColumn));
     };

@@ -1,6 +1,6 @@
 use Rattle.std.proofs.Common.{arith, ◌∙◌, sym, ap, Some}
 use Rattle.gm_graph.proofs.Steps.{node-of}
-use Rattle.gm_graph.proofs.Views.{out-edge, node_count-is}
+use Rattle.gm_graph.proofs.Views.{both-ends, out-edge, node_count-is}
 use Rattle.gm_graph.proofs.graphs.Graph.out_target.Goals as goal
 
 pub node-requires-clause-placed : goal.node-requires-clause-placed
@@ -20,4 +20,4 @@ returns-clause-known c =
     let g = c.self.inside in
     let at = out-edge g c.args.self.now c.self.view_is c.self.invariant c.args.node c.args.k c.requires.node c.requires.step in
     let nodes = node_count-is g c.args.self.now c.self.view_is in
-    omega (arith, nodes, c.node.ensures ∙ at.other, c.self.invariant.targets_within at.edge 0 (omega (arith, at.within, c.self.invariant.both_ends)))
+    omega (arith, nodes, c.node.ensures ∙ at.other, c.self.invariant.targets_within at.edge 0 (omega (arith, at.within, both-ends g)))

@@ -1,7 +1,7 @@
 use Rattle.std.proofs.Common.{◌≡◌, ◌≤◌, true, take}
 use Rattle.std.specs.List.{list_all}
 use Rattle.gm_fields.specs.Fields.{is_digit, decimal_value}
-use Rattle.gm_loader.proofs.quick.leading_number.Given as goal
+use Rattle.gm_loader.proofs.quick.leading_digits.Given as goal
 
 abbrev pub invariant-loop-end : goal.invariant-loop-end
 invariant-loop-end l = record {
