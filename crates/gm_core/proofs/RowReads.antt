@@ -2,10 +2,9 @@
 use Rattle.std.proofs.Common.{◌≡◌, ◌≢◌, ◌<◌, ◌≤◌, ◌+◌, ◌-◌, ℕ, Bool, true, false, cond, nat_eq, List, [], ◌∷◌, ◌++◌, length, take, drop, replicate, refl, sym, ap, ◌∙◌, arith, append_assoc, ⊎_elim}
 use Rattle.std.specs.Prelude.{slice_set, slice_index_or}
 use Rattle.std.proofs.lemmas.Bool.{cases_eq, cases_lt, eq-eqb, ne_eqb}
-use Rattle.std.proofs.lemmas.List.{get_or-set_same, get_or-set_other, get_or-replicate, get_or_default, length-set, length-replicate, length-drop, get_or-drop, take_more, append-nil, replicate-append-replicate}
+use Rattle.std.proofs.lemmas.List.{get_or-set_same, get_or-set_other, get_or-replicate, length-set, length-replicate, length-drop, get_or-drop, take_more, append-nil, replicate-append-replicate}
 use Rattle.std.proofs.lemmas.List.Elements.{filter-append}
 use Rattle.std.proofs.Math.ListN.{get_or-eq_default}
-use Rattle.gm_value.specs.declared.values.Value.{Value}
 use Rattle.gm_machine.specs.Vertex.{Message}
 use Rattle.gm_machine.specs.Machine.{inbox}
 use Rattle.gm_core.specs.Mails.{no_mail, with_at, delivered}
@@ -51,18 +50,6 @@ square-set workers rows k row within square same = record {
       (λ (other : w ≡ k → ⊥). ap length (get_or-set_other rows k w row [] other) ∙ square.each w some)
       (cases_eq w k);
 }
-
--- a message, from its parts as they are read
-pub message-at : (ms : List Message) (i : ℕ) (a b : ℕ) (v : List Value) → i < length ms →
-    a ≡ (slice_index_or ms i (record { to = a; kind = 0; values = [] })).to →
-    b ≡ (slice_index_or ms i (record { to = 0; kind = b; values = [] })).kind →
-    v ≡ (slice_index_or ms i (record { to = 0; kind = 0; values = v })).values →
-    (d : Message) → ◌≡◌ {A = Message} (record { to = a; kind = b; values = v }) (slice_index_or ms i d)
-message-at ms i a b v within to kind values d =
-    let e1 : a ≡ (slice_index_or ms i d).to = to ∙ ap (λ m. m.to) (get_or_default ms i (record { to = a; kind = 0; values = [] }) d within) in
-    let e2 : b ≡ (slice_index_or ms i d).kind = kind ∙ ap (λ m. m.kind) (get_or_default ms i (record { to = 0; kind = b; values = [] }) d within) in
-    let e3 : v ≡ (slice_index_or ms i d).values = values ∙ ap (λ m. m.values) (get_or_default ms i (record { to = 0; kind = 0; values = v }) d within) in
-    λ j. record { to = e1 j; kind = e2 j; values = e3 j }
 
 -- one more message is dealt
 pub dealt-more : (owners : List ℕ) (ms : List Message) (i w : ℕ) (d : Message) (old now new : List (List Message)) → i < length ms →

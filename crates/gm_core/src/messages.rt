@@ -15,7 +15,7 @@ pub(crate) fn copy_message(from: &Batch, i: usize, to: &mut Batch) -> Result<(),
     ensures added { OnOk result ((d : Message) → to.new ≡ to.old ++ slice_index_or from.now i d ∷ []) }
     ensures unchanged { OnErr result (to.new ≡ to.old) }
 {
-    to.add(from.to(i), from.kind(i), from.values(i))?;
+    to.add_from(from, i)?;
     Ok(())
 }
 

@@ -38,16 +38,11 @@ use Rattle.gm_machine.specs.Laws.{SameStep, LinesFoldBy, HandlersFoldBy}
 use Rattle.gm_machine.proofs.LeastLaws.{lesser-assoc, least_right, least_from-right, least-permuted}
 use Rattle.gm_machine.proofs.SoundHandlers.{all_front, all_back, all_first, all_rest, all_at, blocks_pass}
 use Rattle.gm_machine.proofs.SoundFolds.{reduction_in, same_reduce-is, sound-folds}
-use Rattle.gm_machine.specs.Combining.{combiner, carried, of_kind, more_exact, exact_of, SameKind, SameInboxes}
+use Rattle.gm_machine.specs.Combining.{combiner, carried, of_kind, more_exact, exact_of, SameTotal, SameKind, SameInboxes}
 use Rattle.gm_machine.proofs.BagLemmas.{same_as, SameBag-both, flat_map-permuted, flat_map-map, map-map, flat-loses, flat-none}
 use Rattle.gm_machine.proofs.OrderLaws.{AreBy, lines-by, handler-by, runs-by, first-by, slot-among, any-permuted, closed-bags, map-each, idle, goes-permuted}
+use Rattle.gm_machine.proofs.SameTotals.{joined, total_of, joined-alike, closes-alike, never-none, none-never, totals-as}
 use Rattle.gm_machine.proofs.SingleSteps.{firsts_of, closed_first, in_list, taken-single}
-
--- exact totals: those of two bags together
-abbrev pub joined : Reduce → Option ℤ → Option ℤ → Option ℤ
-joined r None y = y
-joined r (Some a) None = Some a
-joined r (Some a) (Some b) = Some (combined r a b)
 
 pub exact-append : (r : Reduce) (xs ys : List Value) → exact_of r (xs ++ ys) ≡ joined r (exact_of r xs) (exact_of r ys)
 exact-append r [] ys = refl
@@ -64,11 +59,6 @@ exact-permuted r = SameBag-folded (exact_of r) (λ v o. Some (more_exact r (numb
   by a b None = ap Some (combined_comm r a b)
   by a b (Some e) = ap Some (combined_exchange r a b e)
 
--- a total is the exact total with the unit
-abbrev total_of : Reduce → VType → Option ℤ → ℤ
-total_of r t None = unit_of r t
-total_of r t (Some e) = combined r e (unit_of r t)
-
 total-exact : (r : Reduce) (t : VType) (bag : List Value) → total r t bag ≡ total_of r t (exact_of r bag)
 total-exact r t [] = refl
 total-exact r t (v ∷ bag) = ap (combined r (number_of v)) (total-exact r t bag) ∙ by (exact_of r bag) where
@@ -77,15 +67,18 @@ total-exact r t (v ∷ bag) = ap (combined r (number_of v)) (total-exact r t bag
   by (Some e) = sym (combined_assoc r (number_of v) e (unit_of r t))
 
 -- a closing of one slot takes its contributions by their exact total
-bag-same : (r : Reduce) (s : ℕ) (held : Value) (cs ds : List Contribution) → exact_of r (firsts_of held cs) ≡ exact_of r (firsts_of held ds) →
+bag-same : (r : Reduce) (s : ℕ) (held : Value) (cs ds : List Contribution) → SameTotal r (exact_of r (firsts_of held cs)) (exact_of r (firsts_of held ds)) →
     taken_bag (closed_first r) s held cs ≡ taken_bag (closed_first r) s held ds
 bag-same r s held [] [] e = refl
-bag-same r s held [] (d ∷ ds) e = cc
-bag-same r s held (c ∷ cs) [] e = cc
+bag-same r s held [] (d ∷ ds) e = absurd (never-none r (more_exact r (number_of (first_or held d.values)) (exact_of r (firsts_of held ds))) e)
+bag-same r s held (c ∷ cs) [] e = absurd (none-never r (more_exact r (number_of (first_or held c.values)) (exact_of r (firsts_of held cs))) e)
 bag-same r s held (c ∷ cs) (d ∷ ds) e =
-    let totals : total r (type_of held) (firsts_of held (c ∷ cs)) ≡ total r (type_of held) (firsts_of held (d ∷ ds)) =
-    total-exact r (type_of held) (firsts_of held (c ∷ cs)) ∙ ap (total_of r (type_of held)) e ∙ sym (total-exact r (type_of held) (firsts_of held (d ∷ ds))) in
-    ap (λ z. at_rank s (answer_of (checked (type_of held) (combined r (number_of held) z)))) totals
+    let some : List Value = firsts_of held (c ∷ cs) in
+    let other : List Value = firsts_of held (d ∷ ds) in
+    ap (λ a. at_rank s (answer_of a)) (
+    ap (λ z. checked (type_of held) (combined r (number_of held) z)) (total-exact r (type_of held) some)
+    ∙ closes-alike r (type_of held) (number_of held) (exact_of r some) (exact_of r other) e
+    ∙ ap (λ z. checked (type_of held) (combined r (number_of held) z)) (sym (total-exact r (type_of held) other)))
 
 taken-each : {C V : Type 0} (rank : C → ℕ) (close : V → List C → Option V) (n : ℕ) (held : V) (cs ds : List C) →
     ((s : ℕ) (v : V) → taken_bag close s v (of_rank rank s cs) ≡ taken_bag close s v (of_rank rank s ds)) → taken rank close n held cs ≡ taken rank close n held ds
@@ -132,22 +125,29 @@ split-kinds n (m ∷ ms) all =
     (same_cons m (split-kinds n ms all.1))
     (flat-loses (λ k. of_kind k (m ∷ ms)) (λ k. of_kind k ms) m.kind (λ k other. sym (kind-other m ms k other)) (m ∷ []) 0 n (sym (kind-same m ms m.kind refl)) (omega arith) (omega (arith, all.0)))
 
--- what is made of messages kind by kind
-module _ {X : Type 0} (f : List Message → X) (op : X → X → X) (joins : (xs ys : List Message) → f (xs ++ ys) ≡ op (f xs) (f ys)) where
-  rows-same : (u v : ℕ → List Message) (a n : ℕ) → ((k : ℕ) → f (u k) ≡ f (v k)) → f (flat_map u (range_with_len a n)) ≡ f (flat_map v (range_with_len a n))
-  rows-same u v a zero same = refl
-  rows-same u v a (suc n) same =
-      joins (u a) (flat_map u (range_with_len (a + 1) n))
-      ∙ ap (λ x. op x (f (flat_map u (range_with_len (a + 1) n)))) (same a)
-      ∙ ap (op (f (v a))) (rows-same u v (a + 1) n same)
-      ∙ sym (joins (v a) (flat_map v (range_with_len (a + 1) n)))
+-- what is made of messages kind by kind, and does the same
+module _ {X : Type 0} (Alike : X → X → Type 0) (own : (x : X) → Alike x x) (f : List Message → X) (op : X → X → X) (joins : (xs ys : List Message) → f (xs ++ ys) ≡ op (f xs) (f ys))
+    (both : (x y z u : X) → Alike x y → Alike z u → Alike (op x z) (op y u)) where
+  rows-alike : (u v : ℕ → List Message) (a n : ℕ) → ((k : ℕ) → Alike (f (u k)) (f (v k))) → Alike (f (flat_map u (range_with_len a n))) (f (flat_map v (range_with_len a n)))
+  rows-alike u v a zero same = own (f [])
+  rows-alike u v a (suc n) same =
+      let us : List Message = flat_map u (range_with_len (a + 1) n) in
+      let vs : List Message = flat_map v (range_with_len (a + 1) n) in
+      subst (λ x. Alike x (f (v a ++ vs))) (sym (joins (u a) us))
+      (subst (λ y. Alike (op (f (u a)) (f us)) y) (sym (joins (v a) vs)) (both (f (u a)) (f (v a)) (f us) (f vs) (same a) (rows-alike u v (a + 1) n same)))
 
-  by-kinds : ((xs ys : List Message) → SameBag xs ys → f xs ≡ f ys) → (ms ns : List Message) → ((k : ℕ) → f (of_kind k ms) ≡ f (of_kind k ns)) → f ms ≡ f ns
-  by-kinds bags ms ns same =
+  alike-by-kinds : ((xs ys : List Message) → SameBag xs ys → f xs ≡ f ys) → (ms ns : List Message) → ((k : ℕ) → Alike (f (of_kind k ms)) (f (of_kind k ns))) → Alike (f ms) (f ns)
+  alike-by-kinds bags ms ns same =
       let n : ℕ = top ms + top ns in
-      bags ms (flat_map (λ k. of_kind k ms) (range_with_len 0 n)) (split-kinds n ms (below-top ms n (omega arith)))
-      ∙ rows-same (λ k. of_kind k ms) (λ k. of_kind k ns) 0 n same
-      ∙ sym (bags ns (flat_map (λ k. of_kind k ns) (range_with_len 0 n)) (split-kinds n ns (below-top ns n (omega arith))))
+      let some : List Message = flat_map (λ k. of_kind k ms) (range_with_len 0 n) in
+      let other : List Message = flat_map (λ k. of_kind k ns) (range_with_len 0 n) in
+      subst (λ x. Alike x (f ns)) (sym (bags ms some (split-kinds n ms (below-top ms n (omega arith)))))
+      (subst (λ y. Alike (f some) y) (sym (bags ns other (split-kinds n ns (below-top ns n (omega arith))))) (rows-alike (λ k. of_kind k ms) (λ k. of_kind k ns) 0 n same))
+
+-- and what is the same
+by-kinds : {X : Type 0} (f : List Message → X) (op : X → X → X) (joins : (xs ys : List Message) → f (xs ++ ys) ≡ op (f xs) (f ys)) →
+    ((xs ys : List Message) → SameBag xs ys → f xs ≡ f ys) → (ms ns : List Message) → ((k : ℕ) → f (of_kind k ms) ≡ f (of_kind k ns)) → f ms ≡ f ns
+by-kinds f op joins = alike-by-kinds (λ x y. x ≡ y) (λ x. refl) f op joins (λ x y z u p q. ap (λ a. op a z) p ∙ ap (op y) q)
 
 -- lists that are made of messages kind by kind
 module _ {B : Type 0} (h : Message → List B) where
@@ -315,10 +315,10 @@ one-has slot other place r given is (v ∷ vs) =
     by true some = refl
     by false some = refl
 
-exact-some : (r : Reduce) (vs ws : List Value) → exact_of r vs ≡ exact_of r ws → are_some vs ≡ are_some ws
+exact-some : (r : Reduce) (vs ws : List Value) → SameTotal r (exact_of r vs) (exact_of r ws) → are_some vs ≡ are_some ws
 exact-some r [] [] e = refl
-exact-some r [] (w ∷ ws) e = cc
-exact-some r (v ∷ vs) [] e = cc
+exact-some r [] (w ∷ ws) e = absurd (never-none r (more_exact r (number_of w) (exact_of r ws)) e)
+exact-some r (v ∷ vs) [] e = absurd (none-never r (more_exact r (number_of v) (exact_of r vs)) e)
 exact-some r (v ∷ vs) (w ∷ ws) e = refl
 
 any-append : {A : Type 0} (test : A → Bool) (xs ys : List A) → list_any test (xs ++ ys) ≡ (list_any test xs || list_any test ys)
@@ -417,7 +417,7 @@ module _ (p : Program) (reduction : ℕ → Reduction) (run : Message → After)
       made : (k : ℕ) (r : Reduce) (is : combiner p k ≡ Some r) (xs : List Message) → list_any (has_slot slot) (folds (of_kind k xs)) ≡ list_any (has_slot slot) (flat_map (does k r is).given (map carried (of_kind k xs)))
       made k r is xs = ap (list_any (has_slot slot)) (gathers k (λ m. (run m).state.folds) (does k r is).given (does k r is).folds xs)
 
-      by : (k : ℕ) (r : Reduce) (is : combiner p k ≡ Some r) → exact_of r (map carried (of_kind k ms)) ≡ exact_of r (map carried (of_kind k ns)) →
+      by : (k : ℕ) (r : Reduce) (is : combiner p k ≡ Some r) → SameTotal r (exact_of r (map carried (of_kind k ms))) (exact_of r (map carried (of_kind k ns))) →
           ((v : Value) → (does k r is).given v ≡ []) ⊎ ((place : ℕ) × (other : ℕ) × ((record { reduce = r; slots = other ∷ [] } ≡ reduction other) × ((v : Value) → (does k r is).given v ≡ record { place = place; reduce = r; slots = other ∷ []; values = v ∷ [] } ∷ []))) →
           list_any (has_slot slot) (folds (of_kind k ms)) ≡ list_any (has_slot slot) (folds (of_kind k ns))
       by k r is same (inl none) =
@@ -456,18 +456,19 @@ module _ (p : Program) (reduction : ℕ → Reduction) (run : Message → After)
     abbrev exact_at : List Message → Option ℤ
     exact_at xs = exact_of q (values_at slot s h (folds xs))
 
-    exact-kind : (k : ℕ) (r : Reduce) → combiner p k ≡ Some r → exact_of r (map carried (of_kind k ms)) ≡ exact_of r (map carried (of_kind k ns)) → exact_at (of_kind k ms) ≡ exact_at (of_kind k ns)
+    exact-kind : (k : ℕ) (r : Reduce) → combiner p k ≡ Some r → SameTotal r (exact_of r (map carried (of_kind k ms))) (exact_of r (map carried (of_kind k ns))) → SameTotal q (exact_at (of_kind k ms)) (exact_at (of_kind k ns))
     exact-kind k r is same = by (does k r is).shape where
       made : (xs : List Message) → exact_at (of_kind k xs) ≡ exact_of q (values_at slot s h (flat_map (does k r is).given (map carried (of_kind k xs))))
       made xs = ap (λ l. exact_of q (values_at slot s h l)) (gathers k (λ m. (run m).state.folds) (does k r is).given (does k r is).folds xs)
 
-      nothing : ((vs : List Value) → values_at slot s h (flat_map (does k r is).given vs) ≡ []) → exact_at (of_kind k ms) ≡ exact_at (of_kind k ns)
+      nothing : ((vs : List Value) → values_at slot s h (flat_map (does k r is).given vs) ≡ []) → SameTotal q (exact_at (of_kind k ms)) (exact_at (of_kind k ns))
       nothing none =
+          inl (
           made ms ∙ ap (exact_of q) (none (map carried (of_kind k ms)))
-          ∙ sym (made ns ∙ ap (exact_of q) (none (map carried (of_kind k ns))))
+          ∙ sym (made ns ∙ ap (exact_of q) (none (map carried (of_kind k ns)))))
 
       by : ((v : Value) → (does k r is).given v ≡ []) ⊎ ((place : ℕ) × (other : ℕ) × ((record { reduce = r; slots = other ∷ [] } ≡ reduction other) × ((v : Value) → (does k r is).given v ≡ record { place = place; reduce = r; slots = other ∷ []; values = v ∷ [] } ∷ []))) →
-          exact_at (of_kind k ms) ≡ exact_at (of_kind k ns)
+          SameTotal q (exact_at (of_kind k ms)) (exact_at (of_kind k ns))
       by (inl none) = nothing (λ vs. ap (values_at slot s h) (none-given (does k r is).given none vs))
       by (inr g) =
           ⊎_elim
@@ -477,33 +478,30 @@ module _ (p : Program) (reduction : ℕ → Reduction) (run : Message → After)
           let all : (vs : List Value) → values_at slot s h (flat_map (does k r is).given vs) ≡ vs =
           all-hit slot s h r g.0 g.1 (does k r is).given g.2.1 (one-hit slot s h r g.0 g.1 (does k r is).given g.2.1 here now) in
           let same_reduction : q ≡ r = sym (ap (λ (x : Reduction). x.reduce) (g.2.0 ∙ ap reduction here ∙ own)) in
-          made ms
-          ∙ ap (exact_of q) (all (map carried (of_kind k ms)))
-          ∙ ap (λ x. exact_of x (map carried (of_kind k ms))) same_reduction
-          ∙ same
-          ∙ sym (
-          made ns
-          ∙ ap (exact_of q) (all (map carried (of_kind k ns)))
-          ∙ ap (λ x. exact_of x (map carried (of_kind k ns))) same_reduction))
+          totals-as q r (exact_at (of_kind k ms)) (exact_at (of_kind k ns)) (exact_of r (map carried (of_kind k ms))) (exact_of r (map carried (of_kind k ns))) same_reduction
+          (made ms ∙ ap (exact_of q) (all (map carried (of_kind k ms))) ∙ ap (λ x. exact_of x (map carried (of_kind k ms))) same_reduction)
+          (made ns ∙ ap (exact_of q) (all (map carried (of_kind k ns))) ∙ ap (λ x. exact_of x (map carried (of_kind k ns))) same_reduction)
+          same)
           (λ (away : g.0 ≡ s → ⊥). nothing (all-miss slot s h r g.0 g.1 (does k r is).given g.2.1 (one-later slot s h r g.0 g.1 (does k r is).given g.2.1 here away)))
           (cases_eq g.0 s))
           (λ (away : g.1 ≡ slot → ⊥). nothing (all-miss slot s h r g.0 g.1 (does k r is).given g.2.1 (one-elsewhere slot s h r g.0 g.1 (does k r is).given g.2.1 away)))
           (cases_eq g.1 slot)
 
-    exact-alike : exact_at ms ≡ exact_at ns
+    exact-alike : SameTotal q (exact_at ms) (exact_at ns)
     exact-alike =
-        by-kinds exact_at (joined q)
+        alike-by-kinds (SameTotal q) (λ x. inl refl) exact_at (joined q)
         (λ xs ys.
         ap (λ l. exact_of q (values_at slot s h l)) (flat_map-append (λ m. (run m).state.folds) xs ys)
         ∙ ap (exact_of q) (values-append slot s h (folds xs) (folds ys))
         ∙ exact-append q (values_at slot s h (folds xs)) (values_at slot s h (folds ys)))
+        (joined-alike q)
         bags ms ns (λ k. one k (combiner p k) refl (alike k))
       where
         bags : (xs ys : List Message) → SameBag xs ys → exact_at xs ≡ exact_at ys
         bags xs ys same = exact-permuted q (SameBag-map (first_or h) (SameBag-map (λ c. c.values) (SameBag-filter (λ c. nat_eq c.place s) (SameBag-filter (λ c. same_numbers c.slots (slot ∷ [])) (flat_map-permuted (λ m. (run m).state.folds) same)))))
 
-        one : (k : ℕ) (o : Option Reduce) → combiner p k ≡ o → SameKind o (of_kind k ms) (of_kind k ns) → exact_at (of_kind k ms) ≡ exact_at (of_kind k ns)
-        one k None is same = bags (of_kind k ms) (of_kind k ns) same
+        one : (k : ℕ) (o : Option Reduce) → combiner p k ≡ o → SameKind o (of_kind k ms) (of_kind k ns) → SameTotal q (exact_at (of_kind k ms)) (exact_at (of_kind k ns))
+        one k None is same = inl (bags (of_kind k ms) (of_kind k ns) same)
         one k (Some r) is same = exact-kind k r is same
 
   module _ (by : AreBy reduction (folds ms)) (also : AreBy reduction (folds ns)) (places : ℕ) where

@@ -87,10 +87,10 @@ by_node-with_row nodes node columns vs full below long =
     (cases_eq k node))
 
 -- a node's value of a field is the field's value at the node
-value-there : (columns : List (List Value)) (slot k : ℕ) → slot < length columns → value_at (row_at columns k) slot ≡ value_at (get_or columns slot []) k
+pub value-there : (columns : List (List Value)) (slot k : ℕ) → slot < length columns → value_at (row_at columns k) slot ≡ value_at (get_or columns slot []) k
 value-there columns slot k within = get_or-map (λ values. value_at values k) columns slot [] (At None) within
 
-value-none : (columns : List (List Value)) (slot k : ℕ) → length columns ≤ slot → value_at (row_at columns k) slot ≡ At None
+pub value-none : (columns : List (List Value)) (slot k : ℕ) → length columns ≤ slot → value_at (row_at columns k) slot ≡ At None
 value-none columns slot k beyond = get_or_past (row_at columns k) slot (At None) (omega (arith, beyond, length-map columns (λ values. value_at values k)))
 
 column-there : (nodes slot : ℕ) (columns : List (List Value)) → AreFull nodes columns → slot < length columns → get_or columns slot [] ≡ column_of (by_node nodes columns) slot

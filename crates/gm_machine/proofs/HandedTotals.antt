@@ -1,5 +1,5 @@
 -- Messages that have a total.
-use Rattle.std.proofs.Common.{◌≡◌, ℕ, ℤ, ◌+ℤ◌, ◌-ℤ◌, ◌*ℤ◌, cond, nat_eq, Option, Some, None, List, [], ◌∷◌, ◌++◌, map, refl, sym, ap, subst, ◌∙◌, append_assoc, arith, ⊎_elim}
+use Rattle.std.proofs.Common.{inl, inr, ◌<◌, ◌^◌, unsigned_abs, ◌≡◌, ℕ, ℤ, ◌+ℤ◌, ◌-ℤ◌, ◌*ℤ◌, cond, nat_eq, Option, Some, None, List, [], ◌∷◌, ◌++◌, map, refl, sym, ap, subst, ◌∙◌, append_assoc, arith, ⊎_elim}
 use Rattle.std.specs.Prelude.{IsTrue}
 use Rattle.std.proofs.lemmas.Bool.{cases_eq, eq-eqb, ne_eqb}
 use Rattle.std.proofs.lemmas.Int.{ints}
@@ -15,13 +15,14 @@ use Rattle.gm_value.specs.Numbers.{number_of}
 use Rattle.gm_value.specs.Totals.{Shows}
 use Rattle.gm_image.specs.Program.{Program}
 use Rattle.gm_image.specs.Soundness.{is_sound}
-use Rattle.gm_machine.specs.Combining.{combiner, carried, of_kind, more_exact, exact_of, SameKind, SameInboxes}
+use Rattle.gm_machine.specs.Combining.{combiner, carried, of_kind, more_exact, exact_of, SameTotal, SameKind, SameInboxes}
 use Rattle.gm_machine.specs.HandedTotals.{each_to, AddsTotal, AddsSome, AreOfKind}
 use Rattle.gm_machine.specs.Laws.{SameStep}
 use Rattle.gm_machine.specs.Machine.{block_at}
 use Rattle.gm_machine.specs.Vertex.{Message, VertexContext, vertex_after}
 use Rattle.gm_machine.proofs.BagLemmas.{same_as}
-use Rattle.gm_machine.proofs.CombiningLemmas.{joined, exact-append, vertex-combined}
+use Rattle.gm_machine.proofs.CombiningLemmas.{exact-append, vertex-combined}
+use Rattle.gm_machine.proofs.SameTotals.{joined, joined-alike, totals-as}
 
 -- messages were added so far, and with any whose sum is what is left they have a sum
 pub record SumsTo (old : List Message) (to kind : ℕ) (sum left : ℤ) (now : List Message) : Type 0 where
@@ -52,7 +53,7 @@ pub sums-all : (old now new : List Message) (to kind : ℕ) (sum whole left next
 sums-all old now new to kind sum whole left next new_is last whole_is so_far = record {
   values = so_far.values ++ I64 next ∷ [];
   behind = behind-more old now new to kind so_far.values (I64 next) so_far.behind new_is;
-  total = so_far.with_rest (I64 next ∷ []) (ap Some last) ∙ ap Some whole_is;
+  total = inl (so_far.with_rest (I64 next ∷ []) (ap Some last) ∙ ap Some whole_is);
 }
 
 pub sums-some : (old now new : List Message) (to kind : ℕ) (sum left : ℤ) → new ≡ now → SumsTo old to kind sum left now → AddsSome old to kind new
@@ -71,19 +72,27 @@ pub small-total : (old new : List Message) (to kind : ℕ) (r : Reduce) (v : Val
 small-total old new to kind r v total exact new_is total_is shows = record {
   values = v ∷ [];
   behind = new_is;
-  total = ap Some (shown r v exact (subst (λ t. Shows r t exact) total_is shows));
+  total = inl (ap Some (shown r v exact (subst (λ t. Shows r t exact) total_is shows)));
 }
 
 -- one number, and two
 pub one-product : (old new : List Message) (to kind : ℕ) (number product : ℤ) → new ≡ old ++ each_to to kind (I64 number ∷ []) → number ≡ product → AddsTotal old to kind Product product new
-one-product old new to kind number product new_is is = record { values = I64 number ∷ []; behind = new_is; total = ap Some is }
+one-product old new to kind number product new_is is = record { values = I64 number ∷ []; behind = new_is; total = inl (ap Some is) }
 
-pub two-product : (old mid new : List Message) (to kind : ℕ) (first second product : ℤ) → mid ≡ old ++ each_to to kind (I64 first ∷ []) → new ≡ mid ++ each_to to kind (I64 second ∷ []) → first *ℤ second ≡ product → AddsTotal old to kind Product product new
-two-product old mid new to kind first second product mid_is new_is is = record {
-  values = I64 first ∷ I64 second ∷ [];
-  behind = behind-more old mid new to kind (I64 first ∷ []) (I64 second) mid_is new_is;
-  total = ap Some is;
-}
+pub two-product : (old new : List Message) (to kind : ℕ) (first second product : ℤ) → new ≡ old ++ each_to to kind (I64 first ∷ I64 second ∷ []) → first *ℤ second ≡ product → AddsTotal old to kind Product product new
+two-product old new to kind first second product new_is is = record { values = I64 first ∷ I64 second ∷ []; behind = new_is; total = inl (ap Some is) }
+
+-- two whose product is far, as another is
+pub two-far : (old new : List Message) (to kind : ℕ) (first second product : ℤ) → new ≡ old ++ each_to to kind (I64 first ∷ I64 second ∷ []) → 2 ^ 63 < unsigned_abs (first *ℤ second) → 2 ^ 63 < unsigned_abs product →
+    AddsTotal old to kind Product product new
+two-far old new to kind first second product new_is one other = record { values = I64 first ∷ I64 second ∷ []; behind = new_is; total = inr (one, other) }
+
+pub two-added : (old mid new : List Message) (to kind : ℕ) (first second one other : ℤ) → mid ≡ old ++ each_to to kind (I64 one ∷ []) → new ≡ mid ++ each_to to kind (I64 other ∷ []) → one ≡ first → other ≡ second →
+    new ≡ old ++ each_to to kind (I64 first ∷ I64 second ∷ [])
+two-added old mid new to kind first second one other mid_is new_is one_is other_is =
+    behind-more old mid new to kind (I64 one ∷ []) (I64 other) mid_is new_is
+    ∙ ap (λ n. old ++ each_to to kind (I64 n ∷ I64 other ∷ [])) one_is
+    ∙ ap (λ n. old ++ each_to to kind (I64 first ∷ I64 n ∷ [])) other_is
 
 pub some-of-two : (old mid new : List Message) (to kind : ℕ) (first : ℤ) → mid ≡ old ++ each_to to kind (I64 first ∷ []) → new ≡ mid → AddsSome old to kind new
 some-of-two old mid new to kind first mid_is new_is = record { values = I64 first ∷ []; behind = new_is ∙ mid_is }
@@ -120,7 +129,7 @@ alone j k differs inbox some are =
 
 same-kind : (o : Option Reduce) (some other : List Message) → some ≡ other → SameKind o some other
 same-kind None some other same = same_as same
-same-kind (Some r) some other same = ap (λ ms. exact_of r (map carried ms)) same
+same-kind (Some r) some other same = inl (ap (λ ms. exact_of r (map carried ms)) same)
 
 exact-with : (r : Reduce) (k : ℕ) (inbox some : List Message) → AreOfKind k some → exact_of r (map carried (of_kind k (inbox ++ some))) ≡ joined r (exact_of r (map carried (of_kind k inbox))) (exact_of r (map carried some))
 exact-with r k inbox some are =
@@ -130,18 +139,22 @@ exact-with r k inbox some are =
 
 -- what is left out may be handed in by others that have its total
 pub step-handed : (p : Program) (q : ℕ) (s : VertexContext) (inbox left_out : List Message) (fields : List Value) (to kind : ℕ) (r : Reduce) (values : List Value) →
-    IsTrue (is_sound p) → combiner p kind ≡ Some r → AreOfKind kind left_out → exact_of r values ≡ exact_of r (map carried left_out) →
+    IsTrue (is_sound p) → combiner p kind ≡ Some r → AreOfKind kind left_out → SameTotal r (exact_of r values) (exact_of r (map carried left_out)) →
     SameStep (vertex_after p (block_at p q) s (inbox ++ each_to to kind values) fields) (vertex_after p (block_at p q) s (inbox ++ left_out) fields)
 step-handed p q s inbox left_out fields to kind r values sound has are same = vertex-combined p q s (inbox ++ handed) (inbox ++ left_out) fields sound alike where
   handed : List Message
   handed = each_to to kind values
 
+  there : Option ℤ
+  there = exact_of r (map carried (of_kind kind inbox))
+
   own : SameKind (combiner p kind) (of_kind kind (inbox ++ handed)) (of_kind kind (inbox ++ left_out))
   own =
       subst (λ o. SameKind o (of_kind kind (inbox ++ handed)) (of_kind kind (inbox ++ left_out))) (sym has)
-      (exact-with r kind inbox handed (each-of to kind values)
-      ∙ ap (joined r (exact_of r (map carried (of_kind kind inbox)))) (ap (exact_of r) (carried-each to kind values) ∙ same)
-      ∙ sym (exact-with r kind inbox left_out are))
+      (totals-as r r (exact_of r (map carried (of_kind kind (inbox ++ handed)))) (exact_of r (map carried (of_kind kind (inbox ++ left_out)))) (joined r there (exact_of r values)) (joined r there (exact_of r (map carried left_out))) refl
+      (exact-with r kind inbox handed (each-of to kind values) ∙ ap (λ vs. joined r there (exact_of r vs)) (carried-each to kind values))
+      (exact-with r kind inbox left_out are)
+      (joined-alike r there there (exact_of r values) (exact_of r (map carried left_out)) (inl refl) same))
 
   alike : SameInboxes p (inbox ++ handed) (inbox ++ left_out)
   alike j =

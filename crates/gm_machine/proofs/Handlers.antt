@@ -9,6 +9,7 @@ use Rattle.gm_image.specs.Program.{Line, Handler}
 use Rattle.gm_machine.specs.declared.faults.Fault.{Fault}
 use Rattle.gm_machine.specs.Taking.{Contribution}
 use Rattle.gm_machine.specs.declared.batches.MessageHeader.{MessageHeader}
+use Rattle.gm_machine.specs.declared.message_values.MessageValues.{MessageValues}
 use Rattle.gm_machine.specs.Faults.{lesser, least_from}
 use Rattle.gm_machine.specs.Batches.{message_of}
 use Rattle.gm_machine.specs.Vertex.{Message, VertexContext, VertexState, After, lines_after, never_sets, begun, handler_lines, handler_run}
@@ -58,17 +59,17 @@ one_more s ls types old w w' fault one runs all keeps reset inv ran =
     }
 
 -- the runs of the messages of some headers
-abbrev pub runs_of : VertexContext → List Handler → VertexState → List Value → List MessageHeader → List After
+abbrev pub runs_of : VertexContext → List Handler → VertexState → MessageValues → List MessageHeader → List After
 runs_of s hs start values headers = map (handler_run s hs start) (map (message_of values) headers)
 
 -- the same for the header at an index
-pub one_message : (s : VertexContext) (hs : List Handler) (types : List VType) (values : List Value) (headers : List MessageHeader) (i : ℕ) (d : MessageHeader) (old before w' : VertexState)
+pub one_message : (s : VertexContext) (hs : List Handler) (types : List VType) (values : MessageValues) (headers : List MessageHeader) (i : ℕ) (d : MessageHeader) (old before w' : VertexState)
     (fault one f : Option Fault) →
     i < length headers →
     ((kind : ℕ) → never_sets (handler_lines hs kind) ≡ true) →
     f ≡ lesser fault one →
     IsBehind old before fault (runs_of s hs (begun types old.fields) values (drop i headers)) (runs_of s hs (begun types old.fields) values headers) →
-    after_lines w' one ≡ lines_after (record s { message = (message_of values (get_or headers i d)).values }) (handler_lines hs (get_or headers i d).kind) 0 (record before { registers = map zero_of types }) →
+    after_lines w' one ≡ lines_after (record s { message = (message_of values (get_or headers i d)).values }) (handler_lines hs (message_of values (get_or headers i d)).kind) 0 (record before { registers = map zero_of types }) →
     IsBehind old w' f (runs_of s hs (begun types old.fields) values (drop (i + 1) headers)) (runs_of s hs (begun types old.fields) values headers)
 one_message s hs types values headers i d old before w' fault one f lt keeps least inv ran =
     let header : MessageHeader = get_or headers i d in
@@ -79,7 +80,7 @@ one_message s hs types values headers i d old before w' fault one f lt keeps lea
     let next : IsBehind old w' (lesser fault one) (runs_of s hs (begun types old.fields) values (drop (i + 1) headers)) all =
     one_more
     (record s { message = (message_of values header).values })
-    (handler_lines hs header.kind)
+    (handler_lines hs (message_of values header).kind)
     types
     old
     (record before { registers = map zero_of types })
@@ -88,7 +89,7 @@ one_message s hs types values headers i d old before w' fault one f lt keeps lea
     one
     (runs_of s hs (begun types old.fields) values (drop (i + 1) headers))
     all
-    (keeps header.kind)
+    (keeps (message_of values header).kind)
     refl
     (record { fields = inv'.fields; messages = inv'.messages; puts = inv'.puts; folds = inv'.folds; fault_is = inv'.fault_is })
     ran in

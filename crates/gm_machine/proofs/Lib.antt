@@ -7,10 +7,12 @@ pub mod OrderLaws
 pub mod SoundHandlers
 pub mod SoundFolds
 pub mod SoundPuts
+pub mod SameTotals
 pub mod CombiningLemmas
 pub mod HandedTotals
 pub mod Samples
 mod Rows
+pub mod WordLemmas
 pub mod Messages
 pub mod TakingSteps
 pub mod TargetSteps
@@ -28,6 +30,7 @@ pub mod MasterLemmas
 pub mod StateLemmas
 pub mod StateBounds
 pub mod FieldRows
+pub mod OwnFieldLemmas
 pub mod Widths
 pub mod NodeSteps
 pub mod Starting

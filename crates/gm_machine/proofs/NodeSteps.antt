@@ -13,6 +13,7 @@ use Rattle.gm_image.specs.Views.{program}
 use Rattle.gm_machine.specs.declared.batches.MessageHeader.{MessageHeader}
 use Rattle.gm_machine.specs.declared.faults.Fault.{Fault}
 use Rattle.gm_machine.specs.declared.fields.FieldColumns.{FieldColumns}
+use Rattle.gm_machine.specs.declared.message_values.MessageValues.{MessageValues}
 use Rattle.gm_machine.specs.declared.node_steps.Nodes.{Nodes}
 use Rattle.gm_machine.specs.declared.node_steps.Round.{Round}
 use Rattle.gm_machine.specs.declared.steps.Sent.{Sent}
@@ -160,13 +161,13 @@ round-more r from place old now new messages held messages' puts given puts' fau
     so_far
 
 -- what a place's headers ask of headers by place, and that their values are there
-pub place-known : (places place : ℕ) (values : List Value) (sorted : List MessageHeader) (starts : List ℕ) → AreByPlace places values sorted starts → place < places → (starts ≡ []) ⊎ (place + 1 < length starts)
+pub place-known : (places place : ℕ) (values : MessageValues) (sorted : List MessageHeader) (starts : List ℕ) → AreByPlace places values sorted starts → place < places → (starts ≡ []) ⊎ (place + 1 < length starts)
 place-known places place values sorted starts are below = ⊎_elim
     (λ (none : starts ≡ []). inl none)
     (λ (long : length starts ≡ places + 1). inr (let e : place + 1 < length starts = omega arith in e))
     are.long
 
-pub place-within : (places place : ℕ) (values : List Value) (sorted headers : List MessageHeader) (starts : List ℕ) → AreByPlace places values sorted starts → place < places → headers ≡ headers_at sorted starts place → All (IsWithin values) headers
+pub place-within : (places place : ℕ) (values : MessageValues) (sorted headers : List MessageHeader) (starts : List ℕ) → AreByPlace places values sorted starts → place < places → headers ≡ headers_at sorted starts place → All (IsWithin values) headers
 place-within places place values sorted headers starts are below is = All-same (IsWithin values) headers (headers_at sorted starts place) is (are.within place below)
 
 -- the same steps, one by one

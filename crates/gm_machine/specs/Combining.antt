@@ -1,8 +1,9 @@
 -- Messages of combinable kinds, and what stands for them.
-use Rattle.std.specs.Prelude.{◌≡◌, ℕ, nat_eq, ℤ, IsTrue, Option, Some, None, List, [], ◌∷◌, map, filter, slice_get}
+use Rattle.std.specs.Prelude.{◌≡◌, ◌<◌, ◌^◌, ◌⊎◌, ℕ, nat_eq, ℤ, unsigned_abs, IsTrue, Option, Some, None, List, [], ◌∷◌, map, filter, slice_get}
 use Rattle.std.specs.Option.{option_and_then}
 use Rattle.gm_value.specs.declared.values.Value.{Value}
 use Rattle.gm_value.specs.declared.reductions.Reduce.{Reduce}
+use Rattle.gm_value.specs.declared.reductions.Reduce.TheVariants.{Product}
 use Rattle.gm_value.specs.Bag.{SameBag}
 use Rattle.gm_value.specs.Numbers.{number_of}
 use Rattle.gm_value.specs.Reductions.{combined}
@@ -34,10 +35,19 @@ abbrev pub exact_of : Reduce → List Value → Option ℤ
 exact_of r [] = None
 exact_of r (v ∷ bag) = Some (more_exact r (number_of v) (exact_of r bag))
 
--- messages of one kind that do the same: of a combinable kind those of one exact total, and of another those that are the same but for their order
+-- two products of more than 2 ^ 63 in magnitude: each makes 0 of a held 0, and Overflow of each other held value
+abbrev pub AreFar : Reduce → Option ℤ → Option ℤ → Type 0
+AreFar Product (Some a) (Some b) = (2 ^ 63 < unsigned_abs a) × (2 ^ 63 < unsigned_abs b)
+AreFar r a b = ⊥
+
+-- exact totals that do the same: one number, or two such products
+abbrev pub SameTotal : Reduce → Option ℤ → Option ℤ → Type 0
+SameTotal r a b = (a ≡ b) ⊎ AreFar r a b
+
+-- messages of one kind that do the same: of a combinable kind those whose exact totals do the same, and of another those that are the same but for their order
 abbrev pub SameKind : Option Reduce → List Message → List Message → Type 0
 SameKind None some other = SameBag some other
-SameKind (Some r) some other = exact_of r (map carried some) ≡ exact_of r (map carried other)
+SameKind (Some r) some other = SameTotal r (exact_of r (map carried some)) (exact_of r (map carried other))
 
 abbrev pub SameInboxes : Program → List Message → List Message → Type 0
 SameInboxes p inbox other = (k : ℕ) → SameKind (combiner p k) (of_kind k inbox) (of_kind k other)

@@ -3,6 +3,7 @@ pub mod Expressions
 pub mod Taking
 pub mod Contributions
 pub mod Vertex
+pub mod MessageValues
 pub mod Batches
 pub mod Inboxes
 pub mod VertexViews
@@ -19,5 +20,6 @@ pub mod HandedTotals
 pub mod Masters
 pub mod Supersteps
 pub mod Ends
+pub mod OwnFields
 pub mod Starts
 pub mod Notes

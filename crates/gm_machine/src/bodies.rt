@@ -13,6 +13,7 @@ use crate::batches::MessageHeader;
 use crate::expressions::VertexContext;
 use crate::faults::{Fault, lesser};
 use crate::lines::{LineEnd, VertexState, reset, run_line, run_lines, run_turns};
+use crate::message_values::MessageValues;
 use crate::settling::settle;
 use gm_base::NoMemory;
 use gm_image::{Handler, Image, VertexLine};
@@ -201,12 +202,14 @@ fn run_handler(
 }
 
 // Runs the handlers of messages, each from the same fields and with its registers at zero, to its end or its first
-// fault, and answers the least of these faults. The registers are at zero afterwards.
+// fault, and answers the least of these faults. The registers are at zero afterwards. The row is room for the values of a
+// message.
 fn run_handlers(
     handlers: &[Handler],
     registers: &[VType],
     headers: &[MessageHeader],
-    values: &[Value],
+    values: &MessageValues,
+    row: &mut Vec<Value>,
     context: &VertexContext,
     state: &mut VertexState,
 ) -> Result<Option<Fault>, NoMemory>
@@ -222,8 +225,9 @@ fn run_handlers(
 {
     let mut fault = None;
     for header in headers {
-        let message = &values[header.start..header.end];
-        let one = run_handler(handlers, registers, header.kind, message, context, state)?;
+        values.load(*header, row)?;
+        let kind = values.kind(header.sort);
+        let one = run_handler(handlers, registers, kind, row.as_slice(), context, state)?;
         fault = lesser(fault, one);
     }
     reset(&mut state.registers, registers)?;
@@ -231,12 +235,13 @@ fn run_handlers(
 }
 
 /// The step of a vertex: the handlers of its messages, and then the body unless something faulted. What it sends and
-/// puts comes behind what was sent and put before.
+/// puts comes behind what was sent and put before. The row is room for the values of a message.
 pub(crate) fn run_vertex(
     image: &Image,
     code: BlockCode,
     headers: &[MessageHeader],
-    values: &[Value],
+    values: &MessageValues,
+    row: &mut Vec<Value>,
     context: &VertexContext,
     state: &mut VertexState,
 ) -> Result<Option<Fault>, NoMemory>
@@ -251,7 +256,15 @@ pub(crate) fn run_vertex(
     let places = image.places.len();
     let registers = image.registers.as_slice();
     state.folds.clear();
-    let handled = run_handlers(code.handlers, registers, headers, values, context, state)?;
+    let handled = run_handlers(
+        code.handlers,
+        registers,
+        headers,
+        values,
+        row,
+        context,
+        state,
+    )?;
     let end = take_folds(places, handled, 0, state)?;
     match end {
         LineEnd::Faulted(f) => Ok(Some(f)),

@@ -4,6 +4,7 @@ ghost use Rattle.std.specs.Prelude.{◌≡◌, ◌<◌, ◌≤◌, ℕ, OnOk, If
 ghost use Rattle.gm_value.specs.declared.values.Value.TheVariants.{At};
 ghost use Rattle.gm_value.specs.Numbers.{zero_of};
 ghost use Rattle.gm_columns.specs.Cells.{values_of};
+ghost use Rattle.gm_machine.specs.Expressions.{value_at};
 ghost use Rattle.gm_machine.specs.Fields.{with_row, fields_of, columns_of, IsFull};
 ghost use Rattle.gm_machine.specs.Machine.{row_at, column_of};
 
@@ -28,11 +29,13 @@ pub struct Fields {
 }
 
 impl Model for Fields {
+    ghost use Rattle.gm_machine.specs.Expressions.{value_at};
     ghost use Rattle.gm_machine.specs.Fields.{HeldFields};
 
     ghost Value = { HeldFields };
 
     ghost use Rattle.std.specs.Prelude.{length};
+    ghost use Rattle.gm_machine.specs.Expressions.{value_at};
     ghost use Rattle.gm_machine.specs.Fields.{fields_of, IsFull};
 
     ghost view = { λ f. record { width = length f.columns.rows.items; rows = fields_of f.columns } };
@@ -120,6 +123,14 @@ impl Fields {
         self.columns.nodes
     }
 
+    /// A field of the node at a place, NIL where there is no such field.
+    pub fn get(&self, place: usize, slot: usize) -> Value
+        requires { place < length self.now.rows }
+        ensures { result ≡ value_at (slice_index_or self.now.rows place []) slot }
+    {
+        self.columns.get(place, slot)
+    }
+
     /// Puts the fields of the node at a place into a list.
     pub fn load(&self, place: usize, into: &mut Vec<Value>) -> Result<(), NoMemory>
         requires { place < length self.now.rows }
@@ -172,6 +183,18 @@ impl FieldColumns {
             })?;
         }
         Ok(FieldColumns { nodes, rows })
+    }
+
+    // A field of a node, NIL where there is no such field.
+    pub(crate) fn get(&self, node: usize, slot: usize) -> Value
+        requires node { node < self.now.nodes }
+        requires full { IsFull (length self.now.rows.items) self.now }
+        ensures { result ≡ value_at (slice_index_or (fields_of self.now) node []) slot }
+    {
+        match self.rows.get(slot) {
+            Some(row) => row.get(node),
+            None => Value::At(None),
+        }
     }
 
     // Puts the fields of a node into a list.

@@ -12,8 +12,10 @@ mod inboxes;
 mod laws;
 mod lines;
 mod masters;
+mod message_values;
 mod node_lists;
 mod node_steps;
+mod own_fields;
 mod runs;
 mod settling;
 mod starts;
@@ -34,5 +36,6 @@ pub use laws::{
 pub use masters::{Master, MasterStop, master_run};
 pub use node_lists::{end_of_lists, settle_puts, start_fields};
 pub use node_steps::{Duty, Nodes, steps_of_nodes};
+pub use own_fields::{end_of_owners, start_of_nodes};
 pub use runs::{run_one, run_watched};
 pub use steps::{Sent, vertex_step};

@@ -22,6 +22,7 @@ use crate::faults::{Fault, lesser};
 use crate::fields::{FieldColumns, Fields};
 use crate::inboxes::{Inbox, headers_at};
 use crate::lines::VertexState;
+use crate::message_values::MessageValues;
 use crate::steps::Sent;
 use gm_base::NoMemory;
 use gm_graph::Graph;
@@ -128,7 +129,7 @@ struct Round<'a> {
     graph: &'a Graph,
     globals: &'a [Value],
     nodes: Nodes<'a>,
-    values: &'a [Value],
+    values: &'a MessageValues,
     sorted: &'a [MessageHeader],
     starts: &'a [usize],
 }
@@ -139,6 +140,7 @@ fn step_at(
     round: &Round,
     place: usize,
     fields: &mut FieldColumns,
+    row: &mut Vec<Value>,
     state: &mut VertexState,
 ) -> Result<Option<Fault>, NoMemory>
     requires columns { FitsGraph round.now.image.now round.now.graph.now }
@@ -172,6 +174,7 @@ fn step_at(
         round.code,
         headers,
         round.values,
+        row,
         &context,
         state,
     )?;
@@ -207,8 +210,9 @@ fn run_round(
     ensures enough { IfOk result (λ r. r.0 < places_of round.now.nodes → enough ≤ length state.new.messages) }
 {
     let mut fault = before;
+    let mut row = Vec::new(alloc);
     for place in from..round.nodes.len() {
-        let one = step_at(alloc, round, place, fields, state)?;
+        let one = step_at(alloc, round, place, fields, &mut row, state)?;
         fault = lesser(fault, one);
         if state.messages.messages() >= enough {
             return Ok((place + 1, fault));
@@ -240,7 +244,7 @@ pub fn steps_of_nodes(
     ensures enough { IfOk result (λ to. to < places_of nodes.now → enough ≤ length sent.new.messages) }
 {
     let code = block_at(duty.image, duty.block);
-    let values = inbox.values.as_slice();
+    let values = &inbox.values;
     let sorted = inbox.sorted.as_slice();
     let starts = inbox.starts.as_slice();
     let round = Round {

@@ -80,11 +80,13 @@ pub(crate) fn step(
     let mut state = VertexState::idle(alloc, mem::replace(fields, Vec::new(alloc)));
     mem::swap(&mut state.messages, &mut sent.messages);
     mem::swap(&mut state.puts, &mut sent.puts);
+    let mut row = Vec::new(alloc);
     let fault = run_vertex(
         image,
         code,
-        &inbox.headers,
+        &inbox.headers[inbox.taken..],
         &inbox.values,
+        &mut row,
         &context,
         &mut state,
     )?;

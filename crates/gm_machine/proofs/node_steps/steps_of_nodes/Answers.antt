@@ -1,5 +1,5 @@
 -- The round's steps are those of the duty.
-use Rattle.std.proofs.Common.{◌≡◌, ◌<◌, ◌≤◌, ◌∙◌, ℕ, List, [], length, get_or, ap, sym, arith, subst}
+use Rattle.std.proofs.Common.{◌≡◌, ◌<◌, ◌≤◌, ◌∙◌, ℕ, List, [], length, get_or, refl, ap, sym, arith, subst}
 use Rattle.gm_value.specs.declared.values.Value.{Value}
 use Rattle.gm_image.specs.Views.{program}
 use Rattle.gm_machine.specs.declared.fields.FieldColumns.{FieldColumns}
@@ -27,8 +27,8 @@ run_round-requires-clause-keeps c =
 
 pub run_round-requires-clause-by_place : goal.run_round-requires-clause-by_place
 run_round-requires-clause-by_place c =
-    by_place-read c.inbox.inside.places (places_of c.args.nodes.now) c.inbox.inside.values.items c.as_slice-values.result.now c.inbox.inside.sorted.items c.as_slice-sorted.result.now c.inbox.inside.starts.items c.as_slice-starts.result.now c.args.inbox.now
-    c.inbox.view_is c.requires.inbox c.as_slice-values.ensures.value c.as_slice-sorted.ensures.value c.as_slice-starts.ensures.value c.inbox.invariant
+    by_place-read c.inbox.inside.places (places_of c.args.nodes.now) c.inbox.inside.values c.inbox.inside.values c.inbox.inside.sorted.items c.as_slice-sorted.result.now c.inbox.inside.starts.items c.as_slice-starts.result.now c.args.inbox.now
+    c.inbox.view_is c.requires.inbox refl c.as_slice-sorted.ensures.value c.as_slice-starts.ensures.value c.inbox.invariant
 
 pub run_round-requires-clause-fields : goal.run_round-requires-clause-fields
 run_round-requires-clause-fields c =
@@ -44,7 +44,7 @@ run_round-requires-clause-full c =
 pub returns-clause-steps : goal.returns-clause-steps
 returns-clause-steps c =
     let d : Duty = c.args.duty.now in
-    let r : Round = record { image = d.image; code = c.block_at-code.result; graph = d.graph; globals = d.globals; nodes = c.args.nodes.now; values = c.as_slice-values.result; sorted = c.as_slice-sorted.result; starts = c.as_slice-starts.result } in
+    let r : Round = record { image = d.image; code = c.block_at-code.result; graph = d.graph; globals = d.globals; nodes = c.args.nodes.now; values = record { ref_ptr = c.args.inbox.ref_ptr; now = c.inbox.inside.values }; sorted = c.as_slice-sorted.result; starts = c.as_slice-starts.result } in
     let before : FieldColumns = c.fields.inside.columns in
     let old : List (List Value) = fields_of before in
     let new : List (List Value) = fields_of c.run_round.new.fields in
@@ -59,8 +59,8 @@ returns-clause-steps c =
     (runs-same (round_after r old) (place_after d c.args.nodes.now waiting old) c.args.from c.in_ok-to.to old new c.args.sent.now.messages c.run_round.new.state.messages c.args.sent.now.puts c.run_round.new.state.puts c.args.sent.now.fault c.in_ok-to.fault
     (λ place low high.
     let below : place < length waiting = omega (arith, high, c.in_ok-to.ensures.within, c.requires.inbox) in
-    place-same (program d.image.now) d.graph.now d.globals.now c.args.nodes.now (code_of c.block_at-code.result) (block_at (program d.image.now) d.block) place (messages_at c.as_slice-values.result.now c.as_slice-sorted.result.now c.as_slice-starts.result.now place) (get_or waiting place []) (get_or old place []) c.block_at-code.ensures
-    (messages-read c.inbox.inside.places place c.inbox.inside.values.items c.as_slice-values.result.now c.inbox.inside.sorted.items c.as_slice-sorted.result.now c.inbox.inside.starts.items c.as_slice-starts.result.now waiting
-    c.inbox.view_is c.as_slice-values.ensures.value c.as_slice-sorted.ensures.value c.as_slice-starts.ensures.value below))
+    place-same (program d.image.now) d.graph.now d.globals.now c.args.nodes.now (code_of c.block_at-code.result) (block_at (program d.image.now) d.block) place (messages_at c.inbox.inside.values c.as_slice-sorted.result.now c.as_slice-starts.result.now place) (get_or waiting place []) (get_or old place []) c.block_at-code.ensures
+    (messages-read c.inbox.inside.places place c.inbox.inside.values c.inbox.inside.values c.inbox.inside.sorted.items c.as_slice-sorted.result.now c.inbox.inside.starts.items c.as_slice-starts.result.now waiting
+    c.inbox.view_is refl c.as_slice-sorted.ensures.value c.as_slice-starts.ensures.value below))
     (runs-read (round_after r) c.args.from c.in_ok-to.to (fields_of c.replace-columns.result) old new c.swap.new.x c.args.sent.now.messages c.run_round.new.state.messages c.swap-2.new.x c.args.sent.now.puts c.run_round.new.state.puts c.args.sent.now.fault c.in_ok-to.fault
     read c.swap.ensures.x_after c.swap-2.ensures.x_after c.in_ok-to.ensures.runs))

@@ -1,16 +1,25 @@
 -- One more message stands behind the others, and values without a header change nothing.
-use Rattle.std.proofs.Common.{arith, rules}
-use Rattle.gm_machine.proofs.Messages.{added, not-added}
+use Rattle.std.proofs.Common.{rules}
+use Rattle.gm_machine.proofs.Messages.{same-messages, same-are, more-messages, more-are}
 use Rattle.gm_machine.proofs.batches.Batch.add.Goals as goal
 
-pub returns-in_err-push-clause-unchanged : goal.returns-in_err-push-clause-unchanged
-returns-in_err-push-clause-unchanged c =
-    let same = not-added c.self.inside.values.items c.args.values.now c.extend_from_slice.new.self.items c.self.inside.headers.items c.push.new.self.items c.args.self.now
-    c.self.invariant c.self.view_is c.in_ok-extend_from_slice.ensures.items c.in_err-push.ensures.items in
+pub invariant_of-self : goal.invariant_of-self
+invariant_of-self c =
+    same-are c.self.inside.values c.push_message.new.values c.in_err-push_message.ensures.grows c.self.inside.headers.items c.push_message.new.headers.items c.self.inside.taken
+    c.self.invariant c.in_err-push_message.ensures.sorts c.in_err-push_message.ensures.unchanged
+
+pub returns-in_err-push_message-clause-unchanged : goal.returns-in_err-push_message-clause-unchanged
+returns-in_err-push_message-clause-unchanged c =
+    let same = same-messages c.self.inside.values c.push_message.new.values c.in_err-push_message.ensures.grows c.self.inside.headers.items c.push_message.new.headers.items c.self.inside.taken c.args.self.now
+    c.self.invariant c.self.view_is c.in_err-push_message.ensures.unchanged in
     search (rules, same)
+
+pub invariant_of-self-2 : goal.invariant_of-self-2
+invariant_of-self-2 c =
+    more-are c.self.inside.values c.push_message.new.values c.in_ok-push_message.ensures.grows c.self.inside.headers.items c.push_message.new.headers.items c.self.inside.taken c.args.to c.args.kind c.args.values.now
+    c.self.invariant c.in_ok-push_message.ensures.sorts c.in_ok-push_message.ensures.added
 
 pub returns-clause-added : goal.returns-clause-added
 returns-clause-added c =
-    added c.self.inside.values.items c.args.values.now c.extend_from_slice.new.self.items c.self.inside.headers.items c.push.new.self.items c.args.self.now
-    c.args.to c.args.kind c.len-start.result c.len-end.result
-    c.self.invariant c.self.view_is c.in_ok-extend_from_slice.ensures.items c.in_ok-push.ensures.items (omega arith) (omega (arith, c.in_ok-extend_from_slice.ensures.len))
+    more-messages c.self.inside.values c.push_message.new.values c.in_ok-push_message.ensures.grows c.self.inside.headers.items c.push_message.new.headers.items c.self.inside.taken c.args.self.now c.args.to c.args.kind c.args.values.now
+    c.self.invariant c.self.view_is c.in_ok-push_message.ensures.added
