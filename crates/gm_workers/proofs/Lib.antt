@@ -1,2 +1,10 @@
 pub mod PostLemmas
 pub mod PartLemmas
+pub mod Sharing
+pub mod ThreadLemmas
+pub mod DealingLemmas
+pub mod WorkerBags
+pub mod CrewLemmas
+pub mod StandLemmas
+pub mod FirstLemmas
+pub mod RunLemmas

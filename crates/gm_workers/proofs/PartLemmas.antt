@@ -1,8 +1,7 @@
 -- A worker's part, some nodes after others.
-use Rattle.std.proofs.Common.{◌≡◌, ◌≢◌, ◌<◌, ◌≤◌, ◌+◌, ◌-◌, ℕ, zero, suc, nat_eq, Option, Some, None, List, [], ◌∷◌, ◌++◌, length, map, take, drop, refl, sym, ap, ◌∙◌, subst, arith, append_assoc, length-append, ⊎_elim}
+use Rattle.std.proofs.Common.{◌≡◌, ◌<◌, ◌≤◌, ◌+◌, ◌-◌, ℕ, zero, suc, nat_eq, Option, None, List, [], ◌∷◌, ◌++◌, length, map, take, drop, refl, sym, ap, ◌∙◌, subst, arith, append_assoc}
 use Rattle.std.specs.Prelude.{slice_index, slice_index_or}
 use Rattle.std.specs.List.{flat_map, range_with_len}
-use Rattle.std.proofs.lemmas.Bool.{cases_lt}
 use Rattle.std.proofs.lemmas.List.{append-nil, map-append, length-map, drop_all}
 use Rattle.std.proofs.lemmas.List.Concat.{flat_map-append}
 use Rattle.std.proofs.lemmas.List.Elements.{filter-append}
@@ -12,7 +11,7 @@ use Rattle.gm_machine.specs.declared.faults.Fault.{Fault}
 use Rattle.gm_machine.specs.declared.node_steps.Duty.{Duty}
 use Rattle.gm_machine.specs.declared.steps.Sent.{Sent}
 use Rattle.gm_machine.specs.Duties.{between, StepsTo}
-use Rattle.gm_machine.specs.Faults.{lesser, least_from, least_fault}
+use Rattle.gm_machine.specs.Faults.{lesser, least_fault}
 use Rattle.gm_machine.specs.Fields.{HeldFields}
 use Rattle.gm_machine.specs.Steps.{step_after}
 use Rattle.gm_machine.specs.Vertex.{Message, After}

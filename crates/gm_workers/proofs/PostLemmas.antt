@@ -1,14 +1,13 @@
 -- What a worker sends and takes, piece by piece.
-use Rattle.std.proofs.Common.{◌≡◌, ◌≢◌, ◌<◌, ◌≤◌, ◌+◌, ℕ, zero, suc, Bool, true, false, cond, nat_eq, List, [], ◌∷◌, ◌++◌, length, map, take, refl, sym, ap, ◌∙◌, subst, arith, append_assoc, ⊎_elim}
-use Rattle.std.specs.Prelude.{filter, slice_index_or, ◌==◌, if◌then◌else◌}
-use Rattle.std.specs.List.{flat_map}
+use Rattle.std.proofs.Common.{◌≡◌, ◌<◌, ◌+◌, ℕ, cond, nat_eq, List, [], ◌∷◌, ◌++◌, length, take, sym, ap, ◌∙◌, subst, arith, append_assoc, ⊎_elim}
+use Rattle.std.specs.Prelude.{slice_index_or}
 use Rattle.std.proofs.lemmas.Bool.{cases_eq, eq-eqb, ne_eqb}
-use Rattle.std.proofs.lemmas.List.{append-nil, take_more, get_or_default}
+use Rattle.std.proofs.lemmas.List.{append-nil, take_more}
 use Rattle.std.proofs.lemmas.List.Elements.{filter-append}
 use Rattle.gm_machine.specs.Vertex.{Message}
 use Rattle.gm_posting.specs.Traffic.{Traffic}
-use Rattle.gm_posting.specs.Gathering.{only_for, nothing, held, sent_by_worker, GoesOn, Gathers, AreFew}
-use Rattle.gm_posting.proofs.GatheringLemmas.{goes-nothing, goes-then, gathers-then, gathers-nothing, gathers-few}
+use Rattle.gm_posting.specs.Gathering.{only_for, held, sent_by_worker, GoesOn, Gathers, AreFew}
+use Rattle.gm_posting.proofs.GatheringLemmas.{goes-then, gathers-then, gathers-nothing}
 use Rattle.gm_core.specs.Cores.{owner, for_worker}
 use Rattle.gm_workers.specs.declared.mail.Mail.{Mail}
 use Rattle.gm_workers.specs.Parts.{items_of, Takes, Hands}

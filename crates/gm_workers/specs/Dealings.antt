@@ -1,5 +1,5 @@
 -- Who owns which node, and where it stands among its owner's nodes.
-use Rattle.std.specs.Prelude.{◌≡◌, ◌≤◌, ◌<◌, ℕ, nat_eq, if◌then◌else◌, List, length, map, slice_index, slice_index_or}
+use Rattle.std.specs.Prelude.{◌≡◌, ◌≤◌, ℕ, nat_eq, if◌then◌else◌, List, length, map, slice_index_or}
 use Rattle.gm_machine.specs.Vertex.{Message}
 use Rattle.gm_core.specs.Cores.{owner, below}
 use Rattle.gm_core.specs.Laws.{AreOwners}
@@ -22,7 +22,8 @@ place_for d w node = if nat_eq (owner d.owners.items node) w then slice_index_or
 abbrev pub placed : Dealing → ℕ → Message → Message
 placed d w m = record m { to = place_for d w m.to }
 
--- the nodes of a graph are dealt out among so many workers
+-- So many nodes are dealt out among so many workers. There are so few of them that each has a place
 pub record IsDealt (nodes workers : ℕ) (d : Dealing) : Type 0 where
+  pub few : nodes ≤ no_place
   pub owners : AreOwners d.owners.items nodes workers
   pub places : d.places.items ≡ map (place_in d.owners.items) (below nodes)

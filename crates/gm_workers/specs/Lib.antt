@@ -1,2 +1,5 @@
 pub mod Dealings
 pub mod Parts
+pub mod Threads
+pub mod Crews
+pub mod Runs

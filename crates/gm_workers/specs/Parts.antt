@@ -1,5 +1,5 @@
 -- A worker's part in a superstep.
-use Rattle.std.specs.Prelude.{◌≡◌, ◌<◌, ◌≤◌, ℕ, None, List, [], ◌∷◌, ◌++◌, length, map, drop, slice_index, slice_index_or}
+use Rattle.std.specs.Prelude.{◌≡◌, ◌<◌, ◌≤◌, ℕ, None, List, [], ◌++◌, length, map, drop, slice_index, slice_index_or}
 use Rattle.std.specs.List.{flat_map, range_with_len}
 use Rattle.gm_value.specs.declared.values.Value.{Value}
 use Rattle.gm_model.specs.Graphs.{HasNode}

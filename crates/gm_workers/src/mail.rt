@@ -31,9 +31,6 @@ impl Bundle for Mail {
     }
 
     fn add(&mut self, from: &Self, i: usize) -> Result<(), NoMemory> {
-        let to = from.messages.to(i);
-        let kind = from.messages.kind(i);
-        let values = from.messages.values(i);
-        self.messages.add(to, kind, values)
+        self.messages.add_from(&from.messages, i)
     }
 }

@@ -196,9 +196,7 @@ fn add_placed(
 {
     for i in 0..mail.messages.messages() {
         let place = place_at(dealing, worker, mail.messages.to(i));
-        let kind = mail.messages.kind(i);
-        let values = mail.messages.values(i);
-        messages.add(place, kind, values)?;
+        messages.add_to(place, &mail.messages, i)?;
     }
     Ok(())
 }

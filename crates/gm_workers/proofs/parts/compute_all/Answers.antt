@@ -1,4 +1,4 @@
-use Rattle.std.proofs.Common.{◌≡◌, List, refl, sym, ap, ◌∙◌, subst, arith}
+use Rattle.std.proofs.Common.{List, refl, sym, ◌∙◌, subst}
 use Rattle.gm_machine.specs.declared.steps.Sent.{Sent}
 use Rattle.gm_machine.specs.Vertex.{Message}
 use Rattle.gm_machine.proofs.NodeSteps.{steps-long}

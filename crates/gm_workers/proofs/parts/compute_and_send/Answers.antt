@@ -1,4 +1,3 @@
-use Rattle.std.proofs.Common.{length, ◌∙◌, arith}
 use Rattle.gm_workers.proofs.PostLemmas.{hands-few}
 use Rattle.gm_workers.proofs.PartLemmas.{part-done}
 use Rattle.gm_workers.proofs.parts.compute_and_send.Goals as goal
