@@ -4,7 +4,7 @@ ghost use Rattle.std.specs.Prelude.{◌≡◌, ◌≢◌, ◌≤◌, ℕ, List, 
 ghost use Rattle.gm_base.specs.declared.statuses.Status.TheVariants.{ReadFault, WriteFault, NoMemory as MemoryOut};
 ghost use Rattle.gm_base.specs.declared.statuses.Status.{Status};
 ghost use Rattle.gm_base.specs.Streams.{Rises, with_more, GrowsByPrefix};
-ghost use Rattle.gm_words.specs.Jobs.{AllAssign, IsRight};
+ghost use Rattle.gm_words.specs.Jobs.{AllAssign, AreRight, IsRight};
 ghost use Rattle.gm_words.specs.declared.jobs.Job.TheVariants as job;
 ghost use Rattle.gm_observe.specs.declared.notes.Note.{Note};
 ghost use Rattle.gm_input.specs.Outside.{Outside, outside};
@@ -14,12 +14,14 @@ use crate::answers::usage;
 use crate::demos::demo;
 use crate::programs::check;
 use crate::runs::run;
-use gm_base::{Failed, Files, Items, NoMemory, Sink, Source, Status, Text, write_all};
+use gm_base::{Failed, Files, Gate, Items, NoMemory, Sink, Source, Status, Text, write_all};
 use gm_exec::exec;
 use gm_input::Answer;
 use gm_observe::Observer;
 use gm_words::{Job, Options, WordsStop, read_words};
 use std::alloc::Global;
+use std::sync::Wait;
+use std::thread::Threads;
 
 // The reply for a job of which nothing is done.
 fn unbuilt(alloc: Global, job: &Job) -> Result<Answer, NoMemory>
@@ -68,7 +70,8 @@ fn run_job<S: Source, F: Files>(
 }
 
 // The reply for the run of an image, which the observers are told of or not.
-fn exec_job<S: Source, F: Files>(
+fn exec_job<R: Threads + Wait + Sync, S: Source, F: Files, G: Gate>(
+    rt: &R,
     alloc: Global,
     image: &Text,
     graph: &Text,
@@ -76,16 +79,20 @@ fn exec_job<S: Source, F: Files>(
     options: &Options,
     input: &mut S,
     files: &mut F,
+    gate: &G,
     observers: &mut [Box<dyn Observer>],
 ) -> Result<Answer, NoMemory>
-    requires { AllAssign args.now }
+    requires assign { AllAssign args.now }
+    requires right { AreRight options.now }
     ensures { IfOk result (λ a. IsJobReply (Some (job.Exec image.now graph.now args.now options.now)) (map (λ o. says_of o) observers.old) (map (λ o. seen o) observers.old)
         (outside S.Source F.Files input.old files.old) (outside S.Source F.Files input.new files.new) a.text.items a.status) }
 {
     let text = image.as_str();
     let over = graph.as_str();
     let words = args.as_slice();
-    exec(alloc, text, over, words, options, input, files, observers)
+    exec(
+        rt, alloc, text, over, words, options, input, files, gate, observers,
+    )
 }
 
 // The reply for a demonstration.
@@ -98,11 +105,13 @@ fn demo_job(alloc: Global, nodes: u32, options: Options) -> Result<Answer, NoMem
 }
 
 // The reply for a job.
-fn reply_for<S: Source, F: Files>(
+fn reply_for<R: Threads + Wait + Sync, S: Source, F: Files, G: Gate>(
+    rt: &R,
     alloc: Global,
     job: &Job,
     input: &mut S,
     files: &mut F,
+    gate: &G,
     observers: &mut [Box<dyn Observer>],
 ) -> Result<Answer, NoMemory>
     requires { IsRight job.now }
@@ -124,24 +133,28 @@ fn reply_for<S: Source, F: Files>(
             graph,
             args,
             options,
-        } => exec_job(alloc, image, graph, args, options, input, files, observers),
+        } => exec_job(
+            rt, alloc, image, graph, args, options, input, files, gate, observers,
+        ),
         Job::Compile { .. } => unbuilt(alloc, job),
     }
 }
 
 // What is to be written for some words, and the status.
-fn reply<S: Source, F: Files>(
+fn reply<R: Threads + Wait + Sync, S: Source, F: Files, G: Gate>(
+    rt: &R,
     alloc: Global,
     words: &[String],
     input: &mut S,
     files: &mut F,
+    gate: &G,
     observers: &mut [Box<dyn Observer>],
 ) -> Result<Answer, NoMemory>
     ensures { IfOk result (λ a. IsReply (map string_bytes words.now) (map (λ o. says_of o) observers.old) (map (λ o. seen o) observers.old)
         (outside S.Source F.Files input.old files.old) (outside S.Source F.Files input.new files.new) a.text.items a.status) }
 {
     match read_words(alloc, words) {
-        Ok(job) => reply_for(alloc, &job, input, files, observers),
+        Ok(job) => reply_for(rt, alloc, &job, input, files, gate, observers),
         Err(WordsStop::Usage) => usage(alloc),
         Err(WordsStop::NoMemory) => Err(NoMemory),
     }
@@ -154,8 +167,9 @@ fn reply<S: Source, F: Files>(
 /// `check PROG` answers `accepted`, or the rule that the program breaks with its place. `run PROG GRAPH NAME=VALUE ..`
 /// checks the program in the same way, and runs it over the graph; where both are `-`, the graph stands behind the
 /// first line that is exactly `%%`. `exec IMAGE GRAPH NAME=VALUE ..` reads and judges an image in the same way, and runs
-/// it over the graph; with `--observe` each of the observers is told one note for each superstep, and their reports
-/// follow the listing, in their order. With `--format mtx` the graph of `run` and `exec` is a Matrix Market text. `demo N`
+/// it over the graph by `--workers` workers, among whom the nodes are dealt out by `--partition`, and each worker enters the
+/// gate before it computes a superstep; with `--observe` each of the observers is told one note for each superstep, and
+/// their reports follow the listing, in their order. With `--format mtx` the graph of `run` and `exec` is a Matrix Market text. `demo N`
 /// runs the shortest paths over a graph of N nodes that it makes itself.
 /// The command `compile`, and `run` with `--image`, are answered by the usage line so far, as are words that ask for no
 /// job.
@@ -164,12 +178,14 @@ fn reply<S: Source, F: Files>(
 ///
 /// Where neither a read, a write nor memory failed, the sink grew by exactly the reply for these words and these
 /// bytes, and the answer is its status.
-pub fn gm<S: Source, F: Files, K: Sink>(
+pub fn gm<R: Threads + Wait + Sync, S: Source, F: Files, K: Sink, G: Gate>(
+    rt: &R,
     alloc: Global,
     words: &[String],
     input: &mut S,
     files: &mut F,
     out: &mut K,
+    gate: &G,
     observers: &mut Vec<Box<dyn Observer>>,
 ) -> Status
     // What was written is the reply for these words, for the bytes that the source had left and for the files, whole.
@@ -194,7 +210,7 @@ pub fn gm<S: Source, F: Files, K: Sink>(
     // The observers were let go, whatever came of it.
     ensures emptied { observers.new.items ≡ [] }
 {
-    let replied = reply(alloc, words, input, files, observers);
+    let replied = reply(rt, alloc, words, input, files, gate, observers);
     observers.clear();
     let Ok(answer) = replied else {
         return Status::NoMemory;

@@ -1,10 +1,10 @@
 //! The replies of small images, with ample memory.
 
 ghost use Rattle.std.specs.Prelude.{◌<◌, [], IfOk};
-ghost use Rattle.gm_words.specs.Jobs.{AllAssign};
+ghost use Rattle.gm_words.specs.Jobs.{AllAssign, AreRight};
 
 use crate::texts::{parts_of, text_of, text_of_lines};
-use gm_base::{Items, MemFiles, MemSource, NoMemory, Status, Text};
+use gm_base::{Items, MemFiles, MemSource, NoMemory, OpenGate, Status, Text};
 use gm_exec::exec;
 use gm_input::Answer;
 use gm_observe::{Counter, Note, Observer, Table};
@@ -12,7 +12,9 @@ use gm_words::{Job, Options, read_words};
 use std::alloc::{AllocError, Global};
 use std::cell::Cell;
 use std::rc::Rc;
+use std::sync::Wait;
 use std::test::Fail;
+use std::thread::Threads;
 
 // An observer that has no memory for its second note, and reports nothing.
 #[derive(Drop)]
@@ -76,7 +78,8 @@ fn words_of(alloc: Global, line: &str) -> Result<Vec<String>, AllocError> {
 
 // The words NAME=VALUE and the options of a command line that runs an image.
 fn command(alloc: Global, line: &str) -> Result<(Items<Text>, Options), Fail>
-    ensures { IfOk result (λ x. AllAssign x.0) }
+    ensures assign { IfOk result (λ x. AllAssign x.0) }
+    ensures right { IfOk result (λ x. AreRight x.1) }
 {
     let words = words_of(alloc, line)?;
     match read_words(alloc, words.as_slice())? {
@@ -95,6 +98,7 @@ fn source_of(alloc: Global, text: &[u8], piece: usize, fails: u64) -> Result<Mem
 
 // The answer to the names of an image and a graph, over a standard input and some files.
 fn answer_to(
+    rt: &(impl Threads + Wait + Sync),
     alloc: Global,
     names: (&str, &str),
     words: &[Text],
@@ -104,11 +108,12 @@ fn answer_to(
     observers: &mut [Box<dyn Observer>],
 ) -> Result<Answer, NoMemory>
     requires words { AllAssign words.now }
+    requires right { AreRight options.now }
 {
     let mut input = input;
     let mut files = files;
     exec(
-        alloc, names.0, names.1, words, options, &mut input, &mut files, observers,
+        rt, alloc, names.0, names.1, words, options, &mut input, &mut files, &OpenGate, observers,
     )
 }
 
@@ -123,11 +128,17 @@ fn watchers(alloc: Global) -> Result<Vec<Box<dyn Observer>>, NoMemory> {
 }
 
 // The answer to a command line over a standard input. A counter and a table watch, if the line says so.
-fn reply_of(alloc: Global, line: &str, input: MemSource) -> Result<Answer, Fail> {
+fn reply_of(
+    rt: &(impl Threads + Wait + Sync),
+    alloc: Global,
+    line: &str,
+    input: MemSource,
+) -> Result<Answer, Fail> {
     let (words, options) = command(alloc, line)?;
     let files = MemFiles::new(Vec::new(alloc), Vec::new(alloc));
     let mut observers = watchers(alloc)?;
     Ok(answer_to(
+        rt,
         alloc,
         ("-", "-"),
         words.as_slice(),
@@ -180,12 +191,12 @@ const REPLIES: &str =
     exec - - --turns 4 --observe n=5|count|(none)|Cut|cut after 4 turns~observed 0 supersteps 0 messages";
 
 // Whether a case has its reply.
-fn is_replied(alloc: Global, case: &str) -> Result<bool, Fail> {
+fn is_replied(rt: &(impl Threads + Wait + Sync), alloc: Global, case: &str) -> Result<bool, Fail> {
     match parts_of(alloc, case)?.as_slice() {
         [line, image, rest, status, said] => {
             let text = input_of(alloc, image, rest)?;
             let input = source_of(alloc, &text, 7, 0)?;
-            let answer = reply_of(alloc, line, input)?;
+            let answer = reply_of(rt, alloc, line, input)?;
             Ok(says(&answer, status, &text_of_lines(alloc, said)?))
         }
         _ => Err("no case")?,
@@ -195,23 +206,27 @@ fn is_replied(alloc: Global, case: &str) -> Result<bool, Fail> {
 #[test]
 fn images_and_then_graphs_and_then_words_are_judged(rt: HostRuntime) -> Result<(), Fail> {
     for case in REPLIES.split(';') {
-        assert!(rt; is_replied(rt.alloc(), case)?, "{case}");
+        assert!(rt; is_replied(&rt, rt.alloc(), case)?, "{case}");
     }
     Ok(())
 }
 
 // Whether the fault of a read is said. Of 200 bytes each read takes 50, and the last finds the end.
-fn is_fault_said(alloc: Global, read: u64) -> Result<bool, Fail> {
+fn is_fault_said(
+    rt: &(impl Threads + Wait + Sync),
+    alloc: Global,
+    read: u64,
+) -> Result<bool, Fail> {
     let text = input_of(alloc, "count", "%%~0 1")?;
     let input = source_of(alloc, &text, 50, read)?;
-    let answer = reply_of(alloc, "exec - - --turns 4 --observe n=4", input)?;
+    let answer = reply_of(rt, alloc, "exec - - --turns 4 --observe n=4", input)?;
     Ok(says(&answer, "ReadFault", b"read fault -\n"))
 }
 
 #[test]
 fn a_failed_read_is_said(rt: HostRuntime) -> Result<(), Fail> {
     for read in 1..6 {
-        assert!(rt; is_fault_said(rt.alloc(), read)?, "{read}");
+        assert!(rt; is_fault_said(&rt, rt.alloc(), read)?, "{read}");
     }
     Ok(())
 }
@@ -246,11 +261,17 @@ const NAMES: &str = "image|graph|(none)|Done|return = 4~supersteps 0 messages 0 
     image|nothing|(none)|ReadFault|absent nothing";
 
 // The answer to the names of an image and a graph, over the files of the shelf and a standard input.
-fn answer_to_names(alloc: Global, names: (&str, &str), text: &[u8]) -> Result<Answer, Fail> {
+fn answer_to_names(
+    rt: &(impl Threads + Wait + Sync),
+    alloc: Global,
+    names: (&str, &str),
+    text: &[u8],
+) -> Result<Answer, Fail> {
     let (words, options) = command(alloc, "exec - - --turns 4 n=4")?;
     let input = source_of(alloc, text, 9, 0)?;
     let files = shelf(alloc)?;
     Ok(answer_to(
+        rt,
         alloc,
         names,
         words.as_slice(),
@@ -262,11 +283,11 @@ fn answer_to_names(alloc: Global, names: (&str, &str), text: &[u8]) -> Result<An
 }
 
 // Whether a case has its reply.
-fn is_read(alloc: Global, case: &str) -> Result<bool, Fail> {
+fn is_read(rt: &(impl Threads + Wait + Sync), alloc: Global, case: &str) -> Result<bool, Fail> {
     match parts_of(alloc, case)?.as_slice() {
         [image, graph, input, status, said] => {
             let text = input_of(alloc, input, "(none)")?;
-            let answer = answer_to_names(alloc, (image, graph), &text)?;
+            let answer = answer_to_names(rt, alloc, (image, graph), &text)?;
             Ok(says(&answer, status, &text_of_lines(alloc, said)?))
         }
         _ => Err("no case")?,
@@ -276,7 +297,7 @@ fn is_read(alloc: Global, case: &str) -> Result<bool, Fail> {
 #[test]
 fn names_are_read(rt: HostRuntime) -> Result<(), Fail> {
     for case in NAMES.split(';') {
-        assert!(rt; is_read(rt.alloc(), case)?, "{case}");
+        assert!(rt; is_read(&rt, rt.alloc(), case)?, "{case}");
     }
     Ok(())
 }
@@ -298,6 +319,7 @@ fn forgetful_and_counted(
 
 // Whether the image `total` is answered.
 fn is_answered(
+    rt: &(impl Threads + Wait + Sync),
     alloc: Global,
     line: &str,
     observers: &mut [Box<dyn Observer>],
@@ -307,6 +329,7 @@ fn is_answered(
     let input = source_of(alloc, &text, 1000, 0)?;
     let files = MemFiles::new(Vec::new(alloc), Vec::new(alloc));
     let answer = answer_to(
+        rt,
         alloc,
         ("-", "-"),
         words.as_slice(),
@@ -323,10 +346,17 @@ fn one_without_memory_stops_the_telling(rt: HostRuntime) -> Result<(), Fail> {
     let told = Rc::new(rt.alloc(), Cell::new(0u32))?;
     let mut observers = forgetful_and_counted(rt.alloc(), Rc::clone(&told)?)?;
     // where the run is not watched nobody is told
-    assert!(rt; is_answered(rt.alloc(), "exec - - --turns 4", &mut observers)?);
+    assert!(rt; is_answered(&rt, rt.alloc(), "exec - - --turns 4", &mut observers)?);
     assert_eq!(rt; told.get(), 0);
     // the first has no memory for its second note, and the one behind it is not told
-    assert!(rt; !is_answered(rt.alloc(), "exec - - --turns 4 --observe", &mut observers)?);
+    assert!(rt;
+        !is_answered(
+            &rt,
+            rt.alloc(),
+            "exec - - --turns 4 --observe",
+            &mut observers
+        )?
+    );
     assert_eq!(rt; told.get(), 1);
     Ok(())
 }

@@ -1,11 +1,13 @@
 //! The whole program over streams and files in memory, and tables of its answers.
 
-use gm_base::{MemFiles, MemSink, MemSource, NoMemory, Status};
+use gm_base::{Gate, MemFiles, MemSink, MemSource, NoMemory, OpenGate, Status};
 use gm_driver::gm;
 use gm_observe::{Counter, Observer, Table};
 use std::alloc::Global;
 use std::process::Abort;
+use std::sync::Wait;
 use std::test::Fail;
+use std::thread::Threads;
 
 // How the streams of a call behave: the greatest numbers of bytes that a read and a write take, and the numbers of
 // the reads and the writes that fail, 0 for none.
@@ -44,8 +46,24 @@ fn words_in(alloc: Global, line: &str) -> Result<Vec<String>, Fail> {
     Ok(words)
 }
 
-// The one call of the program, with these words and these observers.
+// The one call of the program, with these words, this gate and these observers.
+pub fn gated_call<G: Gate>(
+    rt: &(impl Threads + Wait + Sync),
+    alloc: Global,
+    words: &str,
+    source: &mut MemSource,
+    files: &mut MemFiles,
+    sink: &mut MemSink,
+    gate: &G,
+    observers: &mut Vec<Box<dyn Observer>>,
+) -> Result<Status, Fail> {
+    let words = words_in(alloc, words)?;
+    Ok(gm(rt, alloc, &words, source, files, sink, gate, observers))
+}
+
+// The call with these observers and an open gate.
 pub fn watched_call(
+    rt: &(impl Threads + Wait + Sync),
     alloc: Global,
     words: &str,
     source: &mut MemSource,
@@ -53,12 +71,12 @@ pub fn watched_call(
     sink: &mut MemSink,
     observers: &mut Vec<Box<dyn Observer>>,
 ) -> Result<Status, Fail> {
-    let words = words_in(alloc, words)?;
-    Ok(gm(alloc, &words, source, files, sink, observers))
+    gated_call(rt, alloc, words, source, files, sink, &OpenGate, observers)
 }
 
 // The call with the observers of the program.
 pub fn call(
+    rt: &(impl Threads + Wait + Sync),
     alloc: Global,
     words: &str,
     source: &mut MemSource,
@@ -70,11 +88,12 @@ pub fn call(
     observers.push(counter).map_err(NoMemory::from)?;
     let table: Box<dyn Observer> = Box::new(alloc, Table::new(alloc))?;
     observers.push(table).map_err(NoMemory::from)?;
-    watched_call(alloc, words, source, files, sink, &mut observers)
+    watched_call(rt, alloc, words, source, files, sink, &mut observers)
 }
 
 // The status of a call over these files, and what it wrote.
 pub fn run_with(
+    rt: &(impl Threads + Wait + Sync),
     alloc: Global,
     words: &str,
     input: Vec<u8>,
@@ -92,7 +111,7 @@ pub fn run_with(
         vec![in alloc; streams.fails_out]?,
         65536,
     )?;
-    let status = call(alloc, words, &mut source, files, &mut sink)?;
+    let status = call(rt, alloc, words, &mut source, files, &mut sink)?;
     let written = String::from_utf8_lossy(alloc, sink.taken())?;
     Ok((status, written))
 }
@@ -104,13 +123,14 @@ pub fn no_files(alloc: Global) -> MemFiles {
 
 // The status of a call without files, and what it wrote.
 pub fn run(
+    rt: &(impl Threads + Wait + Sync),
     alloc: Global,
     words: &str,
     input: Vec<u8>,
     streams: Streams,
 ) -> Result<(Status, String), Fail> {
     let mut files = no_files(alloc);
-    run_with(alloc, words, input, streams, &mut files)
+    run_with(rt, alloc, words, input, streams, &mut files)
 }
 
 // Two texts, one behind the other.
@@ -143,14 +163,14 @@ pub fn status_of(written: &str) -> Status {
 // Whether each call gives its answer, over streams of this kind: the words, the front and the rest of standard input,
 // and what is written.
 pub fn calls_hold(
-    rt: &impl Abort,
+    rt: &(impl Abort + Threads + Wait + Sync),
     alloc: Global,
     streams: Streams,
     rows: &[(&str, &str, &str, &str)],
 ) -> Result<(), Fail> {
     for (words, front, rest, text) in rows {
         let input = joined(alloc, front, rest)?;
-        let (status, written) = run(alloc, words, input, streams)?;
+        let (status, written) = run(rt, alloc, words, input, streams)?;
         assert_eq!(rt; written.as_str(), *text, "{words} {front:?} {rest:?}");
         assert_eq!(rt; status, status_of(text), "{words} {front:?} {rest:?}");
     }
@@ -168,7 +188,7 @@ pub struct Row {
 
 // Whether each program has its outcome, over streams of this kind.
 pub fn outcomes_hold(
-    rt: &impl Abort,
+    rt: &(impl Abort + Threads + Wait + Sync),
     alloc: Global,
     streams: Streams,
     rows: &[Row],
@@ -176,7 +196,7 @@ pub fn outcomes_hold(
     for row in rows {
         let input = two_texts(alloc, row.text, row.graph)?;
         let words = format!(in alloc; "run - - {}", row.words)?;
-        let (status, written) = run(alloc, words.as_str(), input, streams)?;
+        let (status, written) = run(rt, alloc, words.as_str(), input, streams)?;
         assert_eq!(rt; written.as_str(), row.printed, "{}", row.name);
         assert_eq!(rt; status, status_of(row.printed), "{}", row.name);
     }

@@ -3,7 +3,6 @@
 use crate::calls::{PLAIN, Streams, run_with};
 use gm_base::{MemFiles, Status};
 use std::alloc::Global;
-use std::process::Abort;
 use std::test::Fail;
 
 // Program texts, and what is written of them.
@@ -88,7 +87,14 @@ fn checks_of_standard_input(rt: HostRuntime) -> Result<(), Fail> {
             let streams = Streams { piece_in, ..PLAIN };
             let input = Vec::from_slice(rt.alloc(), program.as_bytes())?;
             let mut files = one_file(rt.alloc(), "-", Vec::new(rt.alloc()), Vec::new(rt.alloc()))?;
-            let (status, written) = run_with(rt.alloc(), "check -", input, streams, &mut files)?;
+            let (status, written) = run_with(
+                &rt,
+                rt.alloc(),
+                "check -",
+                input,
+                streams,
+                &mut files,
+            )?;
             assert_eq!(rt; written.as_str().trim_end(), line, "{program:?}");
             assert_eq!(rt; status, status_of(line), "{program:?}");
         }
@@ -102,7 +108,7 @@ fn checks_of_files(rt: HostRuntime) -> Result<(), Fail> {
         let text = Vec::from_slice(rt.alloc(), program.as_bytes())?;
         let mut files = one_file(rt.alloc(), "a.gm", text, Vec::new(rt.alloc()))?;
         let input = Vec::from_slice(rt.alloc(), b"no program")?;
-        let (status, written) = run_with(rt.alloc(), "check a.gm", input, PLAIN, &mut files)?;
+        let (status, written) = run_with(&rt, rt.alloc(), "check a.gm", input, PLAIN, &mut files)?;
         assert_eq!(rt; written.as_str().trim_end(), line, "{program:?}");
         assert_eq!(rt; status, status_of(line), "{program:?}");
     }
@@ -121,6 +127,7 @@ fn checks_that_cannot_read(rt: HostRuntime) -> Result<(), Fail> {
         let program = Vec::from_slice(rt.alloc(), b"Procedure f(G: Graph) { }")?;
         let mut files = one_file(rt.alloc(), "a.gm", program, vec![in rt.alloc(); fails]?)?;
         let (status, written) = run_with(
+            &rt,
             rt.alloc(),
             words,
             Vec::new(rt.alloc()),
@@ -138,7 +145,7 @@ fn checks_that_cannot_read(rt: HostRuntime) -> Result<(), Fail> {
         };
         let program = Vec::from_slice(rt.alloc(), b"Procedure f(G: Graph) { }")?;
         let mut files = one_file(rt.alloc(), "-", Vec::new(rt.alloc()), Vec::new(rt.alloc()))?;
-        let (status, written) = run_with(rt.alloc(), "check -", program, streams, &mut files)?;
+        let (status, written) = run_with(&rt, rt.alloc(), "check -", program, streams, &mut files)?;
         assert_eq!(rt; written.as_str(), "read fault -\n", "{fails_in}");
         assert_eq!(rt; status, Status::ReadFault, "{fails_in}");
     }
@@ -164,7 +171,7 @@ fn checks_at_the_limit(rt: HostRuntime) -> Result<(), Fail> {
             Vec::new(rt.alloc()),
             Vec::new(rt.alloc()),
         )?;
-        let (_status, written) = run_with(rt.alloc(), "check -", program, PLAIN, &mut files)?;
+        let (_status, written) = run_with(&rt, rt.alloc(), "check -", program, PLAIN, &mut files)?;
         assert_eq!(rt; written.as_str(), text, "{length}");
     }
     Ok(())

@@ -26,7 +26,14 @@ fn examples_in_files(rt: HostRuntime) -> Result<(), Fail> {
         let mut files = files_of(rt.alloc(), example)?;
         let words = format!(in rt.alloc(); "run it.gm it.graph {}", example.words)?;
         let input = Vec::new(rt.alloc());
-        let (status, written) = run_with(rt.alloc(), words.as_str(), input, PLAIN, &mut files)?;
+        let (status, written) = run_with(
+            &rt,
+            rt.alloc(),
+            words.as_str(),
+            input,
+            PLAIN,
+            &mut files,
+        )?;
         assert_eq!(rt; written.as_str(), example.written, "{}", example.name);
         assert_eq!(rt; status, Status::Done, "{}", example.name);
     }
@@ -39,7 +46,14 @@ fn examples_on_standard_input(rt: HostRuntime) -> Result<(), Fail> {
         let mut files = files_of(rt.alloc(), example)?;
         let words = format!(in rt.alloc(); "run - - {} --workers=1", example.words)?;
         let input = two_texts(rt.alloc(), example.text, example.graph)?;
-        let (status, written) = run_with(rt.alloc(), words.as_str(), input, PLAIN, &mut files)?;
+        let (status, written) = run_with(
+            &rt,
+            rt.alloc(),
+            words.as_str(),
+            input,
+            PLAIN,
+            &mut files,
+        )?;
         assert_eq!(rt; written.as_str(), example.written, "{}", example.name);
         assert_eq!(rt; status, Status::Done, "{}", example.name);
     }
@@ -51,7 +65,7 @@ fn examples_keep_the_rules(rt: HostRuntime) -> Result<(), Fail> {
     for example in &EXAMPLES {
         let mut files = files_of(rt.alloc(), example)?;
         let input = joined(rt.alloc(), example.text, "")?;
-        let (status, written) = run_with(rt.alloc(), "check -", input, PLAIN, &mut files)?;
+        let (status, written) = run_with(&rt, rt.alloc(), "check -", input, PLAIN, &mut files)?;
         assert_eq!(rt; written.as_str(), "accepted\n", "{}", example.name);
         assert_eq!(rt; status, Status::Done, "{}", example.name);
     }

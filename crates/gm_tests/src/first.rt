@@ -4,7 +4,9 @@ use crate::calls::{BYTE_BY_BYTE, PLAIN, calls_hold, run, status_of};
 use gm_base::Status;
 use std::alloc::Global;
 use std::process::Abort;
+use std::sync::Wait;
 use std::test::Fail;
+use std::thread::Threads;
 
 // The procedure that adds 7 to a property.
 const ADD: &str =
@@ -170,14 +172,14 @@ fn padded(alloc: Global, length: usize, text: &str) -> Result<Vec<u8>, Fail> {
 
 // Whether a program text of so many bytes, blanks before it, has this answer over a graph.
 fn padded_holds(
-    rt: &impl Abort,
+    rt: &(impl Abort + Threads + Wait + Sync),
     alloc: Global,
     length: usize,
     text: &str,
     answer: &str,
 ) -> Result<(), Fail> {
     let input = padded(alloc, length, text)?;
-    let (status, written) = run(alloc, "run - -", input, PLAIN)?;
+    let (status, written) = run(rt, alloc, "run - -", input, PLAIN)?;
     assert_eq!(rt; written.as_str(), answer, "{length}");
     assert_eq!(rt; status, status_of(answer), "{length}");
     Ok(())

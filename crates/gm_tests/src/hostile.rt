@@ -4,7 +4,9 @@ use crate::calls::{PLAIN, Streams, call, joined, no_files, run, run_with, status
 use gm_base::{Failed, FileFault, Files, MemFiles, MemSink, MemSource, Source, Status};
 use std::alloc::Global;
 use std::process::Abort;
+use std::sync::Wait;
 use std::test::Fail;
+use std::thread::Threads;
 
 // The procedure that adds 7 to a property, a graph, and what is written of them.
 const ADD: &str =
@@ -50,7 +52,7 @@ const ENDINGS: [(&str, &str, &str, &str); 10] = [
 
 // Whether a sink whose write of this number fails has taken exactly the pieces before it, each of so many bytes.
 fn takes_what_came_before(
-    rt: &impl Abort,
+    rt: &(impl Abort + Threads + Wait + Sync),
     alloc: Global,
     row: &(&str, &str, &str, &str),
     piece: usize,
@@ -62,7 +64,7 @@ fn takes_what_came_before(
         fails_out: failing as u64,
         ..PLAIN
     };
-    let (status, written) = run(alloc, words, joined(alloc, front, rest)?, streams)?;
+    let (status, written) = run(rt, alloc, words, joined(alloc, front, rest)?, streams)?;
     let before = piece
         .saturating_mul(failing.saturating_sub(1))
         .min(text.len());
@@ -82,7 +84,7 @@ fn takes_what_came_before(
 
 // Whether each write of pieces of so many bytes fails in turn, until the whole is written.
 fn writes_fail(
-    rt: &impl Abort,
+    rt: &(impl Abort + Threads + Wait + Sync),
     alloc: Global,
     row: &(&str, &str, &str, &str),
     piece: usize,
@@ -139,7 +141,7 @@ fn two_files(alloc: Global, failing: u64) -> Result<MemFiles, Fail> {
 // Whether a call whose read of this number fails says so, where it comes to that read: its reads take so many bytes
 // each, and one more finds the end.
 fn says_that_a_read_failed(
-    rt: &impl Abort,
+    rt: &(impl Abort + Threads + Wait + Sync),
     alloc: Global,
     row: &(&str, &str, &str, &str),
     piece: usize,
@@ -158,7 +160,7 @@ fn says_that_a_read_failed(
     } else {
         *text
     };
-    let (status, written) = run_with(alloc, words, input, streams, &mut two_files(alloc, 0)?)?;
+    let (status, written) = run_with(rt, alloc, words, input, streams, &mut two_files(alloc, 0)?)?;
     assert_eq!(rt; written.as_str(), answer, "{words} {piece} {failing}");
     assert_eq!(rt; status, status_of(answer), "{words} {piece} {failing}");
     Ok(())
@@ -166,7 +168,7 @@ fn says_that_a_read_failed(
 
 // Whether each read of pieces of so many bytes fails in turn, until the end was read.
 fn reads_fail(
-    rt: &impl Abort,
+    rt: &(impl Abort + Threads + Wait + Sync),
     alloc: Global,
     row: &(&str, &str, &str, &str),
     piece: usize,
@@ -220,7 +222,7 @@ fn each_read_of_a_file_fails_in_turn(rt: HostRuntime) -> Result<(), Fail> {
     for (words, failing, text) in FILES {
         let mut files = two_files(rt.alloc(), failing)?;
         let input = Vec::new(rt.alloc());
-        let (status, written) = run_with(rt.alloc(), words, input, PLAIN, &mut files)?;
+        let (status, written) = run_with(&rt, rt.alloc(), words, input, PLAIN, &mut files)?;
         assert_eq!(rt; written.as_str(), text, "{words} {failing}");
         assert_eq!(rt; status, status_of(text), "{words} {failing}");
     }
@@ -248,7 +250,14 @@ fn each_read_of_a_long_file_fails_in_turn(rt: HostRuntime) -> Result<(), Fail> {
     ] {
         let mut files = long_file(rt.alloc(), failing)?;
         let input = joined(rt.alloc(), ADD, "")?;
-        let (status, written) = run_with(rt.alloc(), "run - long.graph", input, PLAIN, &mut files)?;
+        let (status, written) = run_with(
+            &rt,
+            rt.alloc(),
+            "run - long.graph",
+            input,
+            PLAIN,
+            &mut files,
+        )?;
         assert_eq!(rt; written.as_str(), text, "{failing}");
         assert_eq!(rt; status, status_of(text), "{failing}");
     }
@@ -261,7 +270,7 @@ fn refused_programs_touch_no_file(rt: HostRuntime) -> Result<(), Fail> {
     for words in ["run - a.graph", "run - nofile", "run - -", "check -"] {
         let mut files = two_files(rt.alloc(), 1)?;
         let input = joined(rt.alloc(), DOUBLE, "")?;
-        let (_status, written) = run_with(rt.alloc(), words, input, PLAIN, &mut files)?;
+        let (_status, written) = run_with(&rt, rt.alloc(), words, input, PLAIN, &mut files)?;
         assert_eq!(rt; written.as_str(), REFUSED, "{words}");
         let read = files.read_at("a.graph", 0, &mut [0]);
         assert_eq!(rt; read, Err(FileFault::Failed), "{words}");
@@ -276,7 +285,7 @@ fn nothing_is_read_where_nothing_is_asked(rt: HostRuntime) -> Result<(), Fail> {
         let mut source = MemSource::new(Vec::new(rt.alloc()), 1, vec![in rt.alloc(); 1]?);
         let mut files = no_files(rt.alloc());
         let mut sink = MemSink::new(rt.alloc(), 100, Vec::new(rt.alloc()), 100)?;
-        let _status = call(rt.alloc(), words, &mut source, &mut files, &mut sink)?;
+        let _status = call(&rt, rt.alloc(), words, &mut source, &mut files, &mut sink)?;
         assert_eq!(rt; source.read(&mut [0]), Err(Failed), "{words}");
     }
     Ok(())
@@ -312,7 +321,7 @@ fn graphs_that_are_cut_anywhere(rt: HostRuntime) -> Result<(), Fail> {
     for text in CUT_ANYWHERE {
         let mut input = joined(rt.alloc(), PATHS, "")?;
         input.extend_from_slice(graph.get(..length).unwrap_or(&[]))?;
-        let (status, written) = run(rt.alloc(), "run - - root=0", input, PLAIN)?;
+        let (status, written) = run(&rt, rt.alloc(), "run - - root=0", input, PLAIN)?;
         assert_eq!(rt; written.as_str(), text, "{length}");
         assert_eq!(rt; status, status_of(text), "{length}");
         length = length.saturating_add(1);

@@ -11,18 +11,20 @@ use std::alloc::Global;
 use std::cell::Cell;
 use std::process::Abort;
 use std::rc::Rc;
+use std::sync::Wait;
 use std::test::Fail;
+use std::thread::Threads;
 
 // The image that sums the values of the nodes before each node.
-const TOTAL: &str =
+pub const TOTAL: &str =
     "gm-image 1\nname total\ninputs 1\nnode I v 0\noutputs 1\nnode I s 1\nresult -\nglobals 0\nfields 2\nI\nI\nregisters 0\ncolumns 0\nkinds 1\n- I\nplaces 1\n2 32\nblocks 2\nblock 0\nbody 2\neach out 1\nsend 0 nb f 0\nblock 1\non 0 1\nfold sum 0 1 m 0\nbody 0\nmaster 3\nstep 0\nstep 1\nend\n";
 
 // Each node offers its value and itself to its out-neighbours, which keep the least value and the first node that has it.
-const BEST: &str =
+pub const BEST: &str =
     "gm-image 2\nname best\ninputs 1\nnode I v 0\noutputs 2\nnode I m 1\nnode N w 2\nresult -\nglobals 0\nfields 3\nI\nI\nN\nregisters 0\ncolumns 0\nkinds 1\n- I N\nplaces 1\n4 34\nblocks 2\nblock 0\nbody 3\nset 1 c I 9\neach out 1\nsend 0 nb f 0 id\nblock 1\non 0 1\npick min 0 2 1 m 0 2 m 1\nbody 0\nmaster 3\nstep 0\nstep 1\nend\n";
 
 // All nodes offer their value and themselves to two globals, and each keeps the greatest pair of its own values besides.
-const MOST: &str =
+pub const MOST: &str =
     "gm-image 2\nname most\ninputs 1\nnode I v 0\noutputs 3\nscalar I best 0\nscalar N who 1\nnode I w 1\nresult -\nglobals 2\nI\nN\nfields 3\nI\nI\nB\nregisters 0\ncolumns 0\nkinds 0\nplaces 2\n3 5\n4 5\nblocks 1\nblock 0\nbody 2\npick max 0 2 1 f 0 2 c B True\npickput max 1 2 0 f 0 1 id\nmaster 2\nstep 0\nend\n";
 
 // The first of these under the header of the first version, which has no such lines.
@@ -145,10 +147,15 @@ fn images(rt: HostRuntime) -> Result<(), Fail> {
 }
 
 // Whether the front of an image is no image, at this line.
-fn is_cut(rt: &impl Abort, alloc: Global, front: &[u8], line: u64) -> Result<(), Fail> {
+fn is_cut(
+    rt: &(impl Abort + Threads + Wait + Sync),
+    alloc: Global,
+    front: &[u8],
+    line: u64,
+) -> Result<(), Fail> {
     let text = format!(in alloc; "image BadText at line {line}\n")?;
     let input = Vec::from_slice(alloc, front)?;
-    let (status, written) = run(alloc, "exec - -", input, PLAIN)?;
+    let (status, written) = run(rt, alloc, "exec - -", input, PLAIN)?;
     assert_eq!(rt; written.as_str(), text.as_str());
     assert_eq!(rt; status, Status::BadInput, "{text}");
     Ok(())
@@ -250,7 +257,7 @@ fn two_observers(
 // Whether a call that two observers watch, the first with memory for so many notes, ends in this way, and the second is
 // dropped once. The write of this number fails.
 fn is_watched(
-    rt: &impl Abort,
+    rt: &(impl Abort + Threads + Wait + Sync),
     alloc: Global,
     row: (&str, &str, usize, u64, Status, &str),
 ) -> Result<(), Fail> {
@@ -261,6 +268,7 @@ fn is_watched(
     let mut files = no_files(alloc);
     let mut sink = MemSink::new(alloc, 5, vec![in alloc; fails_out]?, 1000)?;
     let status = watched_call(
+        rt,
         alloc,
         words,
         &mut source,

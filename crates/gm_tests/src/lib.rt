@@ -44,3 +44,5 @@ mod totals;
 mod values;
 #[cfg(test)]
 mod words;
+#[cfg(test)]
+mod workers;

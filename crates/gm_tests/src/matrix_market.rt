@@ -4,7 +4,9 @@ use crate::calls::{BYTE_BY_BYTE, PLAIN, calls_hold, joined, run};
 use gm_base::Status;
 use std::alloc::Global;
 use std::process::Abort;
+use std::sync::Wait;
 use std::test::Fail;
+use std::thread::Threads;
 
 // The shortest paths from a root.
 const PATHS: &str = "Procedure sssp(G: Graph, root: Node, len: E_P<Int>; dist: N_P<Int>) {
@@ -165,13 +167,14 @@ fn numbered_from_one(alloc: Global, listing: &str) -> Result<String, Fail> {
 
 // Whether a program lists the same over both texts of a graph, but for the numbers of the nodes.
 fn lists_the_same(
-    rt: &impl Abort,
+    rt: &(impl Abort + Threads + Wait + Sync),
     alloc: Global,
     program: &str,
     edges: &str,
     matrix: &str,
 ) -> Result<(), Fail> {
     let (status, listed) = run(
+        rt,
         alloc,
         "run - - root=0",
         joined(alloc, program, edges)?,
@@ -179,7 +182,7 @@ fn lists_the_same(
     )?;
     assert_eq!(rt; status, Status::Done, "{edges}");
     let input = joined(alloc, program, matrix)?;
-    let (status, written) = run(alloc, "run - - root=1 --format mtx", input, PLAIN)?;
+    let (status, written) = run(rt, alloc, "run - - root=1 --format mtx", input, PLAIN)?;
     assert_eq!(rt; status, Status::Done, "{matrix}");
     let wanted = numbered_from_one(alloc, listed.as_str())?;
     assert_eq!(rt; written.as_str(), wanted.as_str(), "{matrix}");

@@ -57,7 +57,7 @@ const NOT_YET: [&str; 3] = ["compile -", "run - - --image", "run - - --image --o
 #[test]
 fn faulty_words(rt: HostRuntime) -> Result<(), Fail> {
     for words in FAULTY {
-        let (status, written) = run(rt.alloc(), words, Vec::new(rt.alloc()), PLAIN)?;
+        let (status, written) = run(&rt, rt.alloc(), words, Vec::new(rt.alloc()), PLAIN)?;
         assert_eq!(rt; written.as_str(), USAGE, "{words}");
         assert_eq!(rt; status, Status::Usage, "{words}");
     }
@@ -67,7 +67,7 @@ fn faulty_words(rt: HostRuntime) -> Result<(), Fail> {
 #[test]
 fn words_for_what_is_not_done_yet(rt: HostRuntime) -> Result<(), Fail> {
     for words in NOT_YET {
-        let (status, written) = run(rt.alloc(), words, Vec::new(rt.alloc()), PLAIN)?;
+        let (status, written) = run(&rt, rt.alloc(), words, Vec::new(rt.alloc()), PLAIN)?;
         assert_eq!(rt; written.as_str(), USAGE, "{words}");
         assert_eq!(rt; status, Status::Usage, "{words}");
     }

@@ -3,8 +3,8 @@ use Rattle.std.proofs.lemmas.Result.{IfOk-weaker}
 use Rattle.gm_driver.specs.Whole.{executed}
 use Rattle.gm_driver.proofs.program.exec_job.Goals as goal
 
-pub exec-requires : goal.exec-requires
-exec-requires g c = rw c.as_slice-words.ensures c.requires
+pub exec-requires-clause-assign : goal.exec-requires-clause-assign
+exec-requires-clause-assign g c = λ _ _. rw c.as_slice-words.ensures c.requires.assign
 
 pub returns : goal.returns
 returns g c =

@@ -14,8 +14,11 @@ demo_job-requires-clause-few g c = let right = rw c.in-Demo.is at c.requires in 
 pub unbuilt-requires : goal.unbuilt-requires
 unbuilt-requires g c = rw c.in-Compile.is tt
 
-pub exec_job-requires : goal.exec_job-requires
-exec_job-requires g c = let right = rw c.in-Exec.is at c.requires in right.0
+pub exec_job-requires-clause-assign : goal.exec_job-requires-clause-assign
+exec_job-requires-clause-assign g c = λ _ _. let right = rw c.in-Exec.is at c.requires in right.0
+
+pub exec_job-requires-clause-right : goal.exec_job-requires-clause-right
+exec_job-requires-clause-right g c = λ _ _. let right = rw c.in-Exec.is at c.requires in right.1
 
 pub returns-in-Run : goal.returns-in-Run
 returns-in-Run g c = rw c.in-Run.is (IfOk-weaker c.run_job.result _ _ (λ a h. h _ _) c.run_job.ensures)

@@ -39,8 +39,8 @@ returns-in_err-args-clause-untold g c =
     c.from_residual-in_err-args.result c.in_err-args.field-0.0 c.from_residual-in_err-args.ensures.1
     (weaker _ _ c.in_err-args.field-0.0 (λ a said. λ _. refl) c.in_err-args.ensures.halt)
 
-pub run_with-requires : goal.run_with-requires
-run_with-requires g c =
+pub run_with-requires-clause-columns : goal.run_with-requires-clause-columns
+run_with-requires-clause-columns g c = λ _ _.
     sym (c.in_ok-graph.ensures.columns.of_edges ∙ ap (λ s. length s.edges) c.in_ok-shape.ensures ∙ ap (λ i. length (shape_of (program i)).edges) c.image.ensures.same)
 
 pub returns-clause-answer : goal.returns-clause-answer
