@@ -1,7 +1,5 @@
 pub mod Basics
 pub mod Trees
-pub mod Masked
-pub mod MaskedFlips
 pub mod Turns
 pub mod Reductions
 pub mod Sane

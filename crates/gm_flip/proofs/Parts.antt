@@ -1,4 +1,4 @@
--- What the form of cut loops, and the test of loops that can be turned, say of a loop that pulls.
+-- What the form of cut loops says of a loop that pulls.
 use Rattle.std.proofs.Common.{◌≡◌, ℕ, Bool, true, false, cond, List, [], ◌∷◌, refl, sym, ap, ◌∙◌, Option, Some, None}
 use Rattle.std.specs.Prelude.{◌&&◌, ◌||◌, not, nat_eq}
 use Rattle.std.specs.List.{list_all}
@@ -11,19 +11,18 @@ use Rattle.gm_ast.specs.declared.tree.Head.{Head}
 use Rattle.gm_ast.specs.declared.tree.Key.{Key}
 use Rattle.gm_ast.specs.Program.{Expr, Const, Var, Property, EdgeProperty, Degree, NodeCount, EdgeCount, Live, Unary, Binary, Both, Either, Choose, Folded, always, Stmt, Skip, Then, Declare, DeclareEdge, Assign, Defer, Combine, Group, Foreach, For, If, While, Do, InBfs, InBfsBoth, Return}
 use Rattle.gm_ast.specs.Ways.{is_in}
-use Rattle.gm_forms.specs.Forms.{depth_at, may, is_flat, is_range, is_inner_local, is_inner_given, is_within, are_reduced, is_inner_body, is_inner_head, is_outer_body, is_flat_loop, is_mask, is_own_body, is_random, is_alone, is_along, is_against, avoids, is_home, is_push, is_pull, has_a_way, goes_out, is_cut}
+use Rattle.gm_forms.specs.Cut.{is_mask, is_own_loop, spares_locals, is_edge_loop, is_along_edges, is_cut}
+use Rattle.gm_forms.specs.Forms.{depth_at, may, is_flat, is_range, is_inner_local, is_inner_given, is_within, are_reduced, is_inner_body, is_inner_head, is_outer_body, is_flat_loop, is_along, is_against, avoids, is_home, is_push, is_pull, has_a_way, goes_out}
 use Rattle.gm_forms.specs.Flip.{reversed, flipped_head}
-use Rattle.gm_forms.specs.Order.{loop_in_order}
+use Rattle.gm_forms.specs.Order.{first_key, begins, loop_in_order}
 use Rattle.gm_forms.specs.Sharing.{shares}
 use Rattle.gm_forms.proofs.CutTests.{flat, not-true}
 use Rattle.gm_forms.proofs.Named.{both-true}
 use Rattle.gm_forms.proofs.Weaker.{and-true}
-use Rattle.gm_loop_laws.specs.Alone.{spares_locals}
 use Rattle.gm_flip.specs.Pulling.{sees, is_at_home, is_outgoing, pulls}
 use Rattle.gm_flip.specs.Flipped.{is_always, joined}
-use Rattle.gm_flip.specs.Turning.{may_turn, can_turn}
 use Rattle.gm_flip.proofs.Basics.{none}
-use Rattle.gm_flip.proofs.Sane.{alone, order-turned, share-turned}
+use Rattle.gm_flip.proofs.Sane.{kept-parts, alone, order-turned, share-turned, edge-turned}
 use Rattle.gm_flip.proofs.Turns.{lone, Turnable}
 
 pub neither : (a b : Bool) → a || b ≡ false → (a ≡ false) × (b ≡ false)
@@ -107,7 +106,9 @@ pub record Parts (ds : List Declaration) (n : ℕ) (k : Key) (mask : Expr) (j : 
   pub turnable : Turnable ds n mask i test body
   pub pull : is_pull ds n i test body ≡ true
   pub mask_flat : is_flat (n ∷ []) false mask ≡ true
-  pub order : loop_in_order k always (Foreach j here (flipped_head n i) (joined mask test) body) ≡ true
+  pub order : (place : Place) → begins k place mask (Foreach j here i test body) && loop_in_order k mask (Foreach j here i test body) ≡ true →
+      begins first_key place always (Foreach j here (flipped_head n i) (joined mask test) body) && loop_in_order first_key always (Foreach j here (flipped_head n i) (joined mask test) body) ≡ true
+  pub edges : is_edge_loop ds i.iterator always j (flipped_head n i) (joined mask test) body ≡ true
   pub share : shares ds i.iterator always (Foreach j here (flipped_head n i) (joined mask test) body) ≡ true
 
 third : (a b c : Bool) → a || (b || c) ≡ true → a ≡ false → b ≡ false → c ≡ true
@@ -119,28 +120,28 @@ fails true b f e = none (sym e ∙ f refl)
 fails false b f e = refl
 
 pub parts : (ds : List Declaration) (n : ℕ) (k : Key) (mask : Expr) (j : Key) (here : Place) (i : Head) (test : Expr) (body : Stmt) →
-    is_cut has_a_way ds n mask (Foreach j here i test body) ≡ true → pulls n (Foreach j here i test body) ≡ true → can_turn ds n mask (Foreach j here i test body) ≡ true →
-    loop_in_order k mask (Foreach j here i test body) ≡ true → shares ds n mask (Foreach j here i test body) ≡ true → Parts ds n k mask j here i test body
-parts ds n k mask j here i test body cut pulling turning ordered shared =
+    is_cut has_a_way ds n mask (Foreach j here i test body) ≡ true → pulls n (Foreach j here i test body) ≡ true → shares ds n mask (Foreach j here i test body) ≡ true → Parts ds n k mask j here i test body
+parts ds n k mask j here i test body cut pulling shared =
     let inner = Foreach j here i test body in
-    let c = both-true (is_flat_loop ds false n mask inner) (is_own_body n inner || (is_mask n mask && (is_random n inner || is_alone (has_a_way ds n) inner))) cut in
+    let c = both-true (is_flat_loop ds false n mask inner) (is_own_loop n inner || (is_mask n mask && is_along_edges (has_a_way ds) ds n mask inner)) cut in
     let f = both-true (is_flat (n ∷ []) false mask) (is_outer_body ds false n inner) c.0 in
-    let w = both-true (is_mask n mask) (has_a_way ds n i test body) c.1 in
+    let m = both-true (is_mask n mask) (has_a_way ds n i test body && is_edge_loop ds n mask j i test body) c.1 in
+    let w = both-true (has_a_way ds n i test body) (is_edge_loop ds n mask j i test body) m.1 in
+    let may' = kept-parts ds n k mask j here i test body w.1 in
     let no = neither (is_at_home n i test body) (is_outgoing n i test body) (not-true (is_at_home n i test body || is_outgoing n i test body) pulling) in
     let not-home = fails (is_home ds n i test body) (is_at_home n i test body) (end-of ds (n ∷ []) (is_along i.domain) i.iterator test body) no.0 in
     let not-push = fails (is_push ds n i test body) (is_outgoing n i test body) (end-of ds (n ∷ i.iterator ∷ []) (is_along i.domain) n test body) no.1 in
-    let pull = third (is_home ds n i test body) (is_push ds n i test body) (is_pull ds n i test body) w.1 not-home not-push in
+    let pull = third (is_home ds n i test body) (is_push ds n i test body) (is_pull ds n i test body) w.0 not-home not-push in
     let p = both-true (is_flat (n ∷ i.iterator ∷ []) (is_against i.domain) test) (is_inner_body ds (n ∷ i.iterator ∷ []) (is_against i.domain) body && avoids i.iterator body) pull in
     let a = both-true (is_inner_body ds (n ∷ i.iterator ∷ []) (is_against i.domain) body) (avoids i.iterator body) p.1 in
-    let m : may_turn ds n mask j i test body ≡ true = ap (λ b. not b || may_turn ds n mask j i test body) (sym pulling) ∙ turning in
     let l = lone ds n j here i test body f.1 in
-    let s = both-true (spares_locals ds body) _ m in
     record {
-      turnable = record { lone = l; mask_is = w.0; away = a.1; spares = s.0; alone = alone ds n k mask j here i test body m shared };
+      turnable = record { lone = l; mask_is = m.0; out = may'.out; away = a.1; spares = may'.spares; alone = alone ds n k mask j here i test body may' shared };
       pull = pull;
       mask_flat = f.0;
-      order = order-turned ds n k mask j here i test body (flat (n ∷ []) false mask f.0) (flat (n ∷ i.iterator ∷ []) true test l.test_flat) m ordered;
-      share = share-turned ds n k mask j here i test body (n ∷ i.iterator ∷ []) true w.0 l.inner a.1 m shared;
+      order = order-turned ds n k mask j here i test body (flat (n ∷ []) false mask f.0) (flat (n ∷ i.iterator ∷ []) true test l.test_flat) may';
+      edges = edge-turned ds n k mask j here i test body (n ∷ i.iterator ∷ []) true l.inner a.1 may';
+      share = share-turned ds n k mask j here i test body (n ∷ i.iterator ∷ []) true l.inner a.1 may' shared;
     }
 
 -- a range against the edges, from its other end, leads along them
@@ -209,7 +210,7 @@ goes ds n k mask j here i test body p =
     (joined-flat (t ∷ n ∷ []) (is_along (reversed i.domain)) mask test (mask-at (is_along (reversed i.domain))) (flat-more (n ∷ t ∷ []) (t ∷ n ∷ []) (is_against i.domain) (is_along (reversed i.domain)) (swapped n t) edge test a.0))
     (and-true (is_inner_body ds (t ∷ n ∷ []) (is_along (reversed i.domain)) body) (avoids t body)
     (inner-more (n ∷ t ∷ []) (t ∷ n ∷ []) (is_against i.domain) (is_along (reversed i.domain)) (swapped n t) edge ds body b.0) b.1) in
-    and-true (is_flat_loop ds false t always inner) (is_home ds t hd filter body || is_push ds t hd filter body) outer (right (is_home ds t hd filter body) (is_push ds t hd filter body) push)
+    and-true (is_flat_loop ds false t always inner) (goes_out ds t hd filter body && is_edge_loop ds t always j hd filter body) outer (and-true (goes_out ds t hd filter body) (is_edge_loop ds t always j hd filter body) (right (is_home ds t hd filter body) (is_push ds t hd filter body) push) p.edges)
   where
     right : (a b : Bool) → b ≡ true → a || b ≡ true
     right true b h = refl
@@ -256,16 +257,18 @@ pub goes-as-it-is : (ds : List Declaration) (n : ℕ) (mask : Expr) (j : Key) (h
     is_cut has_a_way ds n mask (Foreach j here i test body) ≡ true → pulls n (Foreach j here i test body) ≡ false → is_cut goes_out ds n mask (Foreach j here i test body) ≡ true
 goes-as-it-is ds n mask j here i test body cut stays =
     let inner = Foreach j here i test body in
-    let c = both-true (is_flat_loop ds false n mask inner) (is_own_body n inner || (is_mask n mask && (is_random n inner || is_alone (has_a_way ds n) inner))) cut in
+    let c = both-true (is_flat_loop ds false n mask inner) (is_own_loop n inner || (is_mask n mask && is_along_edges (has_a_way ds) ds n mask inner)) cut in
     let f = both-true (is_flat (n ∷ []) false mask) (is_outer_body ds false n inner) c.0 in
-    let w = both-true (is_mask n mask) (has_a_way ds n i test body) c.1 in
+    let m = both-true (is_mask n mask) (has_a_way ds n i test body && is_edge_loop ds n mask j i test body) c.1 in
+    let w = both-true (has_a_way ds n i test body) (is_edge_loop ds n mask j i test body) m.1 in
     let l = lone ds n j here i test body f.1 in
     let out : goes_out ds n i test body ≡ true =
     either (is_at_home n i test body) (is_outgoing n i test body) (is_home ds n i test body) (is_push ds n i test body)
     (back-of ds (n ∷ []) (is_along i.domain) i.iterator (n ∷ i.iterator ∷ []) test body l.inner)
     (back-of ds (n ∷ i.iterator ∷ []) (is_along i.domain) n (n ∷ i.iterator ∷ []) test body l.inner)
     (not-false (is_at_home n i test body || is_outgoing n i test body) stays) in
-    and-true (is_flat_loop ds false n mask inner) (is_mask n mask && goes_out ds n i test body) c.0 (and-true (is_mask n mask) (goes_out ds n i test body) w.0 out)
+    and-true (is_flat_loop ds false n mask inner) (is_mask n mask && (goes_out ds n i test body && is_edge_loop ds n mask j i test body)) c.0
+    (and-true (is_mask n mask) (goes_out ds n i test body && is_edge_loop ds n mask j i test body) m.0 (and-true (goes_out ds n i test body) (is_edge_loop ds n mask j i test body) out w.1))
   where
     not-false : (b : Bool) → not b ≡ false → b ≡ true
     not-false true h = refl

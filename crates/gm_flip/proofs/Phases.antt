@@ -26,9 +26,10 @@ use Rattle.gm_semantics.specs.Expressions.{value}
 use Rattle.gm_semantics.specs.Statements.{Run, State, Goes, view_of, variable_at, sequential}
 use Rattle.gm_semantics.specs.Outcomes.{outcome_of, first_store}
 use Rattle.gm_forms.specs.Flip.{reversed, flipped_head}
-use Rattle.gm_forms.specs.Forms.{is_told, no_loop, is_phase, has_a_way, goes_out, is_cut}
+use Rattle.gm_forms.specs.Cut.{is_cut}
+use Rattle.gm_forms.specs.Forms.{is_told, no_loop, is_phase, has_a_way, goes_out}
 use Rattle.gm_forms.specs.Meanings.{SameMeaning}
-use Rattle.gm_forms.specs.Order.{folds_in_order, loops_in_order}
+use Rattle.gm_forms.specs.Order.{begins, loop_in_order, folds_in_order, loops_in_order}
 use Rattle.gm_forms.specs.Ready.{Ready3, Ready4}
 use Rattle.gm_forms.specs.Sharing.{loops_share}
 use Rattle.gm_forms.specs.Typing.{type_in, is_type, type_if, has_type, is_typed_in}
@@ -38,7 +39,6 @@ use Rattle.gm_forms.proofs.Named.{both-true, all-append}
 use Rattle.gm_forms.proofs.Weaker.{and-true}
 use Rattle.gm_flip.specs.Pulling.{pulls}
 use Rattle.gm_flip.specs.Flipped.{is_always, joined, with_iterator, turned, flipped_loop, flipped, without_pulls}
-use Rattle.gm_flip.specs.Turning.{all_turn, can_flip}
 use Rattle.gm_flip.proofs.Turns.{turned-same}
 use Rattle.gm_flip.proofs.Basics.{none}
 use Rattle.gm_flip.proofs.Parts.{Parts, parts, goes, goes-as-it-is}
@@ -115,18 +115,17 @@ module _ (ds : List Declaration) where
   -- what is known of a phase
   record Given (s : Stmt) : Type 0 where
     form : is_phase (is_cut has_a_way ds) no_loop ds s ≡ true
-    turns : all_turn ds s ≡ true
     in_order : loops_in_order s ≡ true
     share : loops_share ds s ≡ true
 
   first-of : (a b : Stmt) → Given (Then a b) → Given a
-  first-of a b g = record { form = (both-true (is_phase (is_cut has_a_way ds) no_loop ds a) (is_phase (is_cut has_a_way ds) no_loop ds b) g.form).0; turns = (both-true (all_turn ds a) (all_turn ds b) g.turns).0; in_order = (both-true (loops_in_order a) (loops_in_order b) g.in_order).0; share = (both-true (loops_share ds a) (loops_share ds b) g.share).0 }
+  first-of a b g = record { form = (both-true (is_phase (is_cut has_a_way ds) no_loop ds a) (is_phase (is_cut has_a_way ds) no_loop ds b) g.form).0; in_order = (both-true (loops_in_order a) (loops_in_order b) g.in_order).0; share = (both-true (loops_share ds a) (loops_share ds b) g.share).0 }
 
   second-of : (a b : Stmt) → Given (Then a b) → Given b
-  second-of a b g = record { form = (both-true (is_phase (is_cut has_a_way ds) no_loop ds a) (is_phase (is_cut has_a_way ds) no_loop ds b) g.form).1; turns = (both-true (all_turn ds a) (all_turn ds b) g.turns).1; in_order = (both-true (loops_in_order a) (loops_in_order b) g.in_order).1; share = (both-true (loops_share ds a) (loops_share ds b) g.share).1 }
+  second-of a b g = record { form = (both-true (is_phase (is_cut has_a_way ds) no_loop ds a) (is_phase (is_cut has_a_way ds) no_loop ds b) g.form).1; in_order = (both-true (loops_in_order a) (loops_in_order b) g.in_order).1; share = (both-true (loops_share ds a) (loops_share ds b) g.share).1 }
 
   both-of : (k : Key) (c : Expr) (a b : Stmt) → Given (If k c a b) → Given (Then a b)
-  both-of k c a b g = record { form = (both-true (is_told c) (is_phase (is_cut has_a_way ds) no_loop ds a && is_phase (is_cut has_a_way ds) no_loop ds b) g.form).1; turns = g.turns; in_order = (both-true (folds_in_order c) (loops_in_order a && loops_in_order b) g.in_order).1; share = g.share }
+  both-of k c a b g = record { form = (both-true (is_told c) (is_phase (is_cut has_a_way ds) no_loop ds a && is_phase (is_cut has_a_way ds) no_loop ds b) g.form).1; in_order = (both-true (folds_in_order c) (loops_in_order a && loops_in_order b) g.in_order).1; share = g.share }
 
   yes-of : (k : Key) (c : Expr) (a b : Stmt) → Given (If k c a b) → Given a
   yes-of k c a b g = first-of a b (both-of k c a b g)
@@ -135,13 +134,13 @@ module _ (ds : List Declaration) where
   no-of k c a b g = second-of a b (both-of k c a b g)
 
   for-of : (k : Key) (at : Place) (h : Head) (c : Expr) (s : Stmt) → Given (For k at h c s) → Given s
-  for-of k at h c s g = record { form = (both-true (is_told c) (is_phase (is_cut has_a_way ds) no_loop ds s) g.form).1; turns = g.turns; in_order = (both-true (folds_in_order c) (loops_in_order s) g.in_order).1; share = g.share }
+  for-of k at h c s g = record { form = (both-true (is_told c) (is_phase (is_cut has_a_way ds) no_loop ds s) g.form).1; in_order = (both-true (folds_in_order c) (loops_in_order s) g.in_order).1; share = g.share }
 
   while-of : (k : Key) (at : Place) (c : Expr) (s : Stmt) → Given (While k at c s) → Given s
-  while-of k at c s g = record { form = (both-true (is_told c) (is_phase (is_cut has_a_way ds) no_loop ds s) g.form).1; turns = g.turns; in_order = (both-true (folds_in_order c) (loops_in_order s) g.in_order).1; share = g.share }
+  while-of k at c s g = record { form = (both-true (is_told c) (is_phase (is_cut has_a_way ds) no_loop ds s) g.form).1; in_order = (both-true (folds_in_order c) (loops_in_order s) g.in_order).1; share = g.share }
 
   do-of : (k : Key) (at : Place) (s : Stmt) (c : Expr) → Given (Do k at s c) → Given s
-  do-of k at s c g = record { form = (both-true (is_phase (is_cut has_a_way ds) no_loop ds s) (is_told c) g.form).0; turns = g.turns; in_order = (both-true (loops_in_order s) (folds_in_order c) g.in_order).0; share = g.share }
+  do-of k at s c g = record { form = (both-true (is_phase (is_cut has_a_way ds) no_loop ds s) (is_told c) g.form).0; in_order = (both-true (loops_in_order s) (folds_in_order c) g.in_order).0; share = g.share }
 
   -- the cut loop of a phase
   cut-of : (k : Key) (at : Place) (h : Head) (mask : Expr) (body : Stmt) → Given (Foreach k at h mask body) → (is_nodes h.domain ≡ true) × (is_cut has_a_way ds h.iterator mask body ≡ true)
@@ -156,7 +155,7 @@ module _ (ds : List Declaration) where
     each-loop (Foreach j here i test inner) g stays turns = by (pulls h.iterator (Foreach j here i test inner)) refl
       where
         by : (b : Bool) → pulls h.iterator (Foreach j here i test inner) ≡ b → Keeps (cond b (turned k at h mask (Foreach j here i test inner)) (Foreach k at h mask (Foreach j here i test inner)))
-        by true e = turns j here i test inner refl (parts ds h.iterator k mask j here i test inner (cut-of k at h mask (Foreach j here i test inner) g).1 e g.turns g.in_order g.share)
+        by true e = turns j here i test inner refl (parts ds h.iterator k mask j here i test inner (cut-of k at h mask (Foreach j here i test inner) g).1 e g.share)
         by false e = stays e
     each-loop Skip g stays turns = stays refl
     each-loop (Then a b) g stays turns = stays refl
@@ -208,7 +207,7 @@ module _ (ds : List Declaration) where
   -- the faults of loops stand in order
   ordered : (s : Stmt) → Given s → loops_in_order s ≡ true → loops_in_order (flipped s) ≡ true
   ordered (Then a b) g h = let u = both-true (loops_in_order a) (loops_in_order b) h in and-true (loops_in_order (flipped a)) (loops_in_order (flipped b)) (ordered a (first-of a b g) u.0) (ordered b (second-of a b g) u.1)
-  ordered (Foreach k at hd mask body) g h = each-loop (λ s. loops_in_order s ≡ true) k at hd mask body g (λ e. h) (λ j here i test inner e p. p.order)
+  ordered (Foreach k at hd mask body) g h = each-loop (λ s. loops_in_order s ≡ true) k at hd mask body g (λ e. h) (λ j here i test inner e p. p.order hd.place (ap (λ s. begins k hd.place mask s && loop_in_order k mask s) (sym e) ∙ h))
   ordered (For k at hd c s) g h = let u = both-true (folds_in_order c) (loops_in_order s) h in and-true (folds_in_order c) (loops_in_order (flipped s)) u.0 (ordered s (for-of k at hd c s g) u.1)
   ordered (If k c a b) g h =
       let u = both-true (folds_in_order c) (loops_in_order a && loops_in_order b) h in
@@ -299,18 +298,18 @@ module _ (ds : List Declaration) where
         (repeated-each (suc bound) run (λ w. value c (view_of run w k)) (sequential (flipped s) run) (sequential s run) (same s (do-of k at s c g)))) u
     same s g u = refl
 
--- a program that is cut, and whose loops that pull can be turned, means the same without them
-pub same-without_pulls : (p : Program) → Ready3 p → can_flip p ≡ true → SameMeaning p (without_pulls p)
-same-without_pulls p ready turns = record {
+-- a program that is cut means the same without the loops that pull
+pub same-without_pulls : (p : Program) → Ready3 p → SameMeaning p (without_pulls p)
+same-without_pulls p ready = record {
   fits = λ g args h. record { graph = h.graph; scalars = h.scalars; nodes = h.nodes; edges = h.edges };
-  same = λ g args bound h. ap (outcome_of p g bound) (same p.declarations g bound h.graph p.body (record { form = ready.form; turns = turns; in_order = ready.sane.ordered; share = ready.sane.race_free }) (record { store = first_store p g args; turns = 0 }));
+  same = λ g args bound h. ap (outcome_of p g bound) (same p.declarations g bound h.graph p.body (record { form = ready.form; in_order = ready.sane.ordered; share = ready.sane.race_free }) (record { store = first_store p g args; turns = 0 }));
 }
 
 -- and it is flipped
-pub ready-without_pulls : (p : Program) → Ready3 p → can_flip p ≡ true → Ready4 (without_pulls p)
-ready-without_pulls p ready turns =
+pub ready-without_pulls : (p : Program) → Ready3 p → Ready4 (without_pulls p)
+ready-without_pulls p ready =
     let ds = p.declarations in
-    let g : Given ds p.body = record { form = ready.form; turns = turns; in_order = ready.sane.ordered; share = ready.sane.race_free } in
+    let g : Given ds p.body = record { form = ready.form; in_order = ready.sane.ordered; share = ready.sane.race_free } in
     let n = both-true (nat_le (p.inputs + p.outputs) (length ds)) (list_all (suits ds) (uses_of p.body)) ready.sane.named in
     record {
       sane = record {

@@ -7,14 +7,15 @@ use Rattle.gm_value.specs.Bag.{IsIn}
 use Rattle.gm_ast.specs.declared.tree.Declaration.{Declaration}
 use Rattle.gm_ast.specs.declared.tree.Target.{Target}
 use Rattle.gm_ast.specs.declared.tree.Target.TheVariants as T
+use Rattle.gm_ast.specs.Ways.{is_in}
 use Rattle.gm_ast.specs.Program.{Stmt, Skip, Then, Declare, DeclareEdge, Assign, Defer, Combine, Group, Foreach, For, If, While, Do, InBfs, InBfsBoth, Return}
+use Rattle.gm_forms.specs.Cut.{touched, can_overflow, is_there, is_calm, adds_elsewhere, adds_last, is_outer_local, spares_locals}
+use Rattle.gm_forms.specs.Order.{cannot_fail}
 use Rattle.gm_forms.specs.Forms.{depth_at, is_flat, is_off, avoids, is_inner_body}
 use Rattle.gm_forms.specs.Sharing.{with_reads, sights_in, sights_in_all, sights_of_target, sights_at_target, sights_by, sights_of, is_at_once, are_at_once, variables_of, written_by, written, is_owned, is_kept, variables_where, Reduced, reduced_by, all_reduced_by, reduced, shared_in, kept_in, lasting, disjoint, does_same, agrees, all_agree, is_one, all_one, lasts_one_way, all_last_one_way}
 use Rattle.gm_forms.proofs.Named.{both-true}
 use Rattle.gm_forms.proofs.Weaker.{and-true}
 use Rattle.gm_forms.proofs.Doings.{in-left, in-right, in-either}
-use Rattle.gm_loop_laws.specs.Alone.{is_outer_local, spares_locals}
-use Rattle.gm_loop_laws.specs.Masks.{touched}
 use Rattle.gm_loop_laws.proofs.Chosen.{disjoint-apart, apart-disjoint}
 use Rattle.gm_flip.proofs.Basics.{none}
 
@@ -306,3 +307,63 @@ last-like (a ∷ rs) [] l k = absurd l
 last-like (a ∷ rs) (c ∷ qs) l k =
     let y = both-true (is_one a rs) (all_one rs) k in
     and-true (lasts_one_way c qs) (all_last_one_way qs) (lasts-like a c rs qs l.0.0 l.0.1 l.0.3 l.1 y.0) (last-like rs qs l.1 y.1)
+
+ones-like : (a c : Reduced) (rs qs : List Reduced) → c.variables ≡ a.variables → c.reduce ≡ a.reduce → Like rs qs → is_one a rs ≡ true → is_one c qs ≡ true
+ones-like a c [] [] v r l k = refl
+ones-like a c [] (d ∷ qs) v r l k = absurd l
+ones-like a c (b ∷ rs) [] v r l k = absurd l
+ones-like a c (b ∷ rs) (d ∷ qs) v r l k =
+    let y = both-true (disjoint a.variables b.variables || does_same a b) (is_one a rs) k in
+    and-true (disjoint c.variables d.variables || does_same c d) (is_one c qs)
+    (by (disjoint a.variables b.variables) (does_same a b) y.0 (apart-same a b c d v l.0.0) (same-does a b c d v r l.0.0 l.0.1)) (ones-like a c rs qs v r l.1 y.1)
+  where
+    by : (x s : Bool) → x || s ≡ true → (x ≡ true → disjoint c.variables d.variables ≡ true) → (s ≡ true → does_same c d ≡ true) → disjoint c.variables d.variables || does_same c d ≡ true
+    by true s h f g = ap (λ z. z || does_same c d) (f refl)
+    by false s h f g = right (disjoint c.variables d.variables) (does_same c d) (g h)
+      where
+        right : (a b : Bool) → b ≡ true → a || b ≡ true
+        right true b h = refl
+        right false b h = h
+
+pub one-like : (rs qs : List Reduced) → Like rs qs → all_one rs ≡ true → all_one qs ≡ true
+one-like [] [] l k = refl
+one-like [] (d ∷ qs) l k = absurd l
+one-like (a ∷ rs) [] l k = absurd l
+one-like (a ∷ rs) (c ∷ qs) l k =
+    let y = both-true (is_one a rs) (all_one rs) k in
+    and-true (is_one c qs) (all_one qs) (ones-like a c rs qs l.0.0 l.0.1 l.1 y.0) (one-like rs qs l.1 y.1)
+
+-- ---- what can fault, by the same iterators in another order
+
+there-same : (its more : List ℕ) → ((x : ℕ) → is_in more x ≡ is_in its x) → (ts : List Target) → list_all (is_there more) ts ≡ list_all (is_there its) ts
+there-same its more h [] = refl
+there-same its more h (T.Scalar x at ∷ ts) = there-same its more h ts
+there-same its more h (T.Property x p at ∷ ts) = ap (λ b. b && list_all (is_there more) ts) (h x) ∙ ap (λ b. is_in its x && b) (there-same its more h ts)
+
+target-there : (its more : List ℕ) → ((x : ℕ) → is_in more x ≡ is_in its x) → (t : Target) → is_there more t ≡ is_there its t
+target-there its more h (T.Scalar x at) = refl
+target-there its more h (T.Property x p at) = h x
+
+calm-same : (its more : List ℕ) → ((x : ℕ) → is_in more x ≡ is_in its x) → (s : Stmt) → is_calm more s ≡ is_calm its s
+calm-same its more h (Then a b) = ap (λ x. x && is_calm more b) (calm-same its more h a) ∙ ap (λ x. is_calm its a && x) (calm-same its more h b)
+calm-same its more h (Assign k t e) = ap (λ x. x && cannot_fail e) (target-there its more h t)
+calm-same its more h (Defer k t e) = ap (λ x. x && cannot_fail e) (target-there its more h t)
+calm-same its more h (Combine k total r ts es) = ap (λ x. not (can_overflow r) && (x && list_all cannot_fail es)) (there-same its more h ts)
+calm-same its more h (If k c a b) = ap (λ x. cannot_fail c && (x && is_calm more b)) (calm-same its more h a) ∙ ap (λ x. cannot_fail c && (is_calm its a && x)) (calm-same its more h b)
+calm-same its more h (Foreach k at hd test body) = ap (λ x. cannot_fail test && x) (calm-same (hd.iterator ∷ its) (hd.iterator ∷ more) (λ x. ap (λ b. nat_eq x hd.iterator || b) (h x)) body)
+calm-same its more h s = refl
+
+elsewhere-same : (its more : List ℕ) → ((x : ℕ) → is_in more x ≡ is_in its x) → (s : Stmt) → adds_elsewhere more s ≡ adds_elsewhere its s
+elsewhere-same its more h (Then a b) = ap (λ x. x || adds_elsewhere more b) (elsewhere-same its more h a) ∙ ap (λ x. adds_elsewhere its a || x) (elsewhere-same its more h b)
+elsewhere-same its more h (Combine k total r ts es) = ap (λ x. can_overflow r && not x) (there-same its more h ts)
+elsewhere-same its more h (If k c a b) = ap (λ x. x || adds_elsewhere more b) (elsewhere-same its more h a) ∙ ap (λ x. adds_elsewhere its a || x) (elsewhere-same its more h b)
+elsewhere-same its more h s = refl
+
+pub adds-same : (its more : List ℕ) → ((x : ℕ) → is_in more x ≡ is_in its x) → (s : Stmt) → adds_last more s ≡ adds_last its s
+adds-same its more h (Then a b) =
+    ap (λ x. x && (adds_last more b && (not (adds_elsewhere more a) || is_calm more b))) (adds-same its more h a)
+    ∙ ap (λ x. adds_last its a && (x && (not (adds_elsewhere more a) || is_calm more b))) (adds-same its more h b)
+    ∙ ap (λ x. adds_last its a && (adds_last its b && (not x || is_calm more b))) (elsewhere-same its more h a)
+    ∙ ap (λ x. adds_last its a && (adds_last its b && (not (adds_elsewhere its a) || x))) (calm-same its more h b)
+adds-same its more h (If k c a b) = ap (λ x. x && adds_last more b) (adds-same its more h a) ∙ ap (λ x. adds_last its a && x) (adds-same its more h b)
+adds-same its more h s = refl

@@ -23,13 +23,12 @@ use Rattle.gm_ast.specs.declared.tree.Target.TheVariants as T
 use Rattle.gm_ast.specs.declared.tree.TotalKey.{TotalKey}
 use Rattle.gm_ast.specs.Program.{Expr, always, Const, Property, EdgeProperty, Binary, Both, Stmt, Skip, Then, Declare, Combine, Foreach, If, Program}
 use Rattle.gm_semantics.specs.Outcomes.{mean}
-use Rattle.gm_forms.specs.Forms.{is_dissected, is_flipped}
-use Rattle.gm_forms.specs.Order.{is_ordered}
+use Rattle.gm_forms.specs.Cut.{is_dissected, is_flipped}
+use Rattle.gm_forms.specs.Order.{first_key, is_ordered}
 use Rattle.gm_forms.specs.Sharing.{is_race_free}
 use Rattle.gm_forms.specs.Typing.{has_types}
 use Rattle.gm_forms.specs.Uses.{is_named}
 use Rattle.gm_flip.specs.Flipped.{flipped, without_pulls}
-use Rattle.gm_flip.specs.Turning.{can_flip}
 
 abbrev row : Sort → VType → ℕ → Declaration
 row sort t depth = record { name = []; variable = record { sort = sort; vtype = t; depth = depth } }
@@ -104,16 +103,20 @@ pair outer mask inner d test body = Foreach (key 1) (at 1) (nodes_of outer) mask
 abbrev program : Stmt → Program
 program s = record { name = []; declarations = table; inputs = 4; outputs = 2; result = None; statements = 9; body = s }
 
--- cut; ready for what every pass keeps; with loops that can be turned; and what is left of it after
+-- the loop that a pull is turned into: that over all nodes has no filter, and the first key
+abbrev turned_pair : ℕ → ℕ → Domain → Expr → Stmt → Stmt
+turned_pair outer inner d test body = Foreach first_key (at 1) (nodes_of outer) always (Foreach (key 2) (at 2) (over inner d outer) test body)
+
+-- cut; ready for what every pass keeps; and what is left of it after
 abbrev told : Stmt → List Bool
 told s =
-    is_dissected (program s) ∷ is_named (program s) ∷ has_types (program s) ∷ is_ordered (program s) ∷ is_race_free (program s) ∷ can_flip (program s) ∷ is_flipped (program s) ∷ is_flipped (without_pulls (program s)) ∷ []
+    is_dissected (program s) ∷ is_named (program s) ∷ has_types (program s) ∷ is_ordered (program s) ∷ is_race_free (program s) ∷ is_flipped (program s) ∷ is_flipped (without_pulls (program s)) ∷ []
 
 abbrev pulling : List Bool
-pulling = true ∷ true ∷ true ∷ true ∷ true ∷ true ∷ false ∷ true ∷ []
+pulling = true ∷ true ∷ true ∷ true ∷ true ∷ false ∷ true ∷ []
 
 abbrev going_out : List Bool
-going_out = true ∷ true ∷ true ∷ true ∷ true ∷ true ∷ true ∷ true ∷ []
+going_out = true ∷ true ∷ true ∷ true ∷ true ∷ true ∷ true ∷ []
 
 abbrev mask : Expr
 mask = Property n m (at 3)
@@ -128,7 +131,7 @@ add_to target value = Combine (key 3) (ends 3) Sum (target ∷ []) (value ∷ []
 abbrev sum_in : Stmt
 sum_in = pair n mask t D.InNbrs (Property t m (at 5)) (add_to (T.Property n x (at 6)) their_a)
 
-sum_in-flipped : flipped sum_in ≡ pair t always n D.OutNbrs (Both mask (Property t m (at 5))) (add_to (T.Property n x (at 6)) their_a)
+sum_in-flipped : flipped sum_in ≡ turned_pair t n D.OutNbrs (Both mask (Property t m (at 5))) (add_to (T.Property n x (at 6)) their_a)
 sum_in-flipped = refl
 
 sum_in-told : told sum_in ≡ pulling
@@ -138,7 +141,7 @@ sum_in-told = refl
 abbrev sum_out : Stmt
 sum_out = pair n always t D.OutNbrs (Property t m (at 5)) (add_to (T.Property n x (at 6)) their_a)
 
-sum_out-flipped : flipped sum_out ≡ pair t always n D.InNbrs (Property t m (at 5)) (add_to (T.Property n x (at 6)) their_a)
+sum_out-flipped : flipped sum_out ≡ turned_pair t n D.InNbrs (Property t m (at 5)) (add_to (T.Property n x (at 6)) their_a)
 sum_out-flipped = refl
 
 sum_out-told : told sum_out ≡ pulling
@@ -154,13 +157,13 @@ many =
 abbrev several : Stmt
 several = pair n mask t D.InNbrs always (Then (add_to (T.Property n x (at 6)) their_a) (Combine (key 4) (ends 4) Min (T.Property n y (at 6) ∷ []) (EdgeProperty e w (at 8) ∷ [])))
 
-several-flipped : flipped several ≡ pair t always n D.OutNbrs (Both mask always) (Then (add_to (T.Property n x (at 6)) their_a) (Combine (key 4) (ends 4) Min (T.Property n y (at 6) ∷ []) (EdgeProperty e w (at 8) ∷ [])))
+several-flipped : flipped several ≡ turned_pair t n D.OutNbrs (Both mask always) (Then (add_to (T.Property n x (at 6)) their_a) (Combine (key 4) (ends 4) Min (T.Property n y (at 6) ∷ []) (EdgeProperty e w (at 8) ∷ [])))
 several-flipped = refl
 
 several-told : told several ≡ pulling
 several-told = refl
 
-many-flipped : flipped (pair n mask t D.InNbrs always many) ≡ pair t always n D.OutNbrs (Both mask always) many
+many-flipped : flipped (pair n mask t D.InNbrs always many) ≡ turned_pair t n D.OutNbrs (Both mask always) many
 many-flipped = refl
 
 -- what is reduced at the inner node is pushed, and stays
@@ -187,7 +190,7 @@ home-told = refl
 abbrev weights : Stmt
 weights = pair n mask t D.InNbrs always (add_to (T.Scalar c (at 6)) (EdgeProperty e w (at 7)))
 
-weights-flipped : flipped weights ≡ pair t always n D.OutNbrs (Both mask always) (add_to (T.Scalar c (at 6)) (EdgeProperty e w (at 7)))
+weights-flipped : flipped weights ≡ turned_pair t n D.OutNbrs (Both mask always) (add_to (T.Scalar c (at 6)) (EdgeProperty e w (at 7)))
 weights-flipped = refl
 
 weights-told : told weights ≡ pulling
@@ -235,12 +238,12 @@ shares_out-faults = refl
 shares_out-faults-flipped : means (flipped shares_out) ≡ Fault DivideByZero (at 7)
 shares_out-faults-flipped = refl
 
--- What the form of cut loops and what every pass keeps do not say of loops that pull, so that it is asked besides: each of these is cut and keeps all that, but may not be turned
+-- What may not be turned is not cut, though it keep what every pass keeps
 abbrev before : Stmt → List Bool
-before s = is_dissected (program s) ∷ is_named (program s) ∷ has_types (program s) ∷ is_ordered (program s) ∷ is_race_free (program s) ∷ can_flip (program s) ∷ []
+before s = is_dissected (program s) ∷ is_named (program s) ∷ has_types (program s) ∷ is_ordered (program s) ∷ is_race_free (program s) ∷ []
 
 abbrev refused : List Bool
-refused = true ∷ true ∷ true ∷ true ∷ true ∷ false ∷ []
+refused = false ∷ true ∷ true ∷ true ∷ true ∷ []
 
 -- a reduction to a local of an outer body overflows at the node that two edges reach, and at none that they leave
 abbrev local_sum : Stmt
@@ -275,21 +278,18 @@ mask_reduced-races = refl
 abbrev declared : Stmt
 declared = pair n always t D.InNbrs always (Then (Declare (key 3) q None) (add_to (T.Property n q (at 6)) their_a))
 
-declared-refused : before declared ≡ refused
+declared-refused : before declared ≡ false ∷ false ∷ true ∷ true ∷ true ∷ []
 declared-refused = refl
 
 declared-races : is_race_free (program (flipped declared)) ≡ false
 declared-races = refl
 
--- where the inner loop's key comes behind its body's, the saved filter would too
+-- where the inner loop's key comes behind its body's, the mask would too, and no pass leaves it so
 abbrev late_key : Stmt
 late_key = Foreach (key 1) (at 1) (nodes_of n) mask (Foreach (key 5) (at 2) (over t D.InNbrs n) always (add_to (T.Property n x (at 6)) their_a))
 
-late_key-refused : before late_key ≡ refused
+late_key-refused : before late_key ≡ false ∷ true ∷ true ∷ false ∷ true ∷ []
 late_key-refused = refl
-
-late_key-disordered : is_ordered (program (flipped late_key)) ≡ false
-late_key-disordered = refl
 
 -- two picks that share a local of the inner body leave it as the last of them does, which may be another in the turned loop
 abbrev shared_local : Stmt
@@ -300,3 +300,19 @@ shared_local =
 
 shared_local-refused : before shared_local ≡ refused
 shared_local-refused = refl
+
+-- a mask may be any expression of the node that cannot fault, and moves to the other end
+abbrev bound_mask : Expr
+bound_mask = Both mask (Binary Op2.Lt (at 4) (Property n a (at 3)) (Const (I32 (pos 7))))
+
+abbrev masked : Stmt
+masked = pair n bound_mask t D.InNbrs (Property t m (at 5)) (add_to (T.Property n x (at 6)) their_a)
+
+masked-flipped : flipped masked ≡ turned_pair t n D.OutNbrs (Both bound_mask (Property t m (at 5))) (add_to (T.Property n x (at 6)) their_a)
+masked-flipped = refl
+
+masked-told : told masked ≡ pulling
+masked-told = refl
+
+masked-means-flipped : means (flipped masked) ≡ means masked
+masked-means-flipped = refl

@@ -1,6 +1,6 @@
 -- A turned loop keeps what every pass keeps of its loops: its faults stand in order, and its iterations share what ends with it alone.
 use Rattle.std.proofs.Common.{◌≡◌, ℕ, Bool, true, false, cond, List, [], ◌∷◌, ◌++◌, refl, sym, ap, subst, ◌∙◌, ⊎_elim, inl, inr}
-use Rattle.std.specs.Prelude.{◌&&◌, ◌⊎◌, not, nat_eq}
+use Rattle.std.specs.Prelude.{◌&&◌, ◌||◌, ◌⊎◌, not, nat_eq, nat_lt}
 use Rattle.std.specs.List.{list_all}
 use Rattle.std.proofs.lemmas.Bool.{cases_Bool, eqb-true}
 use Rattle.gm_base.specs.declared.places.Place.{Place}
@@ -12,24 +12,24 @@ use Rattle.gm_ast.specs.Keys as K
 use Rattle.gm_ast.specs.Keys.{fault_lt, all_before}
 use Rattle.gm_ast.specs.Ways.{is_in}
 use Rattle.gm_ast.specs.Program.{Expr, Const, Var, Property, EdgeProperty, Degree, NodeCount, EdgeCount, Live, Unary, Binary, Both, Either, Choose, Folded, always, Stmt, Foreach}
+use Rattle.gm_forms.specs.Cut.{touched, adds_last, spares_locals, is_no_local, knows_no_locals, mask_stays, has_plain_locals, is_edge_loop}
 use Rattle.gm_forms.specs.Doing.{IsFlat}
 use Rattle.gm_forms.specs.Fission.{pushed_properties}
 use Rattle.gm_forms.specs.Flip.{flipped_head}
-use Rattle.gm_forms.specs.Forms.{is_mask, is_inner_body, avoids}
-use Rattle.gm_forms.specs.Order.{lie_before, rest_in, hoisted_in, hoists_in_order, faults_in, in_order, faults_of, body_in_order, loop_in_order}
+use Rattle.gm_forms.specs.Forms.{depth_at, is_inner_body, avoids}
+use Rattle.gm_forms.specs.Order.{lie_before, rest_in, hoisted_in, hoists_in_order, faults_in, in_order, faults_of, body_in_order, loop_in_order, first_key, are_numbered, cannot_fail, leads, begins}
 use Rattle.gm_forms.specs.Sharing.{Read, Sights, reads_in, told_in, sights_of, read_at, read_elsewhere, read_anywhere, written, Reduced, reduced, shared_in, kept_in, disjoint, all_agree, all_one, all_last_one_way, targets_alike, inner_shares, shares}
 use Rattle.gm_forms.proofs.CutReads.{anywhere-member, elsewhere-member}
-use Rattle.gm_forms.proofs.CutTests.{found, finds}
+use Rattle.gm_forms.proofs.CutTests.{found, finds, not-true}
 use Rattle.gm_forms.proofs.Doings.{in-left, in-right, in-either}
+use Rattle.gm_forms.proofs.Leading.{numbered-both, numbered-first, numbered-second, rest-under, under-numbered, first-stands}
 use Rattle.gm_forms.proofs.Named.{both-true}
 use Rattle.gm_forms.proofs.Weaker.{and-true}
-use Rattle.gm_loop_laws.specs.Alone.{spares_locals, stands_alone}
-use Rattle.gm_loop_laws.specs.Masks.{touched}
+use Rattle.gm_loop_laws.specs.Alone.{stands_alone}
 use Rattle.gm_loop_laws.proofs.Chosen.{disjoint-apart, apart-disjoint}
 use Rattle.gm_flip.specs.Flipped.{is_always, joined}
-use Rattle.gm_flip.specs.Turning.{keeps_filter, has_plain_locals, filters_first, may_turn}
 use Rattle.gm_flip.proofs.Basics.{none}
-use Rattle.gm_flip.proofs.Reductions.{shared-out, kept-out, written-same, sights-same, like, Comes, comes, written-touched, agree-like, last-like}
+use Rattle.gm_flip.proofs.Reductions.{one-like, adds-same, shared-out, kept-out, written-same, sights-same, like, Comes, comes, written-touched, agree-like, last-like}
 
 -- nothing is hoisted of an expression without reductions
 flat-hoists : (e : Expr) → IsFlat e → hoisted_in e ≡ []
@@ -102,22 +102,14 @@ joined-told mask test y i = by (is_always mask) i
     by true i = inr i
     by false i = in-either y (told_in mask) (told_in test) i
 
--- a saved filter names the iterator alone
-mask-told : (n : ℕ) (mask : Expr) → is_mask n mask ≡ true → (y : ℕ) → IsIn y (told_in mask) → y ≡ n
-mask-told n (Const v) e y i = absurd i
-mask-told n (Property x p at) e y i = ⊎_elim (λ (s : y ≡ x). s ∙ eqb-true x n e) (λ j. absurd j) i
-mask-told n (Var x at) e y i = none e
-mask-told n (EdgeProperty x p at) e y i = none e
-mask-told n (Degree d x at) e y i = none e
-mask-told n NodeCount e y i = none e
-mask-told n EdgeCount e y i = none e
-mask-told n (Live x at) e y i = none e
-mask-told n (Unary op at a) e y i = none e
-mask-told n (Binary op at a b) e y i = none e
-mask-told n (Both a b) e y i = none e
-mask-told n (Either a b) e y i = none e
-mask-told n (Choose c a b) e y i = none e
-mask-told n (Folded f h c a) e y i = none e
+-- a test of all members
+passes-in : (f : ℕ → Bool) (xs : List ℕ) (y : ℕ) → list_all f xs ≡ true → IsIn y xs → f y ≡ true
+passes-in f [] y h i = absurd i
+passes-in f (x ∷ xs) y h i = let q = both-true (f x) (list_all f xs) h in ⊎_elim (λ (e : y ≡ x). ap f e ∙ q.0) (λ r. passes-in f xs y q.1 r) i
+
+all-passes : {f : ℕ → Bool} (xs : List ℕ) → ((y : ℕ) → IsIn y xs → f y ≡ true) → list_all f xs ≡ true
+all-passes [] h = refl
+all-passes {f} (x ∷ xs) h = and-true (f x) (list_all f xs) (h x (inl refl)) (all-passes xs (λ y i. h y (inr i)))
 
 -- all members of a list are in it
 itself : (xs : List ℕ) → list_all (is_in xs) xs ≡ true
@@ -152,54 +144,78 @@ module _ (ds : List Declaration) (n : ℕ) (k : Key) (mask : Expr) (j : Key) (he
   abbrev own : List ℕ
   own = written ds n true body
 
-  -- what may be turned
-  record May : Type 0 where
-    spares : spares_locals ds body ≡ true
-    one : all_one RN ≡ true
-    filter_kept : keeps_filter n mask i body ≡ true
-    locals : has_plain_locals ds n test body ≡ true
-    first : filters_first mask j body ≡ true
+  -- what an edge loop keeps
+  pub record May : Type 0 where
+    pub told : list_all (is_no_local ds (n ∷ t ∷ [])) (told_in mask ++ (told_in test ++ S.scalars)) ≡ true
+    pub spares : spares_locals ds body ≡ true
+    pub kept : disjoint (touched body) (n ∷ (t ∷ (read_anywhere (reads_in mask) ++ told_in mask))) ≡ true
+    pub out : is_in (told_in mask) t ≡ false
+    pub first : lie_before (rest_in mask j) (faults_of body) ≡ true
+    pub locals : has_plain_locals ds n test body ≡ true
+    pub one : all_one RN ≡ true
+    pub last : adds_last (n ∷ t ∷ []) body ≡ true
 
-  may : may_turn ds n mask j i test body ≡ true → May
-  may h =
-      let a = both-true (spares_locals ds body) (all_one RN && (keeps_filter n mask i body && (has_plain_locals ds n test body && filters_first mask j body))) h in
-      let b = both-true (all_one RN) (keeps_filter n mask i body && (has_plain_locals ds n test body && filters_first mask j body)) a.1 in
-      let c = both-true (keeps_filter n mask i body) (has_plain_locals ds n test body && filters_first mask j body) b.1 in
-      let d = both-true (has_plain_locals ds n test body) (filters_first mask j body) c.1 in
-      record { spares = a.0; one = b.0; filter_kept = c.0; locals = d.0; first = d.1 }
+  pub kept-parts : is_edge_loop ds n mask j i test body ≡ true → May
+  kept-parts h =
+      let a = both-true (knows_no_locals ds n t mask test body) (mask_stays n mask j i body && (has_plain_locals ds n test body && (all_one RN && adds_last (n ∷ t ∷ []) body))) h in
+      let b = both-true (mask_stays n mask j i body) (has_plain_locals ds n test body && (all_one RN && adds_last (n ∷ t ∷ []) body)) a.1 in
+      let c = both-true (has_plain_locals ds n test body) (all_one RN && adds_last (n ∷ t ∷ []) body) b.1 in
+      let d = both-true (all_one RN) (adds_last (n ∷ t ∷ []) body) c.1 in
+      let k = both-true (list_all (is_no_local ds (n ∷ t ∷ [])) (told_in mask ++ (told_in test ++ S.scalars))) (spares_locals ds body) a.0 in
+      let m = both-true (disjoint (touched body) (n ∷ (t ∷ (read_anywhere (reads_in mask) ++ told_in mask)))) (not (is_in (told_in mask) t) && lie_before (rest_in mask j) (faults_of body)) b.0 in
+      let o = both-true (not (is_in (told_in mask) t)) (lie_before (rest_in mask j) (faults_of body)) m.1 in
+      record { told = k.0; spares = k.1; kept = m.0; out = not-true (is_in (told_in mask) t) o.0; first = o.1; locals = c.0; one = d.0; last = d.1 }
 
-  -- the faults of the turned loop stand in order
-  pub order-turned : IsFlat mask → IsFlat test → may_turn ds n mask j i test body ≡ true → loop_in_order k mask inner ≡ true → loop_in_order k always other ≡ true
-  order-turned flat-mask flat-test m h =
-      let a = both-true (in_order mask k) (body_in_order inner && lie_before (faults_in mask k) (faults_of inner)) h in
-      let b = both-true (body_in_order inner) (lie_before (faults_in mask k) (faults_of inner)) a.1 in
-      let c = both-true (in_order test j) (body_in_order body && lie_before (faults_in test j) (faults_of body)) b.0 in
+  -- the inner loop of the other end stands in order, as the inner loop does
+  inner-turned : IsFlat mask → hoists_in_order mask ≡ true → IsFlat test → May → body_in_order inner ≡ true → body_in_order other ≡ true
+  inner-turned flat-mask o flat-test m h =
+      let b = both-true (leads j i.place body) (loop_in_order j test body) h in
+      let c = both-true (in_order test j) (body_in_order body && lie_before (faults_in test j) (faults_of body)) b.1 in
       let d = both-true (body_in_order body) (lie_before (faults_in test j) (faults_of body)) c.1 in
-      let o = both-true (hoists_in_order mask) (lie_before (hoisted_in mask) (rest_in mask k)) a.0 in
       let p = both-true (hoists_in_order test) (lie_before (hoisted_in test) (rest_in test j)) c.0 in
-      let q = by (is_always mask) c.0 d.1 o.0 p.0 in
-      and-true (body_in_order other) (lie_before [] (faults_of other)) (and-true (in_order filter j) (body_in_order body && lie_before (faults_in filter j) (faults_of body)) q.0 (and-true (body_in_order body) (lie_before (faults_in filter j) (faults_of body)) d.0 q.1))
-      (nothing-before (faults_of other))
+      let q = by (is_always mask) c.0 d.1 p.0 in
+      and-true (leads j i.place body) (loop_in_order j filter body) b.0
+      (and-true (in_order filter j) (body_in_order body && lie_before (faults_in filter j) (faults_of body)) q.0 (and-true (body_in_order body) (lie_before (faults_in filter j) (faults_of body)) d.0 q.1))
     where
-      fine : in_order test j ≡ true → lie_before (faults_in test j) (faults_of body) ≡ true → hoists_in_order mask ≡ true → hoists_in_order test ≡ true → (in_order (Both mask test) j ≡ true) × (lie_before (faults_in (Both mask test) j) (faults_of body) ≡ true)
-      fine f g o p =
+      fine : in_order test j ≡ true → lie_before (faults_in test j) (faults_of body) ≡ true → hoists_in_order test ≡ true → (in_order (Both mask test) j ≡ true) × (lie_before (faults_in (Both mask test) j) (faults_of body) ≡ true)
+      fine f g p =
           let none-hoisted : hoisted_in (Both mask test) ≡ [] = flat-hoists (Both mask test) (flat-mask, flat-test) in
           let rests = rest_in mask j ++ rest_in test j in (
             and-true (hoists_in_order (Both mask test)) (lie_before (hoisted_in (Both mask test)) rests)
                 (and-true (hoists_in_order mask) (hoists_in_order test && lie_before (hoisted_in mask) (hoisted_in test)) o (and-true (hoists_in_order test) (lie_before (hoisted_in mask) (hoisted_in test)) p (ap (λ l. lie_before l (hoisted_in test)) (flat-hoists mask flat-mask) ∙ nothing-before (hoisted_in test))))
                 (ap (λ l. lie_before l rests) none-hoisted ∙ nothing-before rests),
             ap (λ l. lie_before (l ++ rests) (faults_of body)) none-hoisted
-                ∙ lie-append (rest_in mask j) (rest_in test j) (faults_of body) ((may m).first) (sym (ap (λ l. lie_before (l ++ rest_in test j) (faults_of body)) (flat-hoists test flat-test)) ∙ g),
+                ∙ lie-append (rest_in mask j) (rest_in test j) (faults_of body) m.first (sym (ap (λ l. lie_before (l ++ rest_in test j) (faults_of body)) (flat-hoists test flat-test)) ∙ g),
           )
 
-      by : (b : Bool) → in_order test j ≡ true → lie_before (faults_in test j) (faults_of body) ≡ true → hoists_in_order mask ≡ true → hoists_in_order test ≡ true → (in_order (cond b test (Both mask test)) j ≡ true) × (lie_before (faults_in (cond b test (Both mask test)) j) (faults_of body) ≡ true)
-      by true f g o p = (f, g)
-      by false f g o p = fine f g o p
+      by : (b : Bool) → in_order test j ≡ true → lie_before (faults_in test j) (faults_of body) ≡ true → hoists_in_order test ≡ true → (in_order (cond b test (Both mask test)) j ≡ true) × (lie_before (faults_in (cond b test (Both mask test)) j) (faults_of body) ≡ true)
+      by true f g p = (f, g)
+      by false f g p = fine f g p
+
+  -- what it may fault in is numbered
+  numbered-turned : IsFlat mask → IsFlat test → are_numbered (faults_of inner) ≡ true → are_numbered (faults_of other) ≡ true
+  numbered-turned flat-mask flat-test h =
+      let a = both-true (nat_lt 0 j.statement) (are_numbered (faults_in test j ++ faults_of body)) h in
+      and-true (nat_lt 0 j.statement) (are_numbered (faults_in filter j ++ faults_of body)) a.0
+      (numbered-both (faults_in filter j) (faults_of body) (by (is_always mask) a.0 (numbered-first (faults_in test j) (faults_of body) a.1)) (numbered-second (faults_in test j) (faults_of body) a.1))
+    where
+      by : (b : Bool) → nat_lt 0 j.statement ≡ true → are_numbered (faults_in test j) ≡ true → are_numbered (faults_in (cond b test (Both mask test)) j) ≡ true
+      by true l g = g
+      by false l g = subst (λ xs. are_numbered (xs ++ (rest_in mask j ++ rest_in test j)) ≡ true) (sym (flat-hoists (Both mask test) (flat-mask, flat-test)))
+          (numbered-both (rest_in mask j) (rest_in test j) (under-numbered j (rest_in mask j) l (rest-under mask j)) (under-numbered j (rest_in test j) l (rest-under test j)))
+
+  pub order-turned : IsFlat mask → IsFlat test → May → (place : Place) → begins k place mask inner && loop_in_order k mask inner ≡ true → begins first_key place always other && loop_in_order first_key always other ≡ true
+  order-turned flat-mask flat-test m place h =
+      let a = both-true (begins k place mask inner) (loop_in_order k mask inner) h in
+      let b = both-true (leads k place inner) (are_numbered (hoisted_in mask ++ faults_of inner) && (nat_lt 0 k.statement || cannot_fail mask)) a.0 in
+      let c = both-true (are_numbered (hoisted_in mask ++ faults_of inner)) (nat_lt 0 k.statement || cannot_fail mask) b.1 in
+      let d = both-true (in_order mask k) (body_in_order inner && lie_before (faults_in mask k) (faults_of inner)) a.1 in
+      let e = both-true (body_in_order inner) (lie_before (faults_in mask k) (faults_of inner)) d.1 in
+      first-stands [] false place always other refl refl (inner-turned flat-mask (both-true (hoists_in_order mask) (lie_before (hoisted_in mask) (rest_in mask k)) d.0).0 flat-test m e.0) (numbered-turned flat-mask flat-test (numbered-second (hoisted_in mask) (faults_of inner) c.0))
 
   -- the inner loop stands alone
-  pub alone : may_turn ds n mask j i test body ≡ true → shares ds n mask inner ≡ true → stands_alone ds (pushed_properties n body) n body ≡ true
-  alone m h =
-      let f = may m in
+  pub alone : May → shares ds n mask inner ≡ true → stands_alone ds (pushed_properties n body) n body ≡ true
+  alone f h =
       let a = both-true _ _ h in
       let b = both-true _ _ a.1 in
       let d = both-true (all_agree RN) (inner_shares ds n test body && targets_alike body) b.1 in
@@ -208,12 +224,12 @@ module _ (ds : List Declaration) (n : ℕ) (k : Key) (mask : Expr) (j : Key) (he
       (and-true (all_one RN) (targets_alike body && not (is_in own n)) f.one (and-true (targets_alike body) (not (is_in own n)) e.1 (off (is_in own n) refl f)))
     where
       off : (b : Bool) → is_in own n ≡ b → May → not b ≡ true
-      off true e f = absurd (disjoint-apart (touched body) (n ∷ (t ∷ read_anywhere (reads_in mask))) n f.filter_kept (written-touched ds n t body n (found own n e)) (inl refl))
+      off true e f = absurd (disjoint-apart (touched body) (n ∷ (t ∷ (read_anywhere (reads_in mask) ++ told_in mask))) n f.kept (written-touched ds n t body n (found own n e)) (inl refl))
       off false e f = refl
 
   -- the iterations of the turned loop share what ends with it alone
-  pub share-turned : (its : List ℕ) (edge : Bool) → is_mask n mask ≡ true → is_inner_body ds its edge body ≡ true → avoids t body ≡ true → may_turn ds n mask j i test body ≡ true → shares ds n mask inner ≡ true → shares ds t always other ≡ true
-  share-turned its edge mask-is inner-body away m h =
+  pub share-turned : (its : List ℕ) (edge : Bool) → is_inner_body ds its edge body ≡ true → avoids t body ≡ true → May → shares ds n mask inner ≡ true → shares ds t always other ≡ true
+  share-turned its edge inner-body away f h =
       and-true (disjoint (shared_in RT) (read_anywhere (reads_in filter ++ (sights_of ds t true body).properties) ++ ((t ∷ (told_in filter ++ (sights_of ds t true body).scalars)) ++ written ds t true body))) _
       (apart-disjoint _ _ quiet)
       (and-true (disjoint (written ds t true body ++ kept_in RT) (read_elsewhere t (reads_in filter ++ (sights_of ds t true body).properties))) _
@@ -222,9 +238,6 @@ module _ (ds : List Declaration) (n : ℕ) (k : Key) (mask : Expr) (j : Key) (he
       (and-true (inner_shares ds t filter body) (targets_alike body)
       (and-true (disjoint (kept_in RT) (read_at t (reads_in filter ++ (sights_of ds t true body).properties) ++ (told_in filter ++ (sights_of ds t true body).scalars))) (all_last_one_way RT) (apart-disjoint _ _ (λ y i l. keeps-nothing y i)) (last-like RN RT (like ds n t body) f.one)) e.1)))
     where
-      f : May
-      f = may m
-
       a : (disjoint (shared_in RN) (read_anywhere (reads_in mask ++ (reads_in test ++ S.properties)) ++ ((told_in mask ++ (i.owner ∷ (told_in test ++ S.scalars))) ++ own)) ≡ true)
           × (disjoint (own ++ kept_in RN) (read_elsewhere n (reads_in mask ++ (reads_in test ++ S.properties))) && (all_agree RN && (inner_shares ds n test body && targets_alike body)) ≡ true)
       a = both-true _ _ h
@@ -248,11 +261,11 @@ module _ (ds : List Declaration) (n : ℕ) (k : Key) (mask : Expr) (j : Key) (he
       keeps-nothing y q = let r = kept-out RT y q in (comes-of r.0 r.1).none_kept y r.2
 
       -- what is touched is no iterator, and not read by the saved filter
-      untouched : (y : ℕ) → IsIn y (touched body) → (y ≡ n) ⊎ ((y ≡ t) ⊎ IsIn y (read_anywhere (reads_in mask))) → ⊥
-      untouched y q c = disjoint-apart (touched body) (n ∷ (t ∷ read_anywhere (reads_in mask))) y f.filter_kept q c
+      untouched : (y : ℕ) → IsIn y (touched body) → (y ≡ n) ⊎ ((y ≡ t) ⊎ IsIn y (read_anywhere (reads_in mask) ++ told_in mask)) → ⊥
+      untouched y q c = disjoint-apart (touched body) (n ∷ (t ∷ (read_anywhere (reads_in mask) ++ told_in mask))) y f.kept q c
 
       by-mask : (y : ℕ) (r : Read) → IsIn y (touched body) → IsIn r (reads_in mask) → y ≡ r.property → ⊥
-      by-mask y r q l s = untouched y q (inr (inr (subst (λ z. IsIn z (read_anywhere (reads_in mask))) (sym s) (anywhere-member (reads_in mask) r l))))
+      by-mask y r q l s = untouched y q (inr (inr (in-left y (read_anywhere (reads_in mask)) (told_in mask) (subst (λ z. IsIn z (read_anywhere (reads_in mask))) (sym s) (anywhere-member (reads_in mask) r l)))))
 
       plain : (r : Read) → IsIn r (sights_of ds t true body).properties → IsIn r S.properties
       plain r l = subst (λ (z : Sights). IsIn r z.properties) (sights-same ds n t body) l
@@ -304,7 +317,7 @@ module _ (ds : List Declaration) (n : ℕ) (k : Key) (mask : Expr) (j : Key) (he
       names-off : (y : ℕ) → IsIn y (touched body) → IsIn y (shared_in RN) ⊎ IsIn y (kept_in RN) → IsIn y (told_in filter ++ (sights_of ds t true body).scalars) → ⊥
       names-off y q c l =
           ⊎_elim
-          (λ p. ⊎_elim (λ u. untouched y q (inl (mask-told n mask mask-is y u))) (λ u. told-off y q c (in-left y (told_in test) S.scalars u)) (joined-told mask test y p))
+          (λ p. ⊎_elim (λ u. untouched y q (inr (inr (in-right y (read_anywhere (reads_in mask)) (told_in mask) u)))) (λ u. told-off y q c (in-left y (told_in test) S.scalars u)) (joined-told mask test y p))
           (λ p. told-off y q c (in-right y (told_in test) S.scalars (subst (λ (z : Sights). IsIn y z.scalars) (sights-same ds n t body) p))) (in-either y (told_in filter) (sights_of ds t true body).scalars l)
 
       quiet : (y : ℕ) → IsIn y (shared_in RT) → IsIn y (read_anywhere (reads_in filter ++ (sights_of ds t true body).properties) ++ ((t ∷ (told_in filter ++ (sights_of ds t true body).scalars)) ++ written ds t true body)) → ⊥
@@ -329,3 +342,52 @@ module _ (ds : List Declaration) (n : ℕ) (k : Key) (mask : Expr) (j : Key) (he
           (λ u. disjoint-apart own (read_anywhere (reads_in test ++ S.properties) ++ kept_in RN) y f.locals w
           (in-left y (read_anywhere (reads_in test ++ S.properties)) (kept_in RN) (subst (λ z. IsIn z (read_anywhere (reads_in test ++ S.properties))) (sym s.2) (anywhere-member (reads_in test ++ S.properties) s.0 u)))) (read-from s.0 s.1))
           (λ p. keeps-nothing y p) (in-either y (written ds t true body) (kept_in RT) q)
+
+  -- the turned inner loop is one along edges too
+  pub edge-turned : (its : List ℕ) (edge : Bool) → is_inner_body ds its edge body ≡ true → avoids t body ≡ true → May → is_edge_loop ds t always j (flipped_head n i) filter body ≡ true
+  edge-turned its edge inner-body away f =
+      and-true (knows_no_locals ds t n always filter body) _
+      (and-true (list_all (is_no_local ds (t ∷ n ∷ [])) (told_in filter ++ (sights_of ds t true body).scalars)) (spares_locals ds body) (all-passes (told_in filter ++ (sights_of ds t true body).scalars) (λ y i. no-local y (from y i))) f.spares)
+      (and-true (mask_stays t always j (flipped_head n i) body) _
+      (and-true (disjoint (touched body) (t ∷ (n ∷ []))) (true && lie_before [] (faults_of body)) (apart-disjoint (touched body) (t ∷ (n ∷ [])) (λ y q c. ⊎_elim (λ (e : y ≡ t). ends y q (inr (inl e))) (λ o. ⊎_elim (λ (e : y ≡ n). ends y q (inl e)) (λ z. absurd z) o) c)) (nothing-before (faults_of body)))
+      (and-true (has_plain_locals ds t filter body) (all_one RT && adds_last (t ∷ n ∷ []) body) (apart-disjoint (written ds t true body) (read_anywhere (reads_in filter ++ (sights_of ds t true body).properties) ++ kept_in RT) plain-locals)
+      (and-true (all_one RT) (adds_last (t ∷ n ∷ []) body) (one-like RN RT (like ds n t body) f.one) (adds-same (n ∷ t ∷ []) (t ∷ n ∷ []) swapped body ∙ f.last))))
+    where
+      ends : (y : ℕ) → IsIn y (touched body) → (y ≡ n) ⊎ ((y ≡ t) ⊎ IsIn y (read_anywhere (reads_in mask) ++ told_in mask)) → ⊥
+      ends y q c = disjoint-apart (touched body) (n ∷ (t ∷ (read_anywhere (reads_in mask) ++ told_in mask))) y f.kept q c
+
+      swapped : (x : ℕ) → is_in (t ∷ n ∷ []) x ≡ is_in (n ∷ t ∷ []) x
+      swapped x = by (nat_eq x t) (nat_eq x n)
+        where
+          by : (a b : Bool) → a || (b || false) ≡ b || (a || false)
+          by true true = refl
+          by true false = refl
+          by false true = refl
+          by false false = refl
+
+      from : (y : ℕ) → IsIn y (told_in filter ++ (sights_of ds t true body).scalars) → IsIn y (told_in mask ++ (told_in test ++ S.scalars))
+      from y l =
+          ⊎_elim
+          (λ p. ⊎_elim (λ u. in-left y (told_in mask) (told_in test ++ S.scalars) u) (λ u. in-right y (told_in mask) (told_in test ++ S.scalars) (in-left y (told_in test) S.scalars u)) (joined-told mask test y p))
+          (λ p. in-right y (told_in mask) (told_in test ++ S.scalars) (in-right y (told_in test) S.scalars (subst (λ (z : Sights). IsIn y z.scalars) (sights-same ds n t body) p))) (in-either y (told_in filter) (sights_of ds t true body).scalars l)
+
+      no-local : (y : ℕ) → IsIn y (told_in mask ++ (told_in test ++ S.scalars)) → is_no_local ds (t ∷ n ∷ []) y ≡ true
+      no-local y l = ap (λ b. b || not (nat_eq (depth_at ds y) 1)) (swapped y) ∙ passes-in (is_no_local ds (n ∷ t ∷ [])) (told_in mask ++ (told_in test ++ S.scalars)) y f.told l
+
+      plain-locals : (y : ℕ) → IsIn y (written ds t true body) → IsIn y (read_anywhere (reads_in filter ++ (sights_of ds t true body).properties) ++ kept_in RT) → ⊥
+      plain-locals y p l =
+          let w = subst (IsIn y) (written-same ds n t body) p in
+          ⊎_elim
+          (λ q.
+          let s = anywhere-out (reads_in filter ++ (sights_of ds t true body).properties) y q in
+          ⊎_elim
+          (λ m. ⊎_elim
+          (λ u. ends y (written-touched ds n t body y w) (inr (inr (in-left y (read_anywhere (reads_in mask)) (told_in mask) (subst (λ z. IsIn z (read_anywhere (reads_in mask))) (sym s.2) (anywhere-member (reads_in mask) s.0 u))))))
+          (λ u. off y w (subst (λ z. IsIn z (read_anywhere (reads_in test ++ S.properties))) (sym s.2) (anywhere-member (reads_in test ++ S.properties) s.0 (in-left s.0 (reads_in test) S.properties u)))) (joined-reads mask test s.0 m))
+          (λ m. off y w (subst (λ z. IsIn z (read_anywhere (reads_in test ++ S.properties))) (sym s.2) (anywhere-member (reads_in test ++ S.properties) s.0 (in-right s.0 (reads_in test) S.properties (subst (λ (z : Sights). IsIn s.0 z.properties) (sights-same ds n t body) m)))))
+          (in-either s.0 (reads_in filter) (sights_of ds t true body).properties s.1))
+          (λ q. let r = kept-out RT y q in (comes ds n t its edge body inner-body away f.spares r.0 r.1).none_kept y r.2)
+          (in-either y (read_anywhere (reads_in filter ++ (sights_of ds t true body).properties)) (kept_in RT) l)
+        where
+          off : (y : ℕ) → IsIn y own → IsIn y (read_anywhere (reads_in test ++ S.properties)) → ⊥
+          off y w q = disjoint-apart own (read_anywhere (reads_in test ++ S.properties) ++ kept_in RN) y f.locals w (in-left y (read_anywhere (reads_in test ++ S.properties)) (kept_in RN) q)

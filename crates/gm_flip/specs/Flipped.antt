@@ -7,6 +7,7 @@ use Rattle.gm_ast.specs.declared.tree.Head.{Head}
 use Rattle.gm_ast.specs.declared.tree.Key.{Key}
 use Rattle.gm_ast.specs.Program.{Expr, Const, always, Both, Stmt, Then, Foreach, For, If, While, Do, Program}
 use Rattle.gm_forms.specs.Flip.{flipped_head}
+use Rattle.gm_forms.specs.Order.{first_key}
 use Rattle.gm_flip.specs.Pulling.{pulls}
 
 -- whether a value is True
@@ -27,10 +28,10 @@ joined mask test = if is_always mask then test else Both mask test
 abbrev pub with_iterator : ℕ → Head → Head
 with_iterator t h = record h { iterator = t }
 
--- the loop of the other end of an inner loop, one iteration for each edge: the inner iterator goes over all nodes, and the outer one over their neighbours against the range, where both filters let it pass. The body stays as it is
+-- the loop of the other end of an inner loop, one iteration for each edge: the inner iterator goes over all nodes, and the outer one over their neighbours against the range, where both filters let it pass. The body stays as it is. The loop over all nodes has no filter, and so the key before all others
 abbrev pub turned : Key → Place → Head → Expr → Stmt → Stmt
 turned k at h mask (Foreach j here i test body) =
-    Foreach k at (with_iterator i.iterator h) always (Foreach j here (flipped_head h.iterator i) (joined mask test) body)
+    Foreach first_key at (with_iterator i.iterator h) always (Foreach j here (flipped_head h.iterator i) (joined mask test) body)
 turned k at h mask s = Foreach k at h mask s
 
 -- a loop over all nodes: one that pulls is turned, and all others stay

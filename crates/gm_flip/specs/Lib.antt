@@ -1,3 +1,2 @@
 pub mod Pulling
 pub mod Flipped
-pub mod Turning

@@ -7,21 +7,19 @@ ghost use Rattle.gm_forms.specs.Flip as Flip;
 ghost use Rattle.gm_forms.specs.Passes.{Pass};
 ghost use Rattle.gm_forms.specs.Ready.{Ready3, Ready4};
 ghost use Rattle.gm_flip.specs.Flipped as Flipped;
-ghost use Rattle.gm_flip.specs.Turning.{can_flip};
 
 use crate::pulling::pulls;
 use gm_ast::forms::Work;
-use gm_ast::tree::{Domain, Expr, Head, Key, Stmt, Tree};
+use gm_ast::tree::{Domain, Expr, Head, Key, Stage, Stmt, Tree};
 use gm_base::{NoMemory, Place};
 use gm_value::Value;
 use std::alloc::{AllocError, Global};
 
-/// Turns each loop that pulls into the loop of its other end. A cut program whose loops that pull can be turned means the
-/// same, and each of its loops is then evaluated at its outer node, or at the node that a message from there reaches. It
-/// takes time linear in the tree.
+/// Turns each loop that pulls into the loop of its other end. A cut program means the same, and each of its loops is then
+/// evaluated at its outer node, or at the node that a message from there reaches. It takes time linear in the tree.
 pub fn flip(alloc: Global, program: Work) -> Result<Work, NoMemory>
     ensures made { IfOk result (λ r. program_of r ≡ Flipped.without_pulls (program_of program)) }
-    ensures passes { IfOk result (λ r. can_flip (program_of program) ≡ true → Pass Ready3 Ready4 (program_of program) (program_of r)) }
+    ensures passes { IfOk result (λ r. Pass Ready3 Ready4 (program_of program) (program_of r)) }
 {
     let tree = program.into_tree();
     let body = flip_phase(alloc, tree.body)?;
@@ -148,9 +146,13 @@ fn turn(
                 iterator: inner.iterator,
                 ..head
             };
+            let first = Key {
+                statement: 0,
+                stage: Stage::Inner,
+            };
             loop_of(
                 alloc,
-                key,
+                first,
                 place,
                 head,
                 Expr::Const(Value::Flag(true)),

@@ -21,11 +21,12 @@ use Rattle.gm_semantics.specs.Expressions.{Answer, settled, plain, both, one_of,
 use Rattle.gm_semantics.specs.Iterations.{Loop, Iteration, begun, unless_failed, go_on, with_ok, one_way, as_it_is, Outermost, view_in, does}
 use Rattle.gm_semantics.specs.Loops.{iteration, loop_done}
 use Rattle.gm_semantics.specs.Frames.{Agree, ReadsBelow, NamesBelow}
+use Rattle.gm_forms.specs.Cut.{touched}
 use Rattle.gm_forms.specs.Fission.{Knows, can_cut}
 use Rattle.gm_forms.proofs.Named.{both-true}
 use Rattle.gm_forms.proofs.Weaker.{and-true}
 use Rattle.gm_forms.proofs.CutLaws.{fission-holds}
-use Rattle.gm_loop_laws.specs.Masks.{looped, in_turn, touched, is_certain, spares, is_stable, ConditionsPart}
+use Rattle.gm_loop_laws.specs.Masks.{looped, in_turn, is_certain, spares, is_stable, ConditionsPart}
 use Rattle.gm_loop_laws.proofs.Joins.{map-each}
 use Rattle.gm_loop_laws.proofs.Alone.{nodes-below}
 use Rattle.gm_loop_laws.proofs.Kept.{touched-below, body-did}

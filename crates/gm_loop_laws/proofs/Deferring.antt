@@ -31,6 +31,7 @@ use Rattle.gm_semantics.specs.Laws.{IsAt, Away}
 use Rattle.gm_semantics.specs.Frames.{Agree, ReadsBelow, NamesBelow, SlotBelow, GivesBelow, Alike}
 use Rattle.gm_semantics.proofs.ExpressionFrames.{agree-write, evaluated-frame}
 use Rattle.gm_semantics.proofs.BodyFrames.{does-alike}
+use Rattle.gm_forms.specs.Cut.{touched}
 use Rattle.gm_forms.specs.Forms.{is_flat, is_outer_body}
 use Rattle.gm_forms.specs.Sharing.{deferred}
 use Rattle.gm_forms.specs.Fission.{is_nil}
@@ -40,7 +41,6 @@ use Rattle.gm_forms.proofs.Doings.{in-either, each-in}
 use Rattle.gm_forms.proofs.Targets.{each-slot}
 use Rattle.gm_forms.proofs.Takings.{filter-append}
 use Rattle.gm_forms.proofs.ReadingFrames.{read-write, edge-write}
-use Rattle.gm_loop_laws.specs.Masks.{touched}
 use Rattle.gm_loop_laws.specs.Deferring.{undeferred_to, undeferred, only_defers}
 use Rattle.gm_loop_laws.proofs.Kept.{touched-below, Touch, body-did}
 use Rattle.gm_loop_laws.proofs.Masks.{outer-held, not-in}

@@ -36,7 +36,7 @@ use Rattle.gm_loop_laws.proofs.LoopEnds.{in-joined}
 use Rattle.gm_loop_laws.proofs.Alone.{nodes-below}
 use Rattle.gm_loop_laws.proofs.Masks.{alike-trans, loop-same, outer-held, start, start-held, seen}
 use Rattle.gm_loop_laws.proofs.Endings.{done-alike}
-use Rattle.gm_loop_laws.proofs.Setting.{put, sets, put-there, put-other, put-outside}
+use Rattle.gm_loop_laws.proofs.Setting.{put, sets, any-keys, put-there, put-other, put-outside}
 use Rattle.gm_loop_laws.proofs.Deferring.{other, overlaid-edge, overlaid-base, overlaid-away, overlaid-rest, overlaid-none, written-away, written-at, Delayed, delayed-iteration}
 
 -- a property of the node in the iterator
@@ -244,3 +244,7 @@ module _ (j : ℕ) (ds : List Declaration) (loop : Loop) (p q : ℕ) (key : Key)
 pub defers-move : DefersMove
 defers-move = λ j ds loop p q key at test body iterates named fresh reads names form alone s t agree.
     alike-trans j (looped loop key test body s) (looped loop key test body t) _ (loop-same j loop key test body reads names s t agree) (moves j ds loop p q key at test body iterates named fresh reads names form alone t)
+
+-- a loop that copies a property to another does the same under any keys
+pub copies-any : (loop : Loop) (first next key : Key) (p q : ℕ) (at : Place) → looped loop first always (Assign next (T.Property loop.outer q at) (Property loop.outer p at)) ≡ looped loop key always (Assign key (T.Property loop.outer q at) (Property loop.outer p at))
+copies-any loop first next key p q at = fun_ext (λ t. any-keys loop first next key q at (Property loop.outer p at) t (t.node p) (λ k. property-known loop k p at t))

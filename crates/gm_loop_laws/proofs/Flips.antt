@@ -1,9 +1,10 @@
--- An inner loop that stands alone is the loop of its other end, and may end its reductions anywhere.
+-- An inner loop that stands alone under a filter that cannot fault is the loop of its other end.
 use Rattle.std.proofs.Common.{◌≡◌, ℕ, Bool, true, false, cond, List, [], ◌∷◌, ◌++◌, map, refl, sym, ap, subst, ◌∙◌, append-nil, Option, Some, Ok}
-use Rattle.std.specs.Prelude.{◌&&◌, not, nat_eq}
+use Rattle.std.specs.Prelude.{◌&&◌, ◌||◌, not, nat_eq}
 use Rattle.std.proofs.Math.Path.{fun_ext}
 use Rattle.std.proofs.lemmas.Bool.{eqb-true, eq-eqb, both_ways}
 use Rattle.gm_base.specs.declared.places.Place.{Place}
+use Rattle.gm_value.specs.declared.values.Value.{Value}
 use Rattle.gm_value.specs.declared.values.Value.TheVariants.{At}
 use Rattle.gm_value.specs.Bag.{IsIn, SameBag}
 use Rattle.gm_value.proofs.BagLaws.{SameBag-map, SameBag-sym}
@@ -13,38 +14,42 @@ use Rattle.gm_ast.specs.declared.tree.Domain.{Domain}
 use Rattle.gm_ast.specs.declared.tree.Domain.TheVariants.{Nodes, OutNbrs, InNbrs, UpNbrs, DownNbrs}
 use Rattle.gm_ast.specs.declared.tree.Head.{Head}
 use Rattle.gm_ast.specs.declared.tree.Key.{Key}
-use Rattle.gm_ast.specs.Program.{Expr, always, Property, Both, Stmt, Foreach}
+use Rattle.gm_ast.specs.Program.{Expr, always, Both, Stmt, Foreach, Property}
 use Rattle.gm_ast.specs.Ways.{is_in}
 use Rattle.gm_semantics.specs.declared.faults.Fault.{Fault}
 use Rattle.gm_semantics.specs.declared.slots.Slot.TheVariants.{Scalar}
 use Rattle.gm_semantics.specs.Stores.{Store, write}
 use Rattle.gm_semantics.specs.Levels.{nodes}
 use Rattle.gm_semantics.specs.Faults.{least, somes, joined, unless_fault}
-use Rattle.gm_semantics.specs.Expressions.{value}
+use Rattle.gm_semantics.specs.Expressions.{evaluated, value, plain}
 use Rattle.gm_semantics.specs.Contributions.{Contribution, settled_store, total_faults}
-use Rattle.gm_semantics.specs.Iterations.{Loop, Iteration, begun, with_ok, one_way, as_it_is, Outermost, AtEdge, view_in, inner_done, turn_at, does}
+use Rattle.gm_semantics.specs.Iterations.{Loop, Mode, Iteration, begun, with_ok, one_way, as_it_is, Outermost, AtEdge, view_in, inner_done, turn_at, does}
 use Rattle.gm_semantics.specs.Laws.{OneReduction}
 use Rattle.gm_semantics.specs.Loops.{iteration, parallel}
 use Rattle.gm_semantics.proofs.LeastLaws.{least-same}
 use Rattle.gm_semantics.proofs.ContributionLaws.{somes-same, settled_store-same, total_faults-same}
 use Rattle.gm_semantics.proofs.OrderLaws.{joined-same}
 use Rattle.gm_semantics.proofs.TargetLaws.{never}
-use Rattle.gm_forms.specs.Forms.{depth_at, is_range, is_flat, is_inner_body, is_inner_head, is_outer_body, avoids}
+use Rattle.gm_forms.specs.Cut.{spares_locals}
+use Rattle.gm_forms.specs.Forms.{depth_at, is_range, is_inner_body, avoids, is_flat, is_inner_head, is_outer_body}
 use Rattle.gm_forms.specs.Flip.{reversed, flipped_head}
 use Rattle.gm_forms.specs.Doing.{EachGiven, IsFlat}
 use Rattle.gm_value.specs.Operations.{is_true}
-use Rattle.gm_forms.proofs.CutTests.{not-true}
-use Rattle.gm_forms.proofs.Named.{both-true}
 use Rattle.gm_forms.proofs.Doings.{each-in}
-use Rattle.gm_loop_laws.specs.Alone.{spares_locals, EndsAnywhere, Flipping}
 use Rattle.gm_loop_laws.proofs.Joins.{map-append, map-compose, map-each, joined-append, filter-whole, filter-nothing}
 use Rattle.gm_loop_laws.proofs.Settling.{somes-append}
 use Rattle.gm_loop_laws.proofs.Edges.{flipped-bag}
 use Rattle.gm_loop_laws.proofs.LoopEnds.{in-joined, loop-ends}
 use Rattle.gm_loop_laws.proofs.Locals.{least-parts}
 use Rattle.gm_loop_laws.proofs.Splits.{is_late_slot, split}
-use Rattle.gm_loop_laws.proofs.Givens.{flat, one-given}
-use Rattle.gm_loop_laws.proofs.Alone.{at_outer, is_kept, out_kept, out_kept_faults, out-by, along, gives, faults, steps-at, nodes-below, Stands, stands, avoided-ends-so, ended, ended-store, ended-outermost, ended-fault, at_both, turn-split, turn_at_edge, turn-given, each-gives, By, RD, out_gives, out_faults, out-one, pulled}
+use Rattle.gm_loop_laws.proofs.Givens.{one-given, flat}
+use Rattle.gm_loop_laws.proofs.Alone.{along, gives, faults, steps-at, nodes-below, Stands, avoided-ends-so, ended, ended-store, ended-outermost, ended-fault, stands}
+use Rattle.gm_loop_laws.proofs.MaskValues.{mask_value, mask-held, saved-held}
+use Rattle.gm_loop_laws.proofs.Masked.{at_outer, is_kept, out_kept, out_kept_faults, out-by, at_both, turn-split, turn_at_edge, turn-given, each-gives, By, RD, out_gives, out_faults, out-one, pulled}
+use Rattle.gm_forms.proofs.CutTests.{not-true}
+use Rattle.gm_forms.proofs.Named.{both-true}
+use Rattle.gm_loop_laws.specs.Alone.{EndsAnywhere, Flipping}
+use Rattle.gm_forms.specs.Sharing.{told_in}
 
 -- what turns give, gathered from all of them
 pub given-all : (G : Iteration → List Contribution) (f : ℕ → Step → Iteration) (S : ℕ → List Step) (ks : List ℕ) → joined (map (λ x. joined (map (λ e. G (f x e)) (S x))) ks) ≡ joined (map G (joined (map (λ x. map (f x) (S x)) ks)))
@@ -84,7 +89,7 @@ each-weaken Q R f [] h = tt
 each-weaken Q R f (c ∷ cs) h = (f c h.0, each-weaken Q R f cs h.1)
 
 module _ (ds : List Declaration) (some : List ℕ) (loop : Loop) (depths : (y : ℕ) → loop.depth y ≡ depth_at ds y) (known : (p : ℕ) → is_in some p ≡ true → loop.pushed p ≡ true)
-    (m : ℕ) (key k : Key) (at here there : Place) (h : Head) (test : Expr) (body : Stmt) (s : Store) (apart : nat_eq h.iterator loop.outer ≡ false) (owner : h.owner ≡ loop.outer) (range : is_range false h.domain ≡ true)
+    (mask : Expr) (held : ℕ → Value) (key k : Key) (here there : Place) (h : Head) (test : Expr) (body : Stmt) (s : Store) (saved : (x : ℕ) → IsIn x (nodes loop.graph) → (mode : Mode) (it : Iteration) (j : Key) → it.store.scalar loop.outer ≡ At (Some x) → it.store.node ≡ s.node → ((y : ℕ) → nat_eq loop.outer y ≡ false → nat_eq h.iterator y ≡ false → it.store.scalar y ≡ s.scalar y) → evaluated mask (view_in loop mode it j) ≡ plain (Ok (held x))) (apart : nat_eq h.iterator loop.outer ≡ false) (owner : h.owner ≡ loop.outer) (range : is_range false h.domain ≡ true)
     (flat-test : IsFlat test) (its : List ℕ) (inner-body : is_inner_body ds its true body ≡ true) (alone : Stands ds some loop.outer body)
     (others : ℕ → Bool) (away : avoids h.iterator body ≡ true) (spares : spares_locals ds body ≡ true) (is : IsGraph loop.graph) where
   abbrev n : ℕ
@@ -103,13 +108,13 @@ module _ (ds : List Declaration) (some : List ℕ) (loop : Loop) (depths : (y : 
   every p = true
 
   abbrev edge_turn : ℕ → ℕ → ℕ → Iteration
-  edge_turn x y e = turn_at_edge ds some loop depths known m key k at here h test body s apart owner range flat-test its inner-body alone x y e
+  edge_turn x y e = turn_at_edge ds some loop depths known mask held key k here h test body s saved apart owner range flat-test its inner-body alone x y e
 
   abbrev other : Loop
   other = record loop { outer = t; pushed = others }
 
   abbrev filter' : Expr
-  filter' = Both (Property n m at) test
+  filter' = Both mask test
 
   abbrev flipped : Stmt
   flipped = Foreach k there (flipped_head n h) filter' body
@@ -121,7 +126,7 @@ module _ (ds : List Declaration) (some : List ℕ) (loop : Loop) (depths : (y : 
   inner-held y = ap (λ b. cond b (At (Some y)) (s.scalar t)) (eq-eqb t t refl)
 
   -- the two iterators are written in either order
-  commute : (x y : ℕ) → write (at_inner y) (Scalar n) (At (Some x)) ≡ at_both loop m key k at h test body s apart x y
+  commute : (x y : ℕ) → write (at_inner y) (Scalar n) (At (Some x)) ≡ at_both loop mask held key k h test body s saved apart x y
   commute x y = ap (λ f. record s { scalar = f }) (fun_ext (λ z. by z (nat_eq n z) (nat_eq t z) refl refl))
     where
       by : (z : ℕ) (b c : Bool) → nat_eq n z ≡ b → nat_eq t z ≡ c → cond b (At (Some x)) (cond c (At (Some y)) (s.scalar z)) ≡ cond c (At (Some y)) (cond b (At (Some x)) (s.scalar z))
@@ -143,7 +148,7 @@ module _ (ds : List Declaration) (some : List ℕ) (loop : Loop) (depths : (y : 
   in_all = joined (map in_gives ks)
 
   abbrev given_by : ℕ → Contribution → Type 0
-  given_by x c = By ds some loop depths known m key k at here h test body s apart owner range flat-test its inner-body alone x c
+  given_by x c = By ds some loop depths known mask held key k here h test body s saved apart owner range flat-test its inner-body alone x c
 
   abbrev Some_by : Contribution → Type 0
   Some_by c = (x : ℕ) × given_by x c
@@ -151,8 +156,8 @@ module _ (ds : List Declaration) (some : List ℕ) (loop : Loop) (depths : (y : 
   in-by : (y : ℕ) (c : Contribution) → IsIn c (in_gives y) → Some_by c
   in-by y c i =
       each-in Some_by (in_gives y) c
-      (each-gives ds some loop depths known m key k at here h test body s apart owner range flat-test its inner-body alone Some_by (in_turn y) (along (reversed h.domain) g y)
-      (λ e. each-weaken (given_by e.node) Some_by (λ c q. (e.node, q)) (in_turn y e).with_outermost (turn-given ds some loop depths known m key k at here h test body s apart owner range flat-test its inner-body alone e.node y e.edge))) i
+      (each-gives ds some loop depths known mask held key k here h test body s saved apart owner range flat-test its inner-body alone Some_by (in_turn y) (along (reversed h.domain) g y)
+      (λ e. each-weaken (given_by e.node) Some_by (λ c q. (e.node, q)) (in_turn y e).with_outermost (turn-given ds some loop depths known mask held key k here h test body s saved apart owner range flat-test its inner-body alone e.node y e.edge))) i
 
   abbrev run_other : ℕ → Iteration
   run_other y = iteration other key always flipped s y
@@ -160,7 +165,7 @@ module _ (ds : List Declaration) (some : List ℕ) (loop : Loop) (depths : (y : 
   turn-other : (y : ℕ) (e : Step) → turn_at other (AtEdge e.edge) k filter' (does body (AtEdge e.edge) other) n e.node (at_inner y) ≡ split loop t others every (in_turn y e)
   turn-other y e =
       ap (λ st. with_ok (begun st) (value filter' (view_in loop (AtEdge e.edge) (begun st) k)) (λ v. one_way (is_true v) (does body (AtEdge e.edge) other) as_it_is (begun st))) (commute e.node y)
-      ∙ turn-split loop m key k at h test body s apart t others every (avoided-ends-so loop t others body away) (at_both loop m key k at h test body s apart e.node y) e.edge (value filter' (view_in loop (AtEdge e.edge) (begun (at_both loop m key k at h test body s apart e.node y)) k))
+      ∙ turn-split loop mask held key k h test body s saved apart t others every (avoided-ends-so loop t others body away) (at_both loop mask held key k h test body s saved apart e.node y) e.edge (value filter' (view_in loop (AtEdge e.edge) (begun (at_both loop mask held key k h test body s saved apart e.node y)) k))
 
   run-other : (y : ℕ) → IsIn y ks → run_other y ≡ ended loop t others every (at_inner y) (in_turn y) (along (reversed h.domain) g y)
   run-other y i =
@@ -179,7 +184,7 @@ module _ (ds : List Declaration) (some : List ℕ) (loop : Loop) (depths : (y : 
             let q = in-joined d in_gives ks j in
             let u = in-by p.0 c p.2 in
             let v = in-by q.0 d q.2 in
-            one-given ds loop depths some loop.pushed known (RD ds some loop depths known m key k at here h test body s apart owner range flat-test its inner-body alone) (spares_locals ds body ≡ true) alone.one u.0 v.0 c d slot u.1 v.1 a b;
+            one-given ds loop depths some loop.pushed known (RD ds some loop depths known mask held key k here h test body s saved apart owner range flat-test its inner-body alone) (spares_locals ds body ≡ true) alone.one u.0 v.0 c d slot u.1 v.1 a b;
         begins = λ y. refl;
       })
       run_other
@@ -191,26 +196,26 @@ module _ (ds : List Declaration) (some : List ℕ) (loop : Loop) (depths : (y : 
       })
 
   abbrev outs_faults : ℕ → List Fault
-  outs_faults x = out_faults ds some loop depths known m key k at here h test body s apart owner range flat-test its inner-body alone x
+  outs_faults x = out_faults ds some loop depths known mask held key k here h test body s saved apart owner range flat-test its inner-body alone x
 
   abbrev outs_gives : ℕ → List Contribution
-  outs_gives x = out_gives ds some loop depths known m key k at here h test body s apart owner range flat-test its inner-body alone x
+  outs_gives x = out_gives ds some loop depths known mask held key k here h test body s saved apart owner range flat-test its inner-body alone x
 
   abbrev outs : List Contribution
   outs = joined (map outs_gives ks)
 
-  kept : (x : ℕ) (c : Contribution) → IsIn c (outs_gives x) → is_kept ds some loop depths known m key k at here h test body s apart owner range flat-test its inner-body alone c ≡ true
-  kept x c i = (out-by ds some loop depths known m key k at here h test body s apart owner range flat-test its inner-body alone x c i).late spares
+  kept : (x : ℕ) (c : Contribution) → IsIn c (outs_gives x) → is_kept ds some loop depths known mask held key k here h test body s saved apart owner range flat-test its inner-body alone c ≡ true
+  kept x c i = (out-by ds some loop depths known mask held key k here h test body s saved apart owner range flat-test its inner-body alone x c i).late spares
 
   -- no local is reduced, so nothing is left out
-  pulled-whole : parallel loop key (Property n m at) (Foreach k here h test body) ks s ≡ unless_fault (least (joined (map outs_faults ks) ++ total_faults s outs)) (Ok (settled_store s outs))
+  pulled-whole : parallel loop key mask (Foreach k here h test body) ks s ≡ unless_fault (least (joined (map outs_faults ks) ++ total_faults s outs)) (Ok (settled_store s outs))
   pulled-whole =
-      pulled ds some loop depths known m key k at here h test body s apart owner range flat-test its inner-body alone
-      ∙ ap (λ l. unless_fault (least (joined l ++ total_faults s (joined (map (out_kept ds some loop depths known m key k at here h test body s apart owner range flat-test its inner-body alone) ks)))) (Ok (settled_store s (joined (map (out_kept ds some loop depths known m key k at here h test body s apart owner range flat-test its inner-body alone) ks)))))
-      (map-each (out_kept_faults ds some loop depths known m key k at here h test body s apart owner range flat-test its inner-body alone) outs_faults ks
-      (λ x i. ap (λ l. outs_faults x ++ total_faults (at_outer loop m key k at h test body s apart x) l) (filter-nothing (λ c. not (is_kept ds some loop depths known m key k at here h test body s apart owner range flat-test its inner-body alone c)) (outs_gives x) (λ c j. ap not (kept x c j))) ∙ append-nil (outs_faults x)))
+      pulled ds some loop depths known mask held key k here h test body s saved apart owner range flat-test its inner-body alone
+      ∙ ap (λ l. unless_fault (least (joined l ++ total_faults s (joined (map (out_kept ds some loop depths known mask held key k here h test body s saved apart owner range flat-test its inner-body alone) ks)))) (Ok (settled_store s (joined (map (out_kept ds some loop depths known mask held key k here h test body s saved apart owner range flat-test its inner-body alone) ks)))))
+      (map-each (out_kept_faults ds some loop depths known mask held key k here h test body s saved apart owner range flat-test its inner-body alone) outs_faults ks
+      (λ x i. ap (λ l. outs_faults x ++ total_faults (at_outer loop mask held key k h test body s saved apart x) l) (filter-nothing (λ c. not (is_kept ds some loop depths known mask held key k here h test body s saved apart owner range flat-test its inner-body alone c)) (outs_gives x) (λ c j. ap not (kept x c j))) ∙ append-nil (outs_faults x)))
       ∙ ap (λ l. unless_fault (least (joined (map outs_faults ks) ++ total_faults s (joined l))) (Ok (settled_store s (joined l))))
-      (map-each (out_kept ds some loop depths known m key k at here h test body s apart owner range flat-test its inner-body alone) outs_gives ks (λ x i. filter-whole (is_kept ds some loop depths known m key k at here h test body s apart owner range flat-test its inner-body alone) (outs_gives x) (kept x)))
+      (map-each (out_kept ds some loop depths known mask held key k here h test body s saved apart owner range flat-test its inner-body alone) outs_gives ks (λ x i. filter-whole (is_kept ds some loop depths known mask held key k here h test body s saved apart owner range flat-test its inner-body alone) (outs_gives x) (kept x)))
 
   turns : SameBag (joined (map (λ x. map (λ (e : Step). edge_turn x e.node e.edge) (along h.domain g x)) ks)) (joined (map (λ y. map (λ (e : Step). edge_turn e.node y e.edge) (along (reversed h.domain) g y)) ks))
   turns = bag-turns h.domain g edge_turn range is
@@ -231,10 +236,10 @@ module _ (ds : List Declaration) (some : List ℕ) (loop : Loop) (depths : (y : 
   one-outs c d slot i j a b =
       let p = in-joined c outs_gives ks i in
       let q = in-joined d outs_gives ks j in
-      out-one ds some loop depths known m key k at here h test body s apart owner range flat-test its inner-body alone c d p.0 q.0 p.2 q.2 slot a b
+      out-one ds some loop depths known mask held key k here h test body s saved apart owner range flat-test its inner-body alone c d p.0 q.0 p.2 q.2 slot a b
 
   -- the loop of the other end is the loop
-  pub flips : parallel other key always flipped ks s ≡ parallel loop key (Property n m at) (Foreach k here h test body) ks s
+  pub flips : parallel other key always flipped ks s ≡ parallel loop key mask (Foreach k here h test body) ks s
   flips =
       pushed
       ∙ ap (λ o. unless_fault o (Ok (settled_store s in_all)))
@@ -266,13 +271,14 @@ lone ds n k here h test body o =
 
 -- the law of flipped loops
 pub flipping-holds : Flipping
-flipping-holds = λ ds some loop others m key k at here there h test body s is knows o away spares alone.
+flipping-holds = λ ds some loop others key k here there h mask test body s is knows o masks out away spares alone.
     let l = lone ds loop.outer k here h test body o in
-    flips ds some loop knows.depth (λ p e. knows.pushed_is p ∙ e) m key k at here there h test body s l.apart l.owner l.range l.test_flat (loop.outer ∷ h.iterator ∷ []) l.inner (stands ds some loop.outer body alone) others away spares is
+    flips ds some loop knows.depth (λ p e. knows.pushed_is p ∙ e) mask (mask_value loop key mask s) key k here there h test body s (mask-held loop key h.iterator mask s masks (not-true (is_in (told_in mask) h.iterator) out)) l.apart l.owner l.range l.test_flat (loop.outer ∷ h.iterator ∷ []) l.inner (stands ds some loop.outer body alone) others away spares is
 
 -- and that of where reductions end
 pub ends-anywhere : EndsAnywhere
 ends-anywhere = λ ds some other loop others m key k at here h test body s knows knows_other o alone alone_other.
     let l = lone ds loop.outer k here h test body o in
-    pulled ds other (record loop { pushed = others }) knows_other.depth (λ p e. knows_other.pushed_is p ∙ e) m key k at here h test body s l.apart l.owner l.range l.test_flat (loop.outer ∷ h.iterator ∷ []) l.inner (stands ds other loop.outer body alone_other)
-    ∙ sym (pulled ds some loop knows.depth (λ p e. knows.pushed_is p ∙ e) m key k at here h test body s l.apart l.owner l.range l.test_flat (loop.outer ∷ h.iterator ∷ []) l.inner (stands ds some loop.outer body alone))
+    let n = loop.outer in
+    pulled ds other (record loop { pushed = others }) knows_other.depth (λ p e. knows_other.pushed_is p ∙ e) (Property n m at) (s.node m) key k here h test body s (saved-held (record loop { pushed = others }) h.iterator m at s) l.apart l.owner l.range l.test_flat (n ∷ h.iterator ∷ []) l.inner (stands ds other n body alone_other)
+    ∙ sym (pulled ds some loop knows.depth (λ p e. knows.pushed_is p ∙ e) (Property n m at) (s.node m) key k here h test body s (saved-held loop h.iterator m at s) l.apart l.owner l.range l.test_flat (n ∷ h.iterator ∷ []) l.inner (stands ds some n body alone))

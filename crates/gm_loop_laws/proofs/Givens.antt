@@ -24,6 +24,7 @@ use Rattle.gm_semantics.specs.Iterations.{Loop, AtEdge, contribution, ends_of_al
 use Rattle.gm_semantics.specs.Laws.{IsAt}
 use Rattle.gm_semantics.proofs.ContributionLaws.{has_first}
 use Rattle.gm_semantics.proofs.TargetLaws.{never}
+use Rattle.gm_forms.specs.Cut.{is_outer_local, spares_locals}
 use Rattle.gm_forms.specs.Forms.{depth_at, is_flat, is_inner_body}
 use Rattle.gm_forms.specs.Sharing.{Reduced, does_same, are_at_once, variables_of, written_at_once, written, reduced_by, all_reduced_by, reduced, disjoint, is_one, all_one, is_scalar, is_through, are_alike, targets_alike}
 use Rattle.gm_forms.specs.Fission.{elsewhere_of, pushed_properties}
@@ -32,7 +33,6 @@ use Rattle.gm_forms.proofs.Named.{both-true, all-append}
 use Rattle.gm_forms.proofs.Doings.{in-left, in-right}
 use Rattle.gm_forms.proofs.CutTests.{finds, not-true}
 use Rattle.gm_forms.proofs.ReadingFrames.{nat_eq-apart}
-use Rattle.gm_loop_laws.specs.Alone.{is_outer_local, spares_locals}
 use Rattle.gm_loop_laws.proofs.LoopEnds.{IsOwn}
 use Rattle.gm_loop_laws.proofs.Splits.{ends_late, is_deep, is_top, is_once, is_late_slot, ends_by, late-ends}
 

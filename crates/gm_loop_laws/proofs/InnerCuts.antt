@@ -5,6 +5,7 @@ use Rattle.std.specs.List.{list_any}
 use Rattle.std.proofs.lemmas.Bool.{cases_Bool, eq-eqb, both_ways}
 use Rattle.gm_base.specs.declared.places.Place.{Place}
 use Rattle.gm_value.specs.declared.values.Value.TheVariants.{At}
+use Rattle.gm_value.specs.declared.values.Value.{Value}
 use Rattle.gm_value.specs.Bag.{IsIn, SameBag}
 use Rattle.gm_value.proofs.BagLaws.{SameBag-append_left}
 use Rattle.gm_value.specs.Operations.{is_true}
@@ -31,6 +32,7 @@ use Rattle.gm_semantics.proofs.Leasts.{least-of_first}
 use Rattle.gm_semantics.specs.Faults.{lesser}
 use Rattle.gm_semantics.proofs.ContributionLaws.{has_first, settled_store-same, total_faults-same}
 use Rattle.gm_semantics.proofs.TargetLaws.{value-away, read-settled}
+use Rattle.gm_forms.specs.Cut.{spares_locals}
 use Rattle.gm_forms.specs.Forms.{depth_at, is_range, is_inner_body, is_outer_body}
 use Rattle.gm_forms.specs.Order.{lie_before, rest_in, hoisted_in, faults_in, faults_of}
 use Rattle.gm_forms.specs.Sharing.{Reduced, reduced, reduced_by, are_at_once, variables_of, disjoint}
@@ -40,7 +42,7 @@ use Rattle.gm_forms.proofs.Named.{both-true}
 use Rattle.gm_forms.proofs.Doings.{in-left, in-right, in-either, least-in, value-fails, does-did, each-in, gave-from, total_faults-of}
 use Rattle.gm_forms.proofs.CutLaws.{lies-in}
 use Rattle.gm_forms.proofs.ReadingFrames.{read-write}
-use Rattle.gm_loop_laws.specs.Alone.{spares_locals, stands_alone}
+use Rattle.gm_loop_laws.specs.Alone.{stands_alone}
 use Rattle.gm_loop_laws.specs.Inner.{quiet, given_by, InnerLoopsCut}
 use Rattle.gm_loop_laws.proofs.Joins.{map-each, filter-whole, filter-nothing, exchanged}
 use Rattle.gm_loop_laws.proofs.Settling.{settled-both, totals-both, totals-apart}
@@ -48,7 +50,9 @@ use Rattle.gm_loop_laws.proofs.LoopEnds.{in-joined}
 use Rattle.gm_loop_laws.proofs.Locals.{least-parts}
 use Rattle.gm_loop_laws.proofs.Splits.{ends_late, is_late_slot}
 use Rattle.gm_loop_laws.proofs.Givens.{ToOne, ToNodes, scalar-member, node-member}
-use Rattle.gm_loop_laws.proofs.Alone.{along, at_outer, Stands, stands, By, RD, out_gives, out_faults, out_kept, out_kept_faults, is_kept, out-by, out-one, turn_at_edge, pulled}
+use Rattle.gm_loop_laws.proofs.Alone.{along, Stands, stands}
+use Rattle.gm_loop_laws.proofs.Masked.{at_outer, By, RD, out_gives, out_faults, out_kept, out_kept_faults, is_kept, out-by, out-one, turn_at_edge, pulled}
+use Rattle.gm_loop_laws.proofs.MaskValues.{saved-held}
 use Rattle.gm_loop_laws.proofs.Flips.{given-all, faults-all, lone}
 use Rattle.gm_loop_laws.proofs.Saves.{fault-order, all-after}
 use Rattle.gm_loop_laws.proofs.Kept.{Untouched}
@@ -123,26 +127,33 @@ module _ (ds : List Declaration) (some : List ℕ) (loop : Loop) (depths : (y : 
   abbrev ks : List ℕ
   ks = nodes loop.graph
 
+  -- the saved filter, and what it is worth
+  abbrev P : Expr
+  P = Property loop.outer m at
+
+  abbrev worth : ℕ → Value
+  worth = s.node m
+
   abbrev turn : ℕ → Step → Iteration
-  turn x e = turn_at_edge ds some loop depths known m key k at here h test body s apart owner range flat-test its inner-body alone x e.node e.edge
+  turn x e = turn_at_edge ds some loop depths known P worth key k here h test body s (saved-held loop h.iterator m at s) apart owner range flat-test its inner-body alone x e.node e.edge
 
   abbrev turns : List Iteration
   turns = joined (map (λ x. map (turn x) (along h.domain loop.graph x)) ks)
 
   abbrev outs_gives : ℕ → List Contribution
-  outs_gives x = out_gives ds some loop depths known m key k at here h test body s apart owner range flat-test its inner-body alone x
+  outs_gives x = out_gives ds some loop depths known P worth key k here h test body s (saved-held loop h.iterator m at s) apart owner range flat-test its inner-body alone x
 
   abbrev outs_faults : ℕ → List Fault
-  outs_faults x = out_faults ds some loop depths known m key k at here h test body s apart owner range flat-test its inner-body alone x
+  outs_faults x = out_faults ds some loop depths known P worth key k here h test body s (saved-held loop h.iterator m at s) apart owner range flat-test its inner-body alone x
 
   abbrev kept? : Contribution → Bool
-  kept? = is_kept ds some loop depths known m key k at here h test body s apart owner range flat-test its inner-body alone
+  kept? = is_kept ds some loop depths known P worth key k here h test body s (saved-held loop h.iterator m at s) apart owner range flat-test its inner-body alone
 
   abbrev By' : ℕ → Contribution → Type 0
-  By' x c = By ds some loop depths known m key k at here h test body s apart owner range flat-test its inner-body alone x c
+  By' x c = By ds some loop depths known P worth key k here h test body s (saved-held loop h.iterator m at s) apart owner range flat-test its inner-body alone x c
 
   kept-all : (x : ℕ) (c : Contribution) → IsIn c (outs_gives x) → kept? c ≡ true
-  kept-all x c i = (out-by ds some loop depths known m key k at here h test body s apart owner range flat-test its inner-body alone x c i).late spares
+  kept-all x c i = (out-by ds some loop depths known P worth key k here h test body s (saved-held loop h.iterator m at s) apart owner range flat-test its inner-body alone x c i).late spares
 
   given-turns : joined (map outs_gives ks) ≡ given turns
   given-turns = given-all (λ it. it.with_outermost) (λ x e. turn x e) (along h.domain loop.graph) ks
@@ -152,32 +163,32 @@ module _ (ds : List Declaration) (some : List ℕ) (loop : Loop) (depths : (y : 
 
   by-turns : parallel loop key (Property loop.outer m at) (Foreach k here h test body) ks s ≡ unless_fault (least (fails turns ++ total_faults s (given turns))) (Ok (settled_store s (given turns)))
   by-turns =
-      pulled ds some loop depths known m key k at here h test body s apart owner range flat-test its inner-body alone
-      ∙ ap (λ l. unless_fault (least (joined l ++ total_faults s (joined (map (out_kept ds some loop depths known m key k at here h test body s apart owner range flat-test its inner-body alone) ks)))) (Ok (settled_store s (joined (map (out_kept ds some loop depths known m key k at here h test body s apart owner range flat-test its inner-body alone) ks)))))
-      (map-each (out_kept_faults ds some loop depths known m key k at here h test body s apart owner range flat-test its inner-body alone) outs_faults ks
-      (λ x i. ap (λ l. outs_faults x ++ total_faults (at_outer loop m key k at h test body s apart x) l) (filter-nothing (λ c. not (kept? c)) (outs_gives x) (λ c j. ap not (kept-all x c j))) ∙ append-nil (outs_faults x)))
+      pulled ds some loop depths known P worth key k here h test body s (saved-held loop h.iterator m at s) apart owner range flat-test its inner-body alone
+      ∙ ap (λ l. unless_fault (least (joined l ++ total_faults s (joined (map (out_kept ds some loop depths known P worth key k here h test body s (saved-held loop h.iterator m at s) apart owner range flat-test its inner-body alone) ks)))) (Ok (settled_store s (joined (map (out_kept ds some loop depths known P worth key k here h test body s (saved-held loop h.iterator m at s) apart owner range flat-test its inner-body alone) ks)))))
+      (map-each (out_kept_faults ds some loop depths known P worth key k here h test body s (saved-held loop h.iterator m at s) apart owner range flat-test its inner-body alone) outs_faults ks
+      (λ x i. ap (λ l. outs_faults x ++ total_faults (at_outer loop P worth key k h test body s (saved-held loop h.iterator m at s) apart x) l) (filter-nothing (λ c. not (kept? c)) (outs_gives x) (λ c j. ap not (kept-all x c j))) ∙ append-nil (outs_faults x)))
       ∙ ap (λ l. unless_fault (least (joined (map outs_faults ks) ++ total_faults s (joined l))) (Ok (settled_store s (joined l))))
-      (map-each (out_kept ds some loop depths known m key k at here h test body s apart owner range flat-test its inner-body alone) outs_gives ks (λ x i. filter-whole kept? (outs_gives x) (kept-all x)))
+      (map-each (out_kept ds some loop depths known P worth key k here h test body s (saved-held loop h.iterator m at s) apart owner range flat-test its inner-body alone) outs_gives ks (λ x i. filter-whole kept? (outs_gives x) (kept-all x)))
       ∙ ap (λ l. unless_fault (least (joined (map outs_faults ks) ++ total_faults s l)) (Ok (settled_store s l))) given-turns
       ∙ ap (λ l. unless_fault (least (l ++ total_faults s (given turns))) (Ok (settled_store s (given turns)))) faults-turns
 
   gives-by : (c : Contribution) → IsIn c (given turns) → (x : ℕ) × By' x c
   gives-by c i =
       let r = in-joined c outs_gives ks (subst (IsIn c) (sym given-turns) i) in
-      (r.0, out-by ds some loop depths known m key k at here h test body s apart owner range flat-test its inner-body alone r.0 c r.2)
+      (r.0, out-by ds some loop depths known P worth key k here h test body s (saved-held loop h.iterator m at s) apart owner range flat-test its inner-body alone r.0 c r.2)
 
   one-turns : OneReduction (given turns)
   one-turns c d slot i j a b =
       let p = in-joined c outs_gives ks (subst (IsIn c) (sym given-turns) i) in
       let q = in-joined d outs_gives ks (subst (IsIn d) (sym given-turns) j) in
-      out-one ds some loop depths known m key k at here h test body s apart owner range flat-test its inner-body alone c d p.0 q.0 p.2 q.2 slot a b
+      out-one ds some loop depths known P worth key k here h test body s (saved-held loop h.iterator m at s) apart owner range flat-test its inner-body alone c d p.0 q.0 p.2 q.2 slot a b
 
   -- a contribution goes to variables that the body gives to, and to one at least
   gives-to : (c : Contribution) → IsIn c (given turns) → (slot : Slot) → has_slot slot c.slots ≡ true → IsIn (variable slot) (given_by ds loop.outer body)
   gives-to c i slot has =
       let r = (gives-by c i).1 in
       given-member ds loop.outer body r.reduced (variable slot) r.member
-      (slot-variable ds loop depths some loop.pushed known (RD ds some loop depths known m key k at here h test body s apart owner range flat-test its inner-body alone) (spares_locals ds body ≡ true) r.reduced c.slots r.slots slot has)
+      (slot-variable ds loop depths some loop.pushed known (RD ds some loop depths known P worth key k here h test body s (saved-held loop h.iterator m at s) apart owner range flat-test its inner-body alone) (spares_locals ds body ≡ true) r.reduced c.slots r.slots slot has)
 
   some-slot : (c : Contribution) → IsIn c (given turns) → c.slots ≢ []
   some-slot c i e = let r = (gives-by c i).1.late spares in both_ways false refl (sym (ap (list_any (is_late_slot loop.depth (λ p. true))) e) ∙ r)

@@ -27,6 +27,7 @@ use Rattle.gm_semantics.specs.Loops.{iteration, left_at, own_left}
 use Rattle.gm_semantics.specs.Laws.{Away}
 use Rattle.gm_semantics.specs.Frames.{TargetBelow, TargetsBelow, NamesBelow}
 use Rattle.gm_semantics.proofs.TargetLaws.{value-away}
+use Rattle.gm_forms.specs.Cut.{touched}
 use Rattle.gm_forms.specs.Forms.{is_inner_body, is_outer_body}
 use Rattle.gm_forms.specs.Sharing.{written_by, variables_of, deferred}
 use Rattle.gm_forms.specs.Fission.{is_nil}
@@ -38,7 +39,7 @@ use Rattle.gm_forms.proofs.Targets.{each-slot}
 use Rattle.gm_forms.proofs.CutTests.{not-true}
 use Rattle.gm_forms.proofs.ReadingFrames.{nat_eq-apart}
 use Rattle.gm_forms.proofs.Cuts.{left_at-in, placed}
-use Rattle.gm_loop_laws.specs.Masks.{touched, looped}
+use Rattle.gm_loop_laws.specs.Masks.{looped}
 use Rattle.gm_loop_laws.proofs.Joins.{map-compose, joined-none}
 use Rattle.gm_loop_laws.proofs.Givens.{flat, all-flat}
 use Rattle.gm_loop_laws.proofs.Mays.{nil-parts}

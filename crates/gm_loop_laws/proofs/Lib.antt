@@ -6,6 +6,7 @@ pub mod Splits
 pub mod Edges
 pub mod Givens
 pub mod Alone
+pub mod Masked
 pub mod Flips
 pub mod Mays
 pub mod Saves
@@ -33,3 +34,4 @@ pub mod MaskedCuts
 pub mod Pushes
 mod Samples
 mod Rows
+pub mod MaskValues

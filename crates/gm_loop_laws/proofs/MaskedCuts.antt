@@ -12,12 +12,13 @@ use Rattle.gm_semantics.specs.Stores.{Store}
 use Rattle.gm_semantics.specs.Faults.{then_with}
 use Rattle.gm_semantics.specs.Iterations.{Loop}
 use Rattle.gm_semantics.specs.Frames.{ReadsBelow, NamesBelow}
+use Rattle.gm_forms.specs.Cut.{touched}
 use Rattle.gm_forms.specs.Forms.{is_flat, is_inner_head, is_inner_body, is_outer_body}
 use Rattle.gm_forms.specs.Sharing.{are_at_once}
 use Rattle.gm_forms.specs.Fission.{Knows}
 use Rattle.gm_forms.proofs.Named.{both-true}
 use Rattle.gm_forms.proofs.Weaker.{and-true}
-use Rattle.gm_loop_laws.specs.Masks.{looped, in_turn, touched, is_certain, spares, is_stable}
+use Rattle.gm_loop_laws.specs.Masks.{looped, in_turn, is_certain, spares, is_stable}
 use Rattle.gm_loop_laws.specs.Inner.{quiet, may_cut_inner, MaskedInnerLoopsCut}
 use Rattle.gm_loop_laws.proofs.Kept.{touched-below}
 use Rattle.gm_loop_laws.proofs.Masks.{same-turns, same-by, loop-same, filters-same, saved-value, stays, slot-stays}

@@ -30,6 +30,7 @@ use Rattle.gm_semantics.specs.Loops.{iteration, loop_done}
 use Rattle.gm_semantics.specs.Frames.{Agree, ReadsBelow, NamesBelow, AlikeStores}
 use Rattle.gm_semantics.proofs.ExpressionFrames.{agree-write, evaluated-frame}
 use Rattle.gm_semantics.proofs.StatementFrames.{parallel-alike}
+use Rattle.gm_forms.specs.Cut.{touched}
 use Rattle.gm_forms.specs.Forms.{is_outer_body}
 use Rattle.gm_forms.specs.Sharing.{deferred}
 use Rattle.gm_forms.specs.Fission.{is_nil, Knows, can_cut}
@@ -38,7 +39,7 @@ use Rattle.gm_forms.proofs.Named.{both-true}
 use Rattle.gm_forms.proofs.CutLaws.{fission-holds}
 use Rattle.gm_forms.proofs.CutTests.{finds, not-true}
 use Rattle.gm_forms.proofs.ReadingFrames.{evaluated-good}
-use Rattle.gm_loop_laws.specs.Masks.{Change, looped, in_turn, SameChange, touched, is_certain, spares, is_stable, MasksStay}
+use Rattle.gm_loop_laws.specs.Masks.{Change, looped, in_turn, SameChange, is_certain, spares, is_stable, MasksStay}
 use Rattle.gm_loop_laws.proofs.Joins.{map-each}
 use Rattle.gm_loop_laws.proofs.Alone.{nodes-below}
 use Rattle.gm_loop_laws.proofs.Mays.{nil-parts}

@@ -171,9 +171,9 @@ module _ (ds : List Declaration) (loop : Loop) (x : ℕ) (FS : List K.Fault) whe
       let r = both-true _ _ g in
       let s = both-true _ _ r.1 in
       let q = both-true (not (nat_eq h.iterator n)) (never_writes n body) o in (
-        fails-of (n ∷ h.iterator ∷ []) true test k s.0 (within-left (faults_in test k) (faults_of body) w),
+        fails-of (n ∷ h.iterator ∷ []) true test k s.0 (within-left (faults_in test k) (faults_of body) (λ f i. w f (inr i))),
         apart h.iterator q.0,
-        λ e. inner-faults body e (n ∷ h.iterator ∷ []) s.1 (within-right (faults_in test k) (faults_of body) w) q.1,
+        λ e. inner-faults body e (n ∷ h.iterator ∷ []) s.1 (within-right (faults_in test k) (faults_of body) (λ f i. w f (inr i))) q.1,
       )
   outer-faults (For k at h test body) g d w o = absurd (both_ways false refl g)
   outer-faults (If k c a b) g d w o =

@@ -1,12 +1,14 @@
 -- The law of locals that are kept in properties.
 use Rattle.std.proofs.Common.{◌≡◌, ◌≢◌, arith, ℕ, cond, refl, sym, ap, subst, ◌∙◌, Some, Ok}
+use Rattle.std.proofs.Math.Path.{fun_ext}
 use Rattle.std.proofs.lemmas.Bool.{ne_eqb}
 use Rattle.gm_base.specs.declared.places.Place.{Place}
 use Rattle.gm_value.specs.declared.values.Value.TheVariants.{At}
 use Rattle.gm_value.specs.Bag.{IsIn}
 use Rattle.gm_value.specs.Numbers.{zero_of}
 use Rattle.gm_ast.specs.declared.tree.Key.{Key}
-use Rattle.gm_ast.specs.Program.{Var}
+use Rattle.gm_ast.specs.declared.tree.Target.TheVariants as T
+use Rattle.gm_ast.specs.Program.{Var, always, Assign}
 use Rattle.gm_semantics.specs.declared.slots.Slot.TheVariants.{Node}
 use Rattle.gm_semantics.specs.Stores.{Store}
 use Rattle.gm_semantics.specs.Faults.{then_with}
@@ -20,7 +22,7 @@ use Rattle.gm_loop_laws.specs.Localised.{moved_in, moved, LocalsMove}
 use Rattle.gm_loop_laws.proofs.Alone.{nodes-below}
 use Rattle.gm_loop_laws.proofs.Masks.{agree-trans, seen}
 use Rattle.gm_loop_laws.proofs.Endings.{done-alike}
-use Rattle.gm_loop_laws.proofs.Setting.{put, sets, put-there, put-other}
+use Rattle.gm_loop_laws.proofs.Setting.{put, sets, any-keys, put-there, put-other}
 use Rattle.gm_loop_laws.proofs.Linked.{linked-iteration}
 
 -- what the property is set to
@@ -43,3 +45,7 @@ locals-move = λ j loop x q key at test body local iterates apart fresh deep qui
     let l = linked-iteration j loop x q k at local iterates apart fresh deep quiet (nodes-below loop.graph k i) key test body s u plain reads moves names both
     (put-there loop key q at (Var x at) t (λ y. t.scalar x) known k i ∙ agree.scalar x local) in
     record { node = λ p y b. l.shows (Node p y) b; with_outermost = l.with_outermost; deferred = l.deferred; fault = l.fault; below = l.outer_below }) both)
+
+-- a loop that keeps a local in a property does the same under any keys
+pub locals-any : (loop : Loop) (first next key : Key) (x q : ℕ) (at : Place) → x ≢ loop.outer → looped loop first always (Assign next (T.Property loop.outer q at) (Var x at)) ≡ looped loop key always (Assign key (T.Property loop.outer q at) (Var x at))
+locals-any loop first next key x q at apart = fun_ext (λ t. any-keys loop first next key q at (Var x at) t (λ y. t.scalar x) (λ k. local-known loop x k at t apart))

@@ -1,5 +1,5 @@
 -- A loop that sets a property at every node.
-use Rattle.std.proofs.Common.{◌≡◌, ℕ, false, cond, List, [], ◌∷◌, ◌++◌, map, refl, ap, ◌∙◌, Some, Result, Ok, Err, ⊎_elim}
+use Rattle.std.proofs.Common.{◌≡◌, ℕ, false, cond, List, [], ◌∷◌, ◌++◌, map, refl, sym, ap, ◌∙◌, Some, Result, Ok, Err, ⊎_elim}
 use Rattle.std.specs.Prelude.{◌&&◌, nat_eq}
 use Rattle.std.proofs.lemmas.Bool.{eq-eqb}
 use Rattle.gm_base.specs.declared.places.Place.{Place}
@@ -83,3 +83,8 @@ module _ (loop : Loop) (key : Key) (q : ℕ) (at : Place) (e : Expr) (t : Store)
 
   pub put-outside : (p x : ℕ) → ((F : ℕ → Iteration) (s : Store) (r : ℕ) → left_at ks (map F ks) s r x ≡ s.node r x) → put.node p x ≡ t.node p x
   put-outside p x out = out setter t p
+
+-- a loop that sets a property to what cannot fault does the same under any keys
+pub any-keys : (loop : Loop) (first next key : Key) (q : ℕ) (at : Place) (e : Expr) (t : Store) (val : ℕ → Value) → ((k : Key) (x : ℕ) → IsIn x (nodes loop.graph) → evaluated e (seen loop k t x) ≡ plain (Ok (val x)))
+    → looped loop first always (Assign next (T.Property loop.outer q at) e) t ≡ looped loop key always (Assign key (T.Property loop.outer q at) e) t
+any-keys loop first next key q at e t val is = sets loop next q at e t val (is next) ∙ sym (sets loop key q at e t val (is key))

@@ -1,4 +1,4 @@
--- The laws of an inner loop that is the whole body of a loop under a saved filter.
+-- The laws of an inner loop that is the whole body of a loop under a mask.
 use Rattle.std.specs.Prelude.{◌≡◌, ℕ, nat_eq, Bool, true, false, ◌&&◌, not, List}
 use Rattle.std.specs.List.{list_all}
 use Rattle.gm_base.specs.declared.places.Place.{Place}
@@ -14,22 +14,11 @@ use Rattle.gm_semantics.specs.Stores.{Store}
 use Rattle.gm_semantics.specs.Levels.{nodes}
 use Rattle.gm_semantics.specs.Iterations.{Loop}
 use Rattle.gm_semantics.specs.Loops.{parallel}
+use Rattle.gm_forms.specs.Cut.{is_mask, spares_locals}
 use Rattle.gm_forms.specs.Forms.{depth_at, is_outer_body, avoids}
-use Rattle.gm_forms.specs.Sharing.{written, reduced, all_one, targets_alike}
+use Rattle.gm_forms.specs.Sharing.{told_in, written, reduced, all_one, targets_alike}
 use Rattle.gm_forms.specs.Fission.{Knows, pushed_properties}
 use Rattle.gm_forms.specs.Flip.{flipped_head}
-
--- whether a target is a local of the outer body
-abbrev pub is_outer_local : List Declaration → Target → Bool
-is_outer_local ds (T.Scalar x at) = nat_eq (depth_at ds x) 1
-is_outer_local ds (T.Property x p at) = false
-
--- whether an inner body reduces to no local of the outer body
-abbrev pub spares_locals : List Declaration → Stmt → Bool
-spares_locals ds (Then a b) = spares_locals ds a && spares_locals ds b
-spares_locals ds (Combine k total r ts es) = list_all (λ t. not (is_outer_local ds t)) ts
-spares_locals ds (If k c a b) = spares_locals ds a && spares_locals ds b
-spares_locals ds _ = true
 
 -- whether an inner loop may stand alone in a loop that pushes some properties: what it pushes is among them, its reductions to one variable do the same to the same targets, which are alike, and it does not write the outer iterator
 abbrev pub stands_alone : List Declaration → List ℕ → ℕ → Stmt → Bool
@@ -46,11 +35,11 @@ EndsAnywhere = (ds : List Declaration) (some other : List ℕ) (loop : Loop) (ot
     parallel (record loop { pushed = others }) key (Property n m at) (Foreach k here h test body) (nodes loop.graph) s
     ≡ parallel loop key (Property n m at) (Foreach k here h test body) (nodes loop.graph) s
 
--- an inner loop that reduces to nothing of the inner node and to no local of the outer body is the loop of its other end, with the saved filter before its own: the same steps, the same contributions as a bag, the same faults. Edges lie within the graph, so no step is lost. No order of faults is asked, since both take the least of the same; nor does it count what either loop pushes
+-- an inner loop that reduces to nothing of the inner node and to no local of the outer body is the loop of its other end, with the mask before its own filter: the same steps, the same contributions as a bag, the same faults. Edges lie within the graph, so no step is lost. The mask does not name the inner iterator. No order of faults is asked, since both take the least of the same; nor does it count what either loop pushes
 abbrev pub Flipping : Type 0
-Flipping = (ds : List Declaration) (some : List ℕ) (loop : Loop) (others : ℕ → Bool) (m : ℕ) (key k : Key) (at here there : Place) (h : Head) (test : Expr) (body : Stmt) (s : Store) →
+Flipping = (ds : List Declaration) (some : List ℕ) (loop : Loop) (others : ℕ → Bool) (key k : Key) (here there : Place) (h : Head) (mask test : Expr) (body : Stmt) (s : Store) →
     let n = loop.outer in
     IsGraph loop.graph → Knows ds some loop →
-    is_outer_body ds false n (Foreach k here h test body) ≡ true → avoids h.iterator body ≡ true → spares_locals ds body ≡ true → stands_alone ds some n body ≡ true →
-    parallel (record loop { outer = h.iterator; pushed = others }) key always (Foreach k there (flipped_head n h) (Both (Property n m at) test) body) (nodes loop.graph) s
-    ≡ parallel loop key (Property n m at) (Foreach k here h test body) (nodes loop.graph) s
+    is_outer_body ds false n (Foreach k here h test body) ≡ true → is_mask n mask ≡ true → not (is_in (told_in mask) h.iterator) ≡ true → avoids h.iterator body ≡ true → spares_locals ds body ≡ true → stands_alone ds some n body ≡ true →
+    parallel (record loop { outer = h.iterator; pushed = others }) key always (Foreach k there (flipped_head n h) (Both mask test) body) (nodes loop.graph) s
+    ≡ parallel loop key mask (Foreach k here h test body) (nodes loop.graph) s

@@ -9,8 +9,9 @@ use Rattle.gm_ast.specs.Program.{Expr, Property, always, Stmt, Then, Assign, Def
 use Rattle.gm_ast.specs.Ways.{is_in}
 use Rattle.gm_semantics.specs.Iterations.{Loop}
 use Rattle.gm_semantics.specs.Frames.{ReadsBelow, NamesBelow}
+use Rattle.gm_forms.specs.Cut.{touched}
 use Rattle.gm_forms.specs.Forms.{is_outer_body}
-use Rattle.gm_loop_laws.specs.Masks.{looped, in_turn, SameChange, touched}
+use Rattle.gm_loop_laws.specs.Masks.{looped, in_turn, SameChange}
 
 -- a deferred write to a property is one to another at once
 abbrev pub undeferred_to : ℕ → ℕ → Key → Target → Expr → Stmt

@@ -9,11 +9,12 @@ use Rattle.gm_ast.specs.Ways.{is_in}
 use Rattle.gm_semantics.specs.Stores.{Store}
 use Rattle.gm_semantics.specs.Iterations.{Loop}
 use Rattle.gm_semantics.specs.Frames.{ReadsBelow, NamesBelow}
+use Rattle.gm_forms.specs.Cut.{spares_locals}
 use Rattle.gm_forms.specs.Forms.{is_outer_body}
 use Rattle.gm_forms.specs.Order.{lie_before, faults_in, faults_of}
 use Rattle.gm_forms.specs.Sharing.{are_at_once, variables_of, disjoint}
 use Rattle.gm_forms.specs.Fission.{Knows}
-use Rattle.gm_loop_laws.specs.Alone.{spares_locals, stands_alone}
+use Rattle.gm_loop_laws.specs.Alone.{stands_alone}
 use Rattle.gm_loop_laws.specs.Saved.{never_writes}
 use Rattle.gm_loop_laws.specs.Masks.{looped, in_turn, SameChange, spares, is_stable}
 use Rattle.gm_loop_laws.specs.Slices.{knows_none}

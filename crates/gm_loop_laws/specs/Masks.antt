@@ -13,6 +13,7 @@ use Rattle.gm_semantics.specs.Levels.{nodes}
 use Rattle.gm_semantics.specs.Iterations.{Loop}
 use Rattle.gm_semantics.specs.Loops.{parallel}
 use Rattle.gm_semantics.specs.Frames.{Agree, ReadsBelow, NamesBelow, AlikeStores}
+use Rattle.gm_forms.specs.Cut.{touched}
 use Rattle.gm_forms.specs.Order.{can_fail1, can_fail2}
 use Rattle.gm_forms.specs.Sharing.{written_by, variables_of}
 use Rattle.gm_forms.specs.Fission.{Knows, can_cut}
@@ -32,17 +33,6 @@ in_turn f g s = then_with (f s) g
 -- two changes leave the same fault, or stores that agree, where they begin with stores that agree
 abbrev pub SameChange : ℕ → Change → Change → Type 0
 SameChange j f g = (s t : Store) → Agree j s t → AlikeStores j (f s) (g t)
-
--- the variables that a body writes anywhere, also in its inner loops and at other nodes
-abbrev pub touched : Stmt → List ℕ
-touched (Then a b) = touched a ++ touched b
-touched (Declare k x e) = x ∷ []
-touched (Assign k t e) = written_by t
-touched (Defer k t e) = written_by t
-touched (Combine k total r ts es) = variables_of ts
-touched (If k c a b) = touched a ++ touched b
-touched (Foreach k at h test body) = touched body
-touched _ = []
 
 -- whether an expression of a body cannot fault: no operator can, and it reads properties and degrees through some iterators alone
 abbrev pub is_certain : List ℕ → Expr → Bool

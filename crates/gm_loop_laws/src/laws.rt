@@ -10,8 +10,9 @@ ghost use Rattle.gm_loop_laws.specs.Pieces.{PiecesInTurn};
 ghost use Rattle.gm_loop_laws.specs.Saved.{SavingFresh};
 ghost use Rattle.gm_loop_laws.specs.Slices.{Slices};
 
-/// An inner loop that is the whole body of a loop, under a saved filter, is the loop of its other end where it reduces
-/// to nothing of the inner node. Its reductions to the outer node may end with itself or with the outermost loop.
+/// An inner loop that is the whole body of a loop, under a mask, is the loop of its other end where it reduces to nothing
+/// of the inner node. Under a saved filter its reductions to the outer node may end with itself or with the outermost
+/// loop.
 pub fn inner_loops_alone()
     ensures flipped { Flipping }
     ensures ended { EndsAnywhere }

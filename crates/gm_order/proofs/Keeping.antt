@@ -182,16 +182,16 @@ module _ (Q : List Place → Expr → Type 0) (kept : IsKept Q) where
       if-then (KeptPair qs rs) (KeptPart (ps ++ (at ∷ (qs ++ rs)))) (paired at k a b) (λ p. record { kind = k; core = P.Choose c p.0 p.1; large = large_of k (a.large ++ b.large) })
       (paired-kept qs rs at k a b h g) (λ p m. kept.choose ps qs rs at c p.0 p.1 up f m.0 m.1)
 
-  -- ---- an expression, where the key and the depth around it are of a mode
+  -- ---- an expression, where what stands around it is of a mode, which goes on behind a part
 
   pub condition-kept : (ps : List Place) (at : Place) (o : Judged Part) → IfPart (KeptPart ps) o.part → IfPart (Q ps) (judge o (λ p. refused_unless (is_flag p.kind) T10 at p.core)).part
   condition-kept ps at o h = if-by (KeptPart ps) (Q ps) o.part (λ p. refused_unless (is_flag p.kind) T10 at p.core) h (λ p k. if-good (Q ps) (is_flag p.kind) T10 at p.core (λ _. k))
 
-  module _ (Mode : Key → ℕ → Type 0) where
+  module _ (Mode : Env → Type 0) where
     abbrev pub Keeps : SurfaceExpr → Type 0
-    Keeps e = (env : Env) → Mode env.key env.depth → IfPart (KeptPart (places_in e)) (typed e env).part
+    Keeps e = (env : Env) → Mode env → IfPart (KeptPart (places_in e)) (typed e env).part
 
-    module _ (folds : (at : Place) (word : ReductionWord) (h : SurfaceHead) (filter body : SurfaceExpr) (close : Place) → ascend (places_in (Reduction at word h filter body close)) ≡ true
+    module _ (goes-on : (A : Type 0) (env : Env) (x : Judged A) → Mode env → Mode (later env x)) (folds : (at : Place) (word : ReductionWord) (h : SurfaceHead) (filter body : SurfaceExpr) (close : Place) → ascend (places_in (Reduction at word h filter body close)) ≡ true
         → Keeps filter → Keeps body → Keeps (Reduction at word h filter body close)) where
       pub typed-kept : (e : SurfaceExpr) → ascend (places_in e) ≡ true → Keeps e
       typed-kept Always up env m = kept.constant [] _
@@ -218,7 +218,7 @@ module _ (Q : List Place → Expr → Type 0) (kept : IsKept Q) where
           let x = typed a env in
           let y = typed b (later env x) in
           if-by (λ xs. KeptPart ps xs.0 × KeptPart qs xs.1) (KeptPart (ps ++ (at ∷ qs))) (both (typed a) (typed b) env).part (infix_part at op)
-          (if-both (KeptPart ps) (KeptPart qs) x.part y.part (typed-kept a (ascend-left ps (at ∷ qs) up) env m) (typed-kept b (ascend-tail at qs (ascend-right ps (at ∷ qs) up)) (later env x) m))
+          (if-both (KeptPart ps) (KeptPart qs) x.part y.part (typed-kept a (ascend-left ps (at ∷ qs) up) env m) (typed-kept b (ascend-tail at qs (ascend-right ps (at ∷ qs) up)) (later env x) (goes-on Part env x m)))
           (λ xs k. infix-kept ps qs at up op xs k)
       typed-kept (Choose at c a b) up env m =
           let ps = places_in c in
@@ -231,7 +231,7 @@ module _ (Q : List Place → Expr → Type 0) (kept : IsKept Q) where
           if-by (λ xs. Q ps xs.0 × (KeptPart qs xs.1.0 × KeptPart rs xs.1.1)) (KeptPart (ps ++ (at ∷ (qs ++ rs)))) (both (condition (start_of c) (typed c)) (both (typed a) (typed b)) env).part (choice_part at)
           (if-both (Q ps) (λ xs. KeptPart qs xs.0 × KeptPart rs xs.1) z.part (both (typed a) (typed b) (later env z)).part
           (condition-kept ps (start_of c) (typed c env) (typed-kept c (ascend-left ps (at ∷ (qs ++ rs)) up) env m))
-          (if-both (KeptPart qs) (KeptPart rs) x.part y.part (typed-kept a (ascend-left qs rs back) (later env z) m) (typed-kept b (ascend-right qs rs back) (later (later env z) x) m)))
+          (if-both (KeptPart qs) (KeptPart rs) x.part y.part (typed-kept a (ascend-left qs rs back) (later env z) (goes-on Expr env z m)) (typed-kept b (ascend-right qs rs back) (later (later env z) x) (goes-on Part (later env z) x (goes-on Expr env z m)))))
           (λ xs k. choice_by-kept ps qs rs at up (joint xs.1.0.kind xs.1.1.kind) xs.0 xs.1.0 xs.1.1 k.0 k.1.0 k.1.1)
       typed-kept (Reduction at word h filter body close) up env m =
           let ps = places_in filter in

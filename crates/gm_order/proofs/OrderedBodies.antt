@@ -1,8 +1,8 @@
 -- Faults in the bodies of parallel loops of a text stand in order.
 use Rattle.std.proofs.Common.{◌≡◌, ◌+◌, ◌<◌, ◌≤◌, ℕ, pos, Bool, true, false, List, [], ◌∷◌, ◌++◌, map, refl, sym, ap, subst, ◌∙◌, arith, Option, Some, None}
-use Rattle.std.specs.Prelude.{nat_eq, is_none, Ok}
+use Rattle.std.specs.Prelude.{nat_eq, nat_lt, is_none, Ok}
 use Rattle.std.specs.Cmp.Derive.{both_true}
-use Rattle.std.proofs.lemmas.Bool.{false≢true}
+use Rattle.std.proofs.lemmas.Bool.{false≢true, lt-ltb, or_left}
 use Rattle.gm_base.specs.declared.places.Place.{Place}
 use Rattle.gm_base.specs.declared.rules.Rule.{Rule}
 use Rattle.gm_base.specs.declared.rules.Rule.TheVariants.{T9, T11, T14}
@@ -34,7 +34,7 @@ use Rattle.gm_ast.specs.Kinds.{Part, fitted}
 use Rattle.gm_ast.specs.Typing.{typed, start_of, ranged, head_with}
 use Rattle.gm_ast.specs.Statements.{group_target, in_group, goal, fits_goal, reduces, first_wanted, total_at, fits_each, all_answers, combined, one_of, incremented, typed_all, goals_together, reduced, names_graph, grouped, assigned, deferred, assignment, returned, at_iterator, type_broken, sort_of, vtype_of, variable_of, declared_all, plain_declarations, declarations_as, edge_declared, edge_owner, declared_value, declared_typed, declared_with, following, loop_of, test, graph_searched, rooted, search_of, searched, checked}
 use Rattle.gm_forms.proofs.Named.{both-true}
-use Rattle.gm_forms.specs.Order.{lie_before, rest_in, hoisted_in, hoists_in_order, faults_in, in_order, faults_in_all, hoisted_in_all, all_in_order, target_faults, targets_faults, faults_of, body_in_order, loop_in_order}
+use Rattle.gm_forms.specs.Order.{lie_before, rest_in, hoisted_in, hoists_in_order, faults_in, in_order, faults_in_all, hoisted_in_all, all_in_order, fault_of, are_numbered, cannot_fail, target_faults, targets_faults, faults_of, leads, body_in_order, loop_in_order, begins, search_in_order}
 use Rattle.gm_ready.proofs.Judging.{IfPart, if-by, if-both, if-good, if-then, append-empty}
 use Rattle.gm_order.specs.Places.{ascend, places_of_each, places_in, places_of_target, place_of_option, places_of}
 use Rattle.gm_order.proofs.Parts.{anything, if-with, if-judged}
@@ -58,6 +58,10 @@ wider-in lo hi a b xs l h each = each-map (In lo hi) (In a b) xs (λ f k. let k0
 pub in-apart : (a b c d : ℕ) (xs ys : List Fault) → b ≤ c → Each (In a b) xs → Each (In c d) ys → lie_before xs ys ≡ true
 in-apart a b c d xs ys le h g = lie (In a b) (In c d) xs ys h g (λ f e x y. let p = x.1 in let q = y.0 in statement-before f.key e.key (omega (arith, p, q, le)) f.place e.place)
 
+pub numbered-in : (lo hi : ℕ) → 0 < lo → (xs : List Fault) → Each (In lo hi) xs → are_numbered xs ≡ true
+numbered-in lo hi lt [] h = refl
+numbered-in lo hi lt (f ∷ fs) h = let l = h.0.0 in both_true (lt-ltb 0 f.key.statement (omega (arith, lt, l))) (numbered-in lo hi lt fs h.1)
+
 abbrev pub InBody : ℕ → ℕ → Stmt → Type 0
 InBody lo hi s = Each (In lo hi) (faults_of s) × ((w : Around) → is_parallel w.loops ≡ true → forms_broken s w ≡ [] → body_in_order s ≡ true)
 
@@ -73,7 +77,7 @@ module _ (n : ℕ) (k : Key) (key : k ≡ operators n) where
   statement : k.statement ≡ n
   statement = ap (λ (j : Key). j.statement) key
 
-  expr-faults : (hi : ℕ) (ps : List Place) (e : Expr) → n < hi → InParallel n ps e → Each (In n hi) (faults_in e k)
+  pub expr-faults : (hi : ℕ) (ps : List Place) (e : Expr) → n < hi → InParallel n ps e → Each (In n hi) (faults_in e k)
   expr-faults hi ps e lt h = each-append (In n hi) (hoisted_in e) (rest_in e k) (under n hi (inner n) ps (hoisted_in e) refl lt h.0) (under n hi k ps (rest_in e k) statement lt (h.1 k))
 
   pub expr-order : (ps : List Place) (e : Expr) → InParallel n ps e → hoists_in_order e ≡ true → in_order e k ≡ true
@@ -195,6 +199,23 @@ loop-order n k key ps c body lo hi lt x y v u pv pu rc rb =
     both_true (expr-order n k key ps c x (x.2 v pv rc)) (both_true (y.1 u pu rb)
     (in-apart n (n + 1) lo hi (faults_in c k) (faults_of body) (omega (arith, lt)) (expr-faults n k key (n + 1) ps c (omega arith) x) y.0))
 
+module _ (n : ℕ) (k : Key) (key : k ≡ operators n) (at : Place) (body : Stmt) (lo hi : ℕ) (lt : n < lo) (y : InBody lo hi body) where
+  start : Each (In n (n + 1)) (fault_of k at ∷ [])
+  start = let e = statement n k key in ((omega (arith, e), omega (arith, e)), tt)
+
+  pub leads-order : leads k at body ≡ true
+  leads-order = in-apart n (n + 1) lo hi (fault_of k at ∷ []) (faults_of body) (omega (arith, lt)) start y.0
+
+  pub begins-order : (ps : List Place) (c : Expr) → InParallel n ps c → 0 < n → begins k at c body ≡ true
+  begins-order ps c x positive =
+      let e = statement n k key in
+      both_true leads-order (both_true (numbered-in n (n + 1 + hi) positive (hoisted_in c ++ faults_of body)
+      (each-append (In n (n + 1 + hi)) (hoisted_in c) (faults_of body) (under n (n + 1 + hi) (inner n) ps (hoisted_in c) refl (omega arith) x.0) (wider-in lo hi n (n + 1 + hi) (faults_of body) (omega (arith, lt)) (omega arith) y.0)))
+      (or_left (nat_lt 0 k.statement) (cannot_fail c) (lt-ltb 0 k.statement (omega (arith, e, positive)))))
+
+  pub search-order : (ps : List Place) (c : Expr) → InParallel n ps c → 0 < n → loop_in_order k c body ≡ true → search_in_order k at c body ≡ true
+  search-order ps c x positive h = both_true (numbered-in n (n + 1) positive (fault_of k at ∷ []) start) (both_true (begins-order ps c x positive) h)
+
 if-body : (n : ℕ) (k : Key) → k ≡ operators n → (ps : List Place) (c : Expr) (a b : Stmt) (lo mid top hi : ℕ) → n < lo → mid ≤ top → lo ≤ top → mid ≤ hi → n < hi → InParallel n ps c → InBody lo mid a → InBody top hi b → InBody n hi (P.If k c a b)
 if-body n k key ps c a b lo mid top hi lt le down up high x y z =
     let branches : Each (In lo hi) (faults_of a ++ faults_of b) = each-append (In lo hi) (faults_of a) (faults_of b) (wider-in lo mid lo hi (faults_of a) (omega arith) up y.0) (wider-in top hi lo hi (faults_of b) down (omega arith) z.0) in (
@@ -213,7 +234,7 @@ parallel-within (m ∷ ls) l = refl
 
 foreach-body : (n : ℕ) (k : Key) → k ≡ operators n → (at : Place) (h : Head) (ps : List Place) (c : Expr) (body : Stmt) (lo hi : ℕ) → n < lo → n < hi → InParallel n ps c → InBody lo hi body → InBody n hi (P.Foreach k at h c body)
 foreach-body n k key at h ps c body lo hi lt high x y = (
-  each-append (In n hi) (faults_in c k) (faults_of body) (expr-faults n k key hi ps c high x) (wider-in lo hi n hi (faults_of body) (omega (arith, lt)) (omega arith) y.0),
+  (let e = statement n k key in (omega (arith, e), omega (arith, e, high)), each-append (In n hi) (faults_in c k) (faults_of body) (expr-faults n k key hi ps c high x) (wider-in lo hi n hi (faults_of body) (omega (arith, lt)) (omega arith) y.0)),
   λ w p r.
       let v = within w C.Body h.iterator in
       let here = parallel-within w.loops (record { code = C.Body; iterator = h.iterator }) in
@@ -221,7 +242,7 @@ foreach-body n k key at h ps c body lo hi lt high x y = (
       let u = append-empty (range_broken w.loops h) (reads_broken c v ++ (forms_broken body v ++ C.ways_broken w.loops h c body)) s.1 in
       let q = append-empty (reads_broken c v) (forms_broken body v ++ C.ways_broken w.loops h c body) u.1 in
       let e = append-empty (forms_broken body v) (C.ways_broken w.loops h c body) q.1 in
-      loop-order n k key ps c body lo hi lt x y v v here here q.0 e.0,
+      both_true (leads-order n k key h.place body lo hi lt y) (loop-order n k key ps c body lo hi lt x y v v here here q.0 e.0),
 )
 
 -- ---- what typing makes of statements

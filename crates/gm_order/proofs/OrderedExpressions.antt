@@ -1,10 +1,10 @@
 -- Faults in the expressions of a text stand in order.
-use Rattle.std.proofs.Common.{◌≡◌, ◌<◌, ℕ, Bool, true, false, List, [], ◌∷◌, ◌++◌, inl, inr, refl, sym, ap, subst, ◌∙◌, arith}
-use Rattle.std.specs.Prelude.{not, if◌then◌else◌, ◌&&◌, nat_eq}
+use Rattle.std.proofs.Common.{◌≡◌, ◌<◌, ℕ, Bool, true, false, List, [], ◌∷◌, ◌++◌, inl, inr, refl, sym, ap, subst, ◌∙◌, arith, append_assoc}
+use Rattle.std.specs.Prelude.{not, if◌then◌else◌, ◌&&◌, nat_eq, nat_lt}
 use Rattle.std.specs.Cmp.Derive.{both_true}
-use Rattle.std.proofs.lemmas.Bool.{both_ways, false≢true, eqb-true}
+use Rattle.std.proofs.lemmas.Bool.{both_ways, false≢true, eqb-true, lt-ltb}
 use Rattle.gm_base.specs.declared.places.Place.{Place}
-use Rattle.gm_base.specs.Places.{place_eq}
+use Rattle.gm_base.specs.Places.{place_eq, place_lt}
 use Rattle.gm_value.specs.declared.operations.Op2.{Op2}
 use Rattle.gm_ast.specs.declared.surface.ReductionWord.{ReductionWord}
 use Rattle.gm_ast.specs.declared.surface.ReductionWord.TheVariants as words
@@ -19,7 +19,7 @@ use Rattle.gm_ast.specs.Keys.{Fault, fault_lt, total_fault, all_before}
 use Rattle.gm_ast.specs.Program as P
 use Rattle.gm_ast.specs.Program.{Expr}
 use Rattle.gm_forms.proofs.Named.{both-true}
-use Rattle.gm_forms.specs.Order.{lie_before, can_fail1, can_fail2, fault_if, rest_in, takes_conditions, fold_fault, hoisted_in, hoists_in_order, folds_in_order}
+use Rattle.gm_forms.specs.Order.{lie_before, fault_of, are_numbered, can_fail1, can_fail2, fault_if, rest_in, takes_conditions, own_faults, fold_fault, hoisted_in, hoists_in_order, folds_in_order}
 use Rattle.gm_ready.proofs.Judging.{append-empty}
 use Rattle.gm_order.specs.Places.{ascend, may_be_bare}
 use Rattle.gm_order.proofs.Befores.{Each, each-append, each-map, before-one, before-append, lie, nothing-before, inner, operators, totals, stage-before, statement-before, Among, among-left, among-right, ascend-across, ascend-right, ascend-tail, At, wider, lie-keys, one-keys, lie-places, one-places}
@@ -144,9 +144,18 @@ bare-takes words.Min h = absurd (false≢true h)
 bare-takes words.Max h = absurd (false≢true h)
 bare-takes words.All h = absurd (false≢true h)
 
-lie-if : (xs : List Fault) (b : Bool) (k : Key) (at : Place) → all_before xs (record { key = k; place = at }) ≡ true → lie_before xs (fault_if b k at) ≡ true
-lie-if xs true k at h = both_true h refl
-lie-if xs false k at h = refl
+-- what a reduction's own faults have in common, where it has them
+own-each : (P : Fault → Type 0) (b : Bool) (f : Fold) → ((b ≡ true) → P (fault_of f.body f.total.place) × P (total_fault f.total)) → Each P (own_faults b f)
+own-each P true f h = let r = h refl in (r.0, (r.1, tt))
+own-each P false f h = tt
+
+lie-own : (xs : List Fault) (b : Bool) (f : Fold) → ((b ≡ true) → (all_before xs (fault_of f.body f.total.place) ≡ true) × (all_before xs (total_fault f.total) ≡ true)) → lie_before xs (own_faults b f) ≡ true
+lie-own xs true f h = let r = h refl in both_true r.0 (both_true r.1 refl)
+lie-own xs false f h = refl
+
+pub lie-two-lists : (xs ys zs : List Fault) → lie_before xs ys ≡ true → lie_before xs zs ≡ true → lie_before xs (ys ++ zs) ≡ true
+lie-two-lists xs [] zs h g = g
+lie-two-lists xs (y ∷ ys) zs h g = let s = both-true (all_before xs y) (lie_before xs ys) h in both_true s.0 (lie-two-lists xs ys zs s.1 g)
 
 -- ---- expressions of parallel code, in the statement of a number
 
@@ -248,7 +257,7 @@ module _ (n : ℕ) where
       let s = both-true (nat_eq a.line b.line) (nat_eq a.col b.col) h in
       ap2 (λ l c. record { line = l; col = c }) (eqb-true a.line b.line s.0) (eqb-true a.col b.col s.1)
 
-  module _ (f : Fold) (head : Head) (test e : Expr) (ps qs : List Place) (x o : Place)
+  module _ (f : Fold) (head : Head) (test e : Expr) (ps qs : List Place) (x : Place)
       (filter-key : f.filter ≡ inner n) (body-key : f.body ≡ inner n) (total-key : f.total.key ≡ inner n) (h : InParallel ps test) (g : InParallel qs e) where
     front : Each (At (inner n) ps) (hoisted_in test ++ rest_in test f.filter)
     front = each-append (At (inner n) ps) (hoisted_in test) (rest_in test f.filter) h.0 (subst (λ k. Each (At (inner n) ps) (rest_in test k)) (sym filter-key) (h.1 (inner n)))
@@ -261,55 +270,72 @@ module _ (n : ℕ) where
     ends bare = if bare then [] else f.total.place ∷ []
 
     abbrev all : Bool → List Place
-    all bare = f.total.shown ∷ (x ∷ (o ∷ (ps ++ (qs ++ ends bare))))
+    all bare = f.total.shown ∷ (x ∷ (head.place ∷ (ps ++ (qs ++ ends bare))))
 
-    abbrev is-bare : Bool
-    is-bare = may_be_bare f.word && place_eq f.total.shown f.total.place
+    abbrev own : Bool
+    own = not (takes_conditions f.word)
 
-    total-among : (bare : Bool) → is-bare ≡ bare → Among (all bare) f.total.place
-    total-among true b = inl (same-place f.total.shown f.total.place (both-true (may_be_bare f.word) (place_eq f.total.shown f.total.place) b).1)
-    total-among false b = inr (inr (inr (among-right ps (qs ++ (f.total.place ∷ [])) f.total.place (among-right qs (f.total.place ∷ []) f.total.place (inl refl)))))
+    -- where it has a fault, it stands behind the braces
+    last : (bare : Bool) → (may_be_bare f.word && place_eq f.total.shown f.total.place) ≡ bare → own ≡ true → bare ≡ false
+    last true b o = absurd (both_ways false refl (sym (ap not (bare-takes f.word (both-true (may_be_bare f.word) (place_eq f.total.shown f.total.place) b).0)) ∙ o))
+    last false b o = refl
 
-    total-fault : (bare : Bool) → is-bare ≡ bare → Each (At (inner n) (all bare)) (fold_fault f)
-    total-fault bare b = subst (λ k. Each (At (inner n) (all bare)) (fault_if (not (takes_conditions f.word)) k f.total.place)) (sym total-key) (failing (not (takes_conditions f.word)) (inner n) (all bare) f.total.place (total-among bare b))
+    at-end : (bare : Bool) → bare ≡ false → Among (ends bare) f.total.place
+    at-end true b = absurd (false≢true (sym b))
+    at-end false b = inl refl
 
-    hoisted-folded : (bare : Bool) → is-bare ≡ bare → Each (At (inner n) (all bare)) (hoisted_in (P.Folded f head test e))
-    hoisted-folded bare b =
-        each-append (At (inner n) (all bare)) (hoisted_in test ++ rest_in test f.filter) ((hoisted_in e ++ rest_in e f.body) ++ fold_fault f)
-        (wider (inner n) ps (all bare) (hoisted_in test ++ rest_in test f.filter) (λ p a. inr (inr (inr (among-left ps (qs ++ ends bare) p a)))) front)
-        (each-append (At (inner n) (all bare)) (hoisted_in e ++ rest_in e f.body) (fold_fault f)
-        (wider (inner n) qs (all bare) (hoisted_in e ++ rest_in e f.body) (λ p a. inr (inr (inr (among-right ps (qs ++ ends bare) p (among-left qs (ends bare) p a))))) behind)
-        (total-fault bare b))
+    module _ (bare : Bool) (is-bare : (may_be_bare f.word && place_eq f.total.shown f.total.place) ≡ bare) (up : ascend (head.place ∷ (ps ++ (qs ++ ends bare))) ≡ true) where
+      after : ascend (ps ++ (qs ++ ends bare)) ≡ true
+      after = ascend-tail head.place (ps ++ (qs ++ ends bare)) up
 
-    -- what the total is made of comes before it, where it has a fault
-    abbrev Made : List Fault
-    Made = (hoisted_in test ++ rest_in test f.filter) ++ (hoisted_in e ++ rest_in e f.body)
+      own-end : Each (At (inner n) (ends bare)) (fold_fault f)
+      own-end = own-each (At (inner n) (ends bare)) own f (λ o. let here = at-end bare (last bare is-bare o) in ((body-key, here), (total-key, here)))
 
-    before-total : (bare : Bool) → is-bare ≡ bare → ascend (ps ++ (qs ++ ends bare)) ≡ true → lie_before Made (fold_fault f) ≡ true
-    before-total true b up = ap (λ c. lie_before Made (fault_if (not c) f.total.key f.total.place)) (bare-takes f.word (both-true (may_be_bare f.word) (place_eq f.total.shown f.total.place) b).0)
-    before-total false b up =
-        let back = ascend-right ps (qs ++ (f.total.place ∷ [])) up in
-        lie-if Made (not (takes_conditions f.word)) f.total.key f.total.place
-        (before-append (hoisted_in test ++ rest_in test f.filter) (hoisted_in e ++ rest_in e f.body) (total_fault f.total)
-        (one-places (inner n) ps (hoisted_in test ++ rest_in test f.filter) (total_fault f.total)
-        (λ p a. ascend-across ps (qs ++ (f.total.place ∷ [])) up p f.total.place a (among-right qs (f.total.place ∷ []) f.total.place (inl refl))) front total-key)
-        (one-places (inner n) qs (hoisted_in e ++ rest_in e f.body) (total_fault f.total) (λ p a. ascend-across qs (f.total.place ∷ []) back p f.total.place a (inl refl)) behind total-key))
+      within-qs : (p : Place) → Among qs p → Among (all bare) p
+      within-qs p a = inr (inr (inr (among-right ps (qs ++ ends bare) p (among-left qs (ends bare) p a))))
 
-    pub folded-parallel : (bare : Bool) → is-bare ≡ bare → ascend (ps ++ (qs ++ ends bare)) ≡ true → InParallel (all bare) (P.Folded f head test e)
-    folded-parallel bare b up = (
-      hoisted-folded bare b,
-      λ k. tt,
-      λ w p r.
-          let v = within w C.Reduction head.iterator in
-          let s = append-empty (range_broken w.loops head) (reads_broken test v ++ reads_broken e v) r in
-          let u = append-empty (reads_broken test v) (reads_broken e v) s.1 in
-          let deep = deeper w.loops (record { code = C.Reduction; iterator = head.iterator }) p in
-          let none = no-fold test v deep u.0 in
-          let nothing = no-fold e v deep u.1 in
-          both_true none.1 (both_true nothing.1 (both_true (nothing-before (hoisted_in test) (rest_in test f.filter) none.0) (both_true (nothing-before (hoisted_in e) (rest_in e f.body) nothing.0) (both_true
-          (lie-places (inner n) ps qs (hoisted_in test ++ rest_in test f.filter) (hoisted_in e ++ rest_in e f.body) (λ p q a c. ascend-across ps (qs ++ ends bare) up p q a (among-left qs (ends bare) q c)) front behind)
-          (before-total bare b up))))),
-    )
+      hoisted-folded : Each (At (inner n) (all bare)) (hoisted_in (P.Folded f head test e))
+      hoisted-folded =
+          let start : At (inner n) (all bare) (fault_of f.filter head.place) = (filter-key, inr (inr (inl refl))) in (
+            start,
+            each-append (At (inner n) (all bare)) (hoisted_in test ++ rest_in test f.filter) ((hoisted_in e ++ rest_in e f.body) ++ fold_fault f)
+                (wider (inner n) ps (all bare) (hoisted_in test ++ rest_in test f.filter) (λ p a. inr (inr (inr (among-left ps (qs ++ ends bare) p a)))) front)
+                (each-append (At (inner n) (all bare)) (hoisted_in e ++ rest_in e f.body) (fold_fault f)
+                (wider (inner n) qs (all bare) (hoisted_in e ++ rest_in e f.body) within-qs behind)
+                (wider (inner n) (ends bare) (all bare) (fold_fault f) (λ p a. inr (inr (inr (among-right ps (qs ++ ends bare) p (among-right qs (ends bare) p a))))) own-end)),
+          )
+
+      -- the range comes before the braces and the total
+      led : lie_before (fault_of f.filter head.place ∷ []) ((hoisted_in e ++ rest_in e f.body) ++ fold_fault f) ≡ true
+      led =
+          let start : Each (At (inner n) (head.place ∷ [])) (fault_of f.filter head.place ∷ []) = ((filter-key, inl refl), tt) in
+          lie-two-lists (fault_of f.filter head.place ∷ []) (hoisted_in e ++ rest_in e f.body) (fold_fault f)
+          (lie-places (inner n) (head.place ∷ []) qs (fault_of f.filter head.place ∷ []) (hoisted_in e ++ rest_in e f.body) (λ p q a b. ascend-across (head.place ∷ []) (ps ++ (qs ++ ends bare)) up p q a (among-right ps (qs ++ ends bare) q (among-left qs (ends bare) q b))) start behind)
+          (lie-places (inner n) (head.place ∷ []) (ends bare) (fault_of f.filter head.place ∷ []) (fold_fault f) (λ p q a b. ascend-across (head.place ∷ []) (ps ++ (qs ++ ends bare)) up p q a (among-right ps (qs ++ ends bare) q (among-right qs (ends bare) q b))) start own-end)
+
+      -- what the total is made of comes before it, where it has a fault
+      before-total : lie_before ((hoisted_in test ++ rest_in test f.filter) ++ (hoisted_in e ++ rest_in e f.body)) (fold_fault f) ≡ true
+      before-total =
+          lie-places (inner n) (ps ++ qs) (ends bare) ((hoisted_in test ++ rest_in test f.filter) ++ (hoisted_in e ++ rest_in e f.body)) (fold_fault f)
+          (ascend-across (ps ++ qs) (ends bare) (subst (λ zs. ascend zs ≡ true) (sym (append_assoc ps qs (ends bare))) after))
+          (each-append (At (inner n) (ps ++ qs)) (hoisted_in test ++ rest_in test f.filter) (hoisted_in e ++ rest_in e f.body) (wider (inner n) ps (ps ++ qs) (hoisted_in test ++ rest_in test f.filter) (λ p a. among-left ps qs p a) front)
+          (wider (inner n) qs (ps ++ qs) (hoisted_in e ++ rest_in e f.body) (λ p a. among-right ps qs p a) behind)) own-end
+
+      pub folded-parallel : InParallel (all bare) (P.Folded f head test e)
+      folded-parallel = (
+        hoisted-folded,
+        λ k. tt,
+        λ w p r.
+            let v = within w C.Reduction head.iterator in
+            let s = append-empty (range_broken w.loops head) (reads_broken test v ++ reads_broken e v) r in
+            let u = append-empty (reads_broken test v) (reads_broken e v) s.1 in
+            let deep = deeper w.loops (record { code = C.Reduction; iterator = head.iterator }) p in
+            let none = no-fold test v deep u.0 in
+            let nothing = no-fold e v deep u.1 in
+            both_true led (both_true none.1 (both_true nothing.1 (both_true (nothing-before (hoisted_in test) (rest_in test f.filter) none.0) (both_true (nothing-before (hoisted_in e) (rest_in e f.body) nothing.0) (both_true
+            (lie-places (inner n) ps qs (hoisted_in test ++ rest_in test f.filter) (hoisted_in e ++ rest_in e f.body) (λ p q a c. ascend-across ps (qs ++ ends bare) after p q a (among-left qs (ends bare) q c)) front behind)
+            before-total))))),
+      )
 
 -- ---- expressions of a sequential phase
 
@@ -352,24 +378,72 @@ of-statement k ps n xs e h = each-map (At k ps) (OfStatement n) xs (λ f a. ap (
 statements-apart : (m n : ℕ) (a b : Fault) → m < n → OfStatement m a → OfStatement n b → fault_lt a b ≡ true
 statements-apart m n a b lt e g = statement-before a.key b.key (omega (arith, lt, e, g)) a.place b.place
 
+-- faults under statements with numbers are numbered
+pub numbered-each : (n : ℕ) → 0 < n → (xs : List Fault) → Each (OfStatement n) xs → are_numbered xs ≡ true
+numbered-each n lt [] h = refl
+numbered-each n lt (f ∷ fs) h = let e = h.0 in both_true (lt-ltb 0 f.key.statement (omega (arith, lt, e))) (numbered-each n lt fs h.1)
+
+pub numbered-both : (xs ys : List Fault) → are_numbered xs ≡ true → are_numbered ys ≡ true → are_numbered (xs ++ ys) ≡ true
+numbered-both [] ys h g = g
+numbered-both (f ∷ fs) ys h g = let s = both-true (nat_lt 0 f.key.statement) (are_numbered fs) h in both_true s.0 (numbered-both fs ys s.1 g)
+
 -- a reduction of a sequential phase, whose filter and braces are parallel code under numbers of their own
-pub folded-sequence : (f : Fold) (head : Head) (test e : Expr) (ps qs rs : List Place) (m n : ℕ) → m < n → f.filter ≡ operators m → f.body ≡ operators n → f.total.key ≡ totals n
-    → InParallel m ps test → InParallel n qs e → InSequence rs (P.Folded f head test e)
-folded-sequence f head test e ps qs rs m n lt filter-key body-key total-key h g ds r =
-    let v = within (C.sequential ds) C.Reduction head.iterator in
-    let s = append-empty (range_broken [] head) (reads_broken test v ++ reads_broken e v) r in
-    let u = append-empty (reads_broken test v) (reads_broken e v) s.1 in
-    let rest-test = subst (λ k. Each (At (operators m) ps) (rest_in test k)) (sym filter-key) (h.1 (operators m)) in
-    let rest-e = subst (λ k. Each (At (operators n) qs) (rest_in e k)) (sym body-key) (g.1 (operators n)) in
-    let front : Each (OfStatement m) (hoisted_in test ++ rest_in test f.filter) = each-append (OfStatement m) (hoisted_in test) (rest_in test f.filter) (of-statement (inner m) ps m (hoisted_in test) refl h.0) (of-statement (operators m) ps m (rest_in test f.filter) refl rest-test) in
-    let behind : Each (OfStatement n) (hoisted_in e ++ rest_in e f.body) = each-append (OfStatement n) (hoisted_in e) (rest_in e f.body) (of-statement (inner n) qs n (hoisted_in e) refl g.0) (of-statement (operators n) qs n (rest_in e f.body) refl rest-e) in
-    both_true (h.2 v refl u.0) (both_true (g.2 v refl u.1) (both_true
-    (lie-keys (inner m) (operators m) ps ps (hoisted_in test) (rest_in test f.filter) (stage-before (inner m) (operators m) refl refl) h.0 rest-test) (both_true
-    (lie-keys (inner n) (operators n) qs qs (hoisted_in e) (rest_in e f.body) (stage-before (inner n) (operators n) refl refl) g.0 rest-e) (both_true
-    (lie (OfStatement m) (OfStatement n) (hoisted_in test ++ rest_in test f.filter) (hoisted_in e ++ rest_in e f.body) front behind (λ a b x y. statements-apart m n a b lt x y))
-    (lie-if ((hoisted_in test ++ rest_in test f.filter) ++ (hoisted_in e ++ rest_in e f.body)) (not (takes_conditions f.word)) f.total.key f.total.place
-    (before-append (hoisted_in test ++ rest_in test f.filter) (hoisted_in e ++ rest_in e f.body) (total_fault f.total)
-    (before-one (OfStatement m) (hoisted_in test ++ rest_in test f.filter) (total_fault f.total) front (λ a x. statements-apart m n a (total_fault f.total) lt x (ap (λ (j : Key). j.statement) total-key)))
-    (before-append (hoisted_in e) (rest_in e f.body) (total_fault f.total)
-    (one-keys (inner n) (totals n) qs (hoisted_in e) (total_fault f.total) (stage-before (inner n) (totals n) refl refl) g.0 total-key)
-    (one-keys (operators n) (totals n) qs (rest_in e f.body) (total_fault f.total) (stage-before (operators n) (totals n) refl refl) rest-e total-key))))))))
+module _ (f : Fold) (head : Head) (test e : Expr) (ps qs rs : List Place) (m n : ℕ) (positive : 0 < m) (lt : m < n) (filter-key : f.filter ≡ operators m) (body-key : f.body ≡ operators n) (total-key : f.total.key ≡ totals n)
+    (h : InParallel m ps test) (g : InParallel n qs e) (bare : Bool) (is-bare : (may_be_bare f.word && place_eq f.total.shown f.total.place) ≡ bare) (up : ascend (ps ++ (qs ++ (if bare then [] else f.total.place ∷ []))) ≡ true) where
+  abbrev Front : List Fault
+  Front = hoisted_in test ++ rest_in test f.filter
+
+  abbrev Behind : List Fault
+  Behind = hoisted_in e ++ rest_in e f.body
+
+  rest-test : Each (At (operators m) ps) (rest_in test f.filter)
+  rest-test = subst (λ k. Each (At (operators m) ps) (rest_in test k)) (sym filter-key) (h.1 (operators m))
+
+  rest-e : Each (At (operators n) qs) (rest_in e f.body)
+  rest-e = subst (λ k. Each (At (operators n) qs) (rest_in e k)) (sym body-key) (g.1 (operators n))
+
+  earlier : Each (OfStatement m) Front
+  earlier = each-append (OfStatement m) (hoisted_in test) (rest_in test f.filter) (of-statement (inner m) ps m (hoisted_in test) refl h.0) (of-statement (operators m) ps m (rest_in test f.filter) refl rest-test)
+
+  later : Each (OfStatement n) Behind
+  later = each-append (OfStatement n) (hoisted_in e) (rest_in e f.body) (of-statement (inner n) qs n (hoisted_in e) refl g.0) (of-statement (operators n) qs n (rest_in e f.body) refl rest-e)
+
+  own-behind : Each (OfStatement n) (fold_fault f)
+  own-behind = own-each (OfStatement n) (not (takes_conditions f.word)) f (λ o. (ap (λ (j : Key). j.statement) body-key, ap (λ (j : Key). j.statement) total-key))
+
+  range : Each (OfStatement m) (fault_of f.filter head.place ∷ [])
+  range = (ap (λ (j : Key). j.statement) filter-key, tt)
+
+  apart : (xs ys : List Fault) → Each (OfStatement m) xs → Each (OfStatement n) ys → lie_before xs ys ≡ true
+  apart xs ys a b = lie (OfStatement m) (OfStatement n) xs ys a b (λ x y p q. statements-apart m n x y lt p q)
+
+  -- the braces come before the reduction's own faults: by their keys, and before its operator's by their places
+  before-own : (not (takes_conditions f.word) ≡ true) → (all_before Behind (fault_of f.body f.total.place) ≡ true) × (all_before Behind (total_fault f.total) ≡ true)
+  before-own o = (
+    before-append (hoisted_in e) (rest_in e f.body) (fault_of f.body f.total.place) (one-keys (inner n) (operators n) qs (hoisted_in e) (fault_of f.body f.total.place) (stage-before (inner n) (operators n) refl refl) g.0 body-key)
+        (one-places (operators n) qs (rest_in e f.body) (fault_of f.body f.total.place) (λ p a. by bare up is-bare p a) rest-e body-key),
+    before-append (hoisted_in e) (rest_in e f.body) (total_fault f.total)
+        (one-keys (inner n) (totals n) qs (hoisted_in e) (total_fault f.total) (stage-before (inner n) (totals n) refl refl) g.0 total-key)
+        (one-keys (operators n) (totals n) qs (rest_in e f.body) (total_fault f.total) (stage-before (operators n) (totals n) refl refl) rest-e total-key),
+  )
+    where
+      by : (b : Bool) → ascend (ps ++ (qs ++ (if b then [] else f.total.place ∷ []))) ≡ true → (may_be_bare f.word && place_eq f.total.shown f.total.place) ≡ b → (p : Place) → Among qs p → place_lt p f.total.place ≡ true
+      by true u i p a = absurd (both_ways false refl (sym (ap not (bare-takes f.word (both-true (may_be_bare f.word) (place_eq f.total.shown f.total.place) i).0)) ∙ o))
+      by false u i p a = ascend-across qs (f.total.place ∷ []) (ascend-right ps (qs ++ (f.total.place ∷ [])) u) p f.total.place a (inl refl)
+
+  pub folded-sequence : InSequence rs (P.Folded f head test e)
+  folded-sequence ds r =
+      let v = within (C.sequential ds) C.Reduction head.iterator in
+      let s = append-empty (range_broken [] head) (reads_broken test v ++ reads_broken e v) r in
+      let u = append-empty (reads_broken test v) (reads_broken e v) s.1 in
+      let ends = fold_fault f in
+      both_true (both_true (apart (fault_of f.filter head.place ∷ []) (Behind ++ ends) range (each-append (OfStatement n) Behind ends later own-behind)) (both_true (h.2 v refl u.0) (both_true (g.2 v refl u.1) (both_true
+      (lie-keys (inner m) (operators m) ps ps (hoisted_in test) (rest_in test f.filter) (stage-before (inner m) (operators m) refl refl) h.0 rest-test) (both_true
+      (lie-keys (inner n) (operators n) qs qs (hoisted_in e) (rest_in e f.body) (stage-before (inner n) (operators n) refl refl) g.0 rest-e) (both_true
+      (apart Front Behind earlier later)
+      (lie-own (Front ++ Behind) (not (takes_conditions f.word)) f (λ o. let b = before-own o in (
+        before-append Front Behind (fault_of f.body f.total.place) (before-one (OfStatement m) Front (fault_of f.body f.total.place) earlier (λ a x. statements-apart m n a (fault_of f.body f.total.place) lt x (ap (λ (j : Key). j.statement) body-key))) b.0,
+        before-append Front Behind (total_fault f.total) (before-one (OfStatement m) Front (total_fault f.total) earlier (λ a x. statements-apart m n a (total_fault f.total) lt x (ap (λ (j : Key). j.statement) total-key))) b.1,
+      )))))))))
+      (both_true (lt-ltb 0 f.filter.statement (let e = ap (λ (j : Key). j.statement) filter-key in omega (arith, positive, e)))
+      (numbered-both Front (Behind ++ ends) (numbered-each m positive Front earlier) (numbered-both Behind ends (numbered-each n (omega (arith, positive, lt)) Behind later) (numbered-each n (omega (arith, positive, lt)) ends own-behind))))

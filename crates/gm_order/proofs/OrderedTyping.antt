@@ -1,5 +1,5 @@
 -- What typing makes of the expressions of a text stands in order.
-use Rattle.std.proofs.Common.{◌≡◌, ◌+◌, ℕ, Bool, true, false, ◌∷◌, ◌++◌, refl, ap, ◌∙◌, arith}
+use Rattle.std.proofs.Common.{◌≡◌, ◌+◌, ◌<◌, ℕ, Bool, true, false, ◌∷◌, ◌++◌, refl, ap, ◌∙◌, arith}
 use Rattle.std.specs.Prelude.{if◌then◌else◌, ◌&&◌, nat_eq}
 use Rattle.std.proofs.lemmas.Bool.{eqb-true, eq-eqb}
 use Rattle.gm_base.specs.declared.places.Place.{Place}
@@ -65,9 +65,13 @@ not-zero d = by (nat_eq (d + 1) 0) refl
 abbrev pub Parallel : ℕ → Key → ℕ → Type 0
 Parallel n k d = (k.statement ≡ n) × (nat_eq d 0 ≡ false)
 
+-- parallel code around a part
+abbrev Around : ℕ → Env → Type 0
+Around n env = Parallel n env.key env.depth
+
 module _ (n : ℕ) where
   fold-parallel : (at : Place) (word : ReductionWord) (h : SurfaceHead) (filter body : SurfaceExpr) (close : Place) → ascend (places_in (Reduction at word h filter body close)) ≡ true
-      → Keeps (InParallel n) (parallel-kept n) (Parallel n) filter → Keeps (InParallel n) (parallel-kept n) (Parallel n) body → Keeps (InParallel n) (parallel-kept n) (Parallel n) (Reduction at word h filter body close)
+      → Keeps (InParallel n) (parallel-kept n) (Around n) filter → Keeps (InParallel n) (parallel-kept n) (Around n) body → Keeps (InParallel n) (parallel-kept n) (Around n) (Reduction at word h filter body close)
   fold-parallel at word h filter body close up kf kb env m =
       let Q = InParallel n in
       let kept = parallel-kept n in
@@ -94,16 +98,16 @@ module _ (n : ℕ) where
       (condition-kept Q kept ps (start_of filter) (typed filter (record env3 { key = r.filter })) (kf (record env3 { key = r.filter }) (ap (λ (j : Key). j.statement) (key 0 Operator), not-zero env.depth)))
       (kb (record (later env3 a) { key = r.body }) (ap (λ (j : Key). j.statement) (key 1 Operator), not-zero env.depth)))))
       (λ xs k. reduction-kept (Q ps) (Q qs) (Q (at ∷ (x ∷ (o ∷ rest)))) r (head_with h xs.0 xs.1.0)
-      (λ t c e hc he. folded-parallel n (fold_of r t) (head_with h xs.0 xs.1.0) c e ps qs x o (key 0 Operator) (key 1 Operator) (key 1 Total) hc he (may_be_bare word && place_eq at close) refl back)
+      (λ t c e hc he. folded-parallel n (fold_of r t) (head_with h xs.0 xs.1.0) c e ps qs x (key 0 Operator) (key 1 Operator) (key 1 Total) hc he (may_be_bare word && place_eq at close) refl (ascend-tail x (o ∷ rest) (ascend-tail at (x ∷ (o ∷ rest)) up)))
       (λ p hp. settled-kept Q kept qs p.kind p hp) word (start_of body) xs.1.1.0 xs.1.1.1 k.1.1.0 k.1.1.1)
 
-  pub parallel-typed : (e : SurfaceExpr) → ascend (places_in e) ≡ true → Keeps (InParallel n) (parallel-kept n) (Parallel n) e
-  parallel-typed e up = typed-kept (InParallel n) (parallel-kept n) (Parallel n) fold-parallel e up
+  pub parallel-typed : (e : SurfaceExpr) → ascend (places_in e) ≡ true → Keeps (InParallel n) (parallel-kept n) (Around n) e
+  parallel-typed e up = typed-kept (InParallel n) (parallel-kept n) (Around n) (λ A env x m. m) fold-parallel e up
 
 -- ---- a sequential phase
 
-abbrev pub Sequence : Key → ℕ → Type 0
-Sequence k d = d ≡ 0
+abbrev pub Sequence : Env → Type 0
+Sequence env = (0 < env.number) × (env.depth ≡ 0)
 
 fold-sequence : (at : Place) (word : ReductionWord) (h : SurfaceHead) (filter body : SurfaceExpr) (close : Place) → ascend (places_in (Reduction at word h filter body close)) ≡ true
     → Keeps InSequence sequence-kept Sequence filter → Keeps InSequence sequence-kept Sequence body → Keeps InSequence sequence-kept Sequence (Reduction at word h filter body close)
@@ -119,7 +123,8 @@ fold-sequence at word h filter body close up kf kb env m =
     let n1 = env.number + 1 in
     let Q1 = InParallel n0 ps in
     let Q2 = InParallel n1 qs in
-    let sequential : is_sequential env ≡ true = eq-eqb env.depth 0 m in
+    let sequential : is_sequential env ≡ true = eq-eqb env.depth 0 m.1 in
+    let positive = m.0 in
     let key : (k : ℕ) (s : Stage) → fold_key env k s ≡ record { statement = env.number + k; stage = s } = λ k s. ap (λ b. if b then record { statement = env.number + k; stage = s } else inner_key env) sequential in
     let test = keyed r.filter (condition (start_of filter) (typed filter)) in
     let braces = keyed r.body (typed body) in
@@ -136,8 +141,8 @@ fold-sequence at word h filter body close up kf kb env m =
     (condition-kept (InParallel n0) (parallel-kept n0) ps (start_of filter) (typed filter (record env3 { key = r.filter })) (parallel-typed n0 filter (ascend-left ps (qs ++ closing word at close) back) (record env3 { key = r.filter }) (ap (λ (j : Key). j.statement) (key 0 Operator), not-zero env.depth)))
     (parallel-typed n1 body (ascend-left qs (closing word at close) (ascend-right ps (qs ++ closing word at close) back)) (record (later env3 a) { key = r.body }) (ap (λ (j : Key). j.statement) (key 1 Operator), not-zero env.depth)))))
     (λ xs k. reduction-kept Q1 Q2 (InSequence (at ∷ (x ∷ (o ∷ rest)))) r (head_with h xs.0 xs.1.0)
-    (λ t c e hc he. folded-sequence (fold_of r t) (head_with h xs.0 xs.1.0) c e ps qs (at ∷ (x ∷ (o ∷ rest))) n0 n1 (omega arith) (key 0 Operator) (key 1 Operator) (key 1 Total) hc he)
+    (λ t c e hc he. folded-sequence (fold_of r t) (head_with h xs.0 xs.1.0) c e ps qs (at ∷ (x ∷ (o ∷ rest))) n0 n1 (omega (arith, positive)) (omega arith) (key 0 Operator) (key 1 Operator) (key 1 Total) hc he (may_be_bare word && place_eq at close) refl back)
     (λ p hp. settled-kept (InParallel n1) (parallel-kept n1) qs p.kind p hp) word (start_of body) xs.1.1.0 xs.1.1.1 k.1.1.0 k.1.1.1)
 
 pub sequence-typed : (e : SurfaceExpr) → ascend (places_in e) ≡ true → Keeps InSequence sequence-kept Sequence e
-sequence-typed e up = typed-kept InSequence sequence-kept Sequence fold-sequence e up
+sequence-typed e up = typed-kept InSequence sequence-kept Sequence (λ A env x m. let p = m.0 in (omega (arith, p), m.1)) fold-sequence e up

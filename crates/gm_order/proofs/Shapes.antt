@@ -61,5 +61,8 @@ mutual
   reverse-shaped : {us vs : List Token} {q : Place} {f : SurfaceExpr} {ss : List SurfaceStmt} → ReadsReverse us q f ss vs → shaped false (sequence ss) ≡ true
   reverse-shaped (ReadsReverse.reverse w f b) = block-shaped b
 
-pub procedure-shaped : {us vs : List Token} {p : SurfaceProcedure} → ReadsProcedure us p vs → shaped false p.body ≡ true
-procedure-shaped (ReadsProcedure.procedure w n l ins outs r t b) = block-shaped b
+statements-shaped : {us vs : List Token} {ss : List SurfaceStmt} → ReadsBlock us ss vs → shaped true (sequence ss) ≡ true
+statements-shaped (ReadsBlock.braces l r c) = many-shaped r
+
+pub procedure-shaped : {us vs : List Token} {p : SurfaceProcedure} → ReadsProcedure us p vs → shaped true p.body ≡ true
+procedure-shaped (ReadsProcedure.procedure w n l ins outs r t b) = statements-shaped b

@@ -26,7 +26,7 @@ pub fn text_programs_have_types()
 }
 
 /// In the program of a text that is canonical the faults of each parallel loop stand in the order of the text, piece by
-/// piece. A reduction without braces has its total at its word, before its filter; it counts or tests, and its total
+/// piece, and behind the key of the loop or search; none has the number 0. A reduction without braces has its total at its word, before its filter; it counts or tests, and its total
 /// cannot fault.
 pub fn text_programs_are_ordered()
     ensures { TextProgramsAreOrdered }

@@ -1,10 +1,10 @@
 -- Declarations, and the names that are known after them.
-use Rattle.std.proofs.Common.{◌≡◌, ◌+◌, ℕ, Bool, true, false, List, [], ◌∷◌, refl, ap, Option, Some, None}
-use Rattle.std.specs.Prelude.{◌||◌, if◌then◌else◌, Ok}
+use Rattle.std.proofs.Common.{◌≡◌, ◌+◌, ℕ, Bool, true, false, List, [], ◌∷◌, ◌++◌, refl, ap, ◌∙◌, Option, Some, None}
+use Rattle.std.specs.Prelude.{◌||◌, ◌&&◌, nat_eq, if◌then◌else◌, Ok}
 use Rattle.std.proofs.lemmas.Bool.{both_ways}
 use Rattle.std.proofs.lemmas.Option.{none-some}
 use Rattle.gm_base.specs.declared.places.Place.{Place}
-use Rattle.gm_base.specs.declared.rules.Rule.TheVariants.{T7, T9}
+use Rattle.gm_base.specs.declared.rules.Rule.TheVariants.{T4, T7, T9}
 use Rattle.gm_base.specs.declared.rules.Refusal.{Refusal}
 use Rattle.gm_value.specs.declared.values.VType.{VType}
 use Rattle.gm_ast.specs.declared.tree.Declaration.{Declaration}
@@ -12,18 +12,18 @@ use Rattle.gm_ast.specs.declared.tree.Key.{Key}
 use Rattle.gm_ast.specs.declared.tree.Sort.{Sort}
 use Rattle.gm_ast.specs.declared.tree.Sort.TheVariants as Sorts
 use Rattle.gm_ast.specs.declared.tree.Variable.{Variable}
-use Rattle.gm_ast.specs.declared.kinds.Role.TheVariants.{Local}
+use Rattle.gm_ast.specs.declared.kinds.Role.TheVariants.{Local, Inside}
 use Rattle.gm_ast.specs.declared.surface.TypeWord.TheVariants as Word
 use Rattle.gm_ast.specs.declared.surface.Bearer.TheVariants.{Nodes, Edges}
 use Rattle.gm_ast.specs.Surface.{SurfaceName, SurfaceType, Plain, Property, SurfaceExpr, SurfaceStmt}
 use Rattle.gm_ast.specs.Surface as S
 use Rattle.gm_ast.specs.Program as P
 use Rattle.gm_ast.specs.Program.{Expr, Stmt}
-use Rattle.gm_ast.specs.Judged.{beside, broken_by, ok_of, refused_unless, noted}
+use Rattle.gm_ast.specs.Judged.{beside, unless, broken_by, ok_of, refused_unless, noted}
 use Rattle.gm_ast.specs.Names.{Env, is, is_node, sort_eq, used, declared_as, with_name, both, operators_of, numbered}
 use Rattle.gm_ast.specs.Kinds.{Part, fitted}
 use Rattle.gm_ast.specs.Typing.{typed}
-use Rattle.gm_ast.specs.Statements.{type_broken, sort_of, vtype_of, variable_of, declared_all, with_names, known_after, plain_declarations, declarations_as, declared_plainly, bare, edge_asked, edge_owner, declared_value, is_edge_type, edge_declared, declared_typed, declared_with, checked}
+use Rattle.gm_ast.specs.Statements.{graph_named, type_broken, sort_of, vtype_of, variable_of, declared_all, with_names, known_after, plain_declarations, declarations_as, declared_plainly, bare, edge_asked, edge_owner, declared_value, is_edge_type, edge_declared, declared_typed, declared_with, checked}
 use Rattle.gm_forms.specs.Uses as Uses
 use Rattle.gm_forms.specs.Uses.{use_as, uses_in, uses_of}
 use Rattle.gm_ready.proofs.Tables.{iterates_nodes, Has, Binds, binds-at, Suit, join, suit-as, AllKnown, known-with}
@@ -54,6 +54,21 @@ local-sort (Plain at Word.Bool g) env h = refl
 local-sort (Plain at Word.Node g) env h = refl
 local-sort (Property at Nodes inner g) env h = refl
 local-sort (Property at Edges inner g) env h = broken-not _ _ h
+
+-- a property is declared outside of parallel loops alone
+local-depth : (t : SurfaceType) (env : Env) → type_broken t Local env ≡ [] → sort_of t ≡ Sorts.NodeProperty → nat_eq env.depth 0 ≡ true
+local-depth (Plain at Word.Graph g) env h e = absurd (both_ways false refl (ap (sort_eq Sorts.NodeProperty) e))
+local-depth (Plain at Word.Edge g) env h e = absurd (both_ways false refl (ap (sort_eq Sorts.NodeProperty) e))
+local-depth (Plain at Word.Int g) env h e = absurd (both_ways false refl (ap (sort_eq Sorts.NodeProperty) e))
+local-depth (Plain at Word.Long g) env h e = absurd (both_ways false refl (ap (sort_eq Sorts.NodeProperty) e))
+local-depth (Plain at Word.Bool g) env h e = absurd (both_ways false refl (ap (sort_eq Sorts.NodeProperty) e))
+local-depth (Plain at Word.Node g) env h e = absurd (both_ways false refl (ap (sort_eq Sorts.NodeProperty) e))
+local-depth (Property at Nodes inner g) env h e = by (nat_eq env.depth 0) h
+  where
+    by : (b : Bool) → (unless b T4 at ++ graph_named env g) ++ type_broken inner Inside env ≡ [] → b ≡ true
+    by true h = refl
+    by false h = broken-not _ _ h
+local-depth (Property at Edges inner g) env h e = broken-not _ _ h
 
 edge-sort : (t : SurfaceType) → is_edge_type t ≡ true → sort_of t ≡ Sorts.Edge
 edge-sort (Plain at Word.Graph g) h = absurd (both_ways false refl h)
@@ -105,18 +120,18 @@ module _ (ds : List Declaration) where
   names-known v (x ∷ xs) env other nodes known has =
       names-known v xs (with_name env x v) (with_name other x v) nodes (known-next env x v known (binds-at ds env.next (record { name = x.text; variable = v }) has.0 nodes)) has.1
 
-  plainly-named : (k : Key) (v : Variable) (ns : List ℕ) → is Sorts.Scalar v || is Sorts.NodeProperty v ≡ true → AllAre v ns → IsNamedStmt ds (plain_declarations k ns)
+  plainly-named : (k : Key) (v : Variable) (ns : List ℕ) → is Sorts.Scalar v || (is Sorts.NodeProperty v && nat_eq v.depth 0) ≡ true → AllAre v ns → IsNamedStmt ds (plain_declarations k ns)
   plainly-named k v [] fits h = refl
   plainly-named k v (n ∷ ns) fits h =
       join ds (use_as Uses.Declared n) (uses_of (plain_declarations k ns)) (suit-as ds Uses.Declared (record { index = n; variable = v }) h.0 fits) (plainly-named k v ns fits h.1)
 
-  declarations-named : (s : Sort) (k : Key) (v : Variable) (xs : List SurfaceName) (ns : List ℕ) → may_be_local s ≡ true → v.sort ≡ s → AllAre v ns → IfPart (IsNamedStmt ds) (ok_of (declarations_as s k xs ns))
-  declarations-named Sorts.Scalar k v xs ns may e h = plainly-named k v ns (ap (λ s. sort_eq Sorts.Scalar s || sort_eq Sorts.NodeProperty s) e) h
-  declarations-named Sorts.NodeProperty k v xs ns may e h = plainly-named k v ns (ap (λ s. sort_eq Sorts.Scalar s || sort_eq Sorts.NodeProperty s) e) h
-  declarations-named Sorts.Edge k v xs ns may e h = tt
-  declarations-named Sorts.Graph k v xs ns may e h = absurd (both_ways false refl may)
-  declarations-named Sorts.Iterator k v xs ns may e h = absurd (both_ways false refl may)
-  declarations-named Sorts.EdgeProperty k v xs ns may e h = absurd (both_ways false refl may)
+  declarations-named : (s : Sort) (k : Key) (v : Variable) (xs : List SurfaceName) (ns : List ℕ) → may_be_local s ≡ true → (s ≡ Sorts.NodeProperty → nat_eq v.depth 0 ≡ true) → v.sort ≡ s → AllAre v ns → IfPart (IsNamedStmt ds) (ok_of (declarations_as s k xs ns))
+  declarations-named Sorts.Scalar k v xs ns may zero e h = plainly-named k v ns (ap (λ s. sort_eq Sorts.Scalar s || (sort_eq Sorts.NodeProperty s && nat_eq v.depth 0)) e) h
+  declarations-named Sorts.NodeProperty k v xs ns may zero e h = plainly-named k v ns (ap (λ s. sort_eq Sorts.Scalar s || (sort_eq Sorts.NodeProperty s && nat_eq v.depth 0)) e ∙ zero refl) h
+  declarations-named Sorts.Edge k v xs ns may zero e h = tt
+  declarations-named Sorts.Graph k v xs ns may zero e h = absurd (both_ways false refl may)
+  declarations-named Sorts.Iterator k v xs ns may zero e h = absurd (both_ways false refl may)
+  declarations-named Sorts.EdgeProperty k v xs ns may zero e h = absurd (both_ways false refl may)
 
   pub plain-named : (t : SurfaceType) (xs : List SurfaceName) → Good ds (IsNamedStmt ds) (declared_plainly t xs)
   plain-named t xs env known has clean =
@@ -126,7 +141,7 @@ module _ (ds : List Declaration) where
       let none = append-empty (type_broken t Local env) (declared_all v xs env).broken all.0 in
       gives-judge ds (λ p. Unit {0} × AllAre v p.1) (IsNamedStmt ds) env.next parts (λ p. declarations_as (sort_of t) env.key xs p.1)
       (λ has clean. if-both (λ u. Unit {0}) (AllAre v) (Some (tt {0})) (declared_all v xs env).part tt (all-declared v xs (variable-nodes t env.depth) env known has none.1))
-      (λ p h. declarations-named (sort_of t) env.key v xs p.1 (local-sort t env none.0) refl h.1) has clean
+      (λ p h. declarations-named (sort_of t) env.key v xs p.1 (local-sort t env none.0) (local-depth t env none.0) refl h.1) has clean
 
   pub typed-declared : (t : SurfaceType) (x : SurfaceName) (env : Env) → Gives ds (Is (variable_of t env.depth)) env.next (declared_typed t x env)
   typed-declared t x env has clean =

@@ -11,7 +11,7 @@ use Rattle.gm_ast.specs.declared.tree.TotalKey.{TotalKey}
 use Rattle.gm_ast.specs.Keys.{Fault, fault_lt, total_fault, all_before}
 use Rattle.gm_ast.specs.Program.{Expr, Stmt, Skip, Then, Declare, DeclareEdge, Assign, Defer, Combine, Group, Foreach, For, If, While, Do, InBfs, InBfsBoth, Return}
 use Rattle.gm_forms.proofs.Named.{both-true}
-use Rattle.gm_forms.specs.Order.{lie_before, faults_in, faults_in_all, targets_faults, faults_of, in_order, body_in_order, loop_in_order, folds_in_order, loops_in_order}
+use Rattle.gm_forms.specs.Order.{lie_before, faults_in, faults_in_all, targets_faults, fault_of, are_numbered, faults_of, in_order, leads, body_in_order, loop_in_order, begins, search_in_order, folds_in_order, loops_in_order}
 use Rattle.gm_ready.specs.Rising.{numbers_in, is_below, rise, numbers_rise_in}
 use Rattle.gm_ready.proofs.Placing.{Placed}
 use Rattle.gm_ready.proofs.Racing.{Member, member-left, member-right}
@@ -90,7 +90,7 @@ module _ (ds : List Declaration) where
   has-total d edge (If k c a b) h n m =
       in-either n (numbers_in a) (numbers_in b) m (λ i. let r = has-total d edge a h.1.0 n i in (r.0, member-right _ (faults_in c k) _ (member-left _ (faults_of a) (faults_of b) r.1)))
       (λ i. let r = has-total d edge b h.1.1 n i in (r.0, member-right _ (faults_in c k) _ (member-right _ (faults_of a) (faults_of b) r.1)))
-  has-total d edge (Foreach k at hd test body) h n m = let r = has-total (d + 1) edge body h.1.1 n m in (r.0, member-right _ (faults_in test k) (faults_of body) r.1)
+  has-total d edge (Foreach k at hd test body) h n m = let r = has-total (d + 1) edge body h.1.1 n m in (r.0, inr (member-right _ (faults_in test k) (faults_of body) r.1))
   has-total d edge Skip h n m = absurd m
   has-total d edge (Declare k x e) h n m = absurd m
   has-total d edge (DeclareEdge x y at) h n m = absurd m
@@ -112,7 +112,7 @@ module _ (ds : List Declaration) where
   has-operator d edge (If k c a b) h n m =
       in-either n (numbers_in a) (numbers_in b) m (λ i. let r = has-operator d edge a h.1.0 n i in (r.0, member-right _ (faults_in c k) _ (member-left _ (faults_of a) (faults_of b) r.1)))
       (λ i. let r = has-operator d edge b h.1.1 n i in (r.0, member-right _ (faults_in c k) _ (member-right _ (faults_of a) (faults_of b) r.1)))
-  has-operator d edge (Foreach k at hd test body) h n m = let r = has-operator (d + 1) edge body h.1.1 n m in (r.0, member-right _ (faults_in test k) (faults_of body) r.1)
+  has-operator d edge (Foreach k at hd test body) h n m = let r = has-operator (d + 1) edge body h.1.1 n m in (r.0, inr (member-right _ (faults_in test k) (faults_of body) r.1))
   has-operator d edge Skip h n m = absurd m
   has-operator d edge (Declare k x e) h n m = absurd m
   has-operator d edge (DeclareEdge x y at) h n m = absurd m
@@ -146,7 +146,8 @@ module _ (ds : List Declaration) where
       let x = both-true (lie_before (faults_in c k) (faults_of a ++ faults_of b)) (lie_before (faults_of a) (faults_of b)) y.1 in
       rise-append (numbers_in a) (numbers_in b) (under d d edge edge a b h.1.0 h.1.1 x.1) (rises-in d edge a h.1.0 z.0) (rises-in d edge b h.1.1 y.0)
   rises-in d edge (Foreach k at hd test body) h o =
-      let q = both-true (in_order test k) (body_in_order body && lie_before (faults_in test k) (faults_of body)) o in
+      let z = both-true (leads k hd.place body) (loop_in_order k test body) o in
+      let q = both-true (in_order test k) (body_in_order body && lie_before (faults_in test k) (faults_of body)) z.1 in
       rises-in (d + 1) edge body h.1.1 (both-true (body_in_order body) (lie_before (faults_in test k) (faults_of body)) q.1).0
   rises-in d edge Skip h o = refl
   rises-in d edge (Declare k x e) h o = refl
@@ -166,9 +167,14 @@ module _ (ds : List Declaration) where
       let q = both-true (in_order test k) (body_in_order body && lie_before (faults_in test k) (faults_of body)) o in
       rises-in d edge body h (both-true (body_in_order body) (lie_before (faults_in test k) (faults_of body)) q.1).0
 
+  search-rises : (d : ℕ) (edge : Bool) (k : Key) (at : Place) (test : Expr) (body : Stmt) → Placed ds d edge body → search_in_order k at test body ≡ true → rise (numbers_in body) ≡ true
+  search-rises d edge k at test body h o =
+      let q = both-true (are_numbered (fault_of k at ∷ [])) (begins k at test body && loop_in_order k test body) o in
+      loop-rises d edge k test body h (both-true (begins k at test body) (loop_in_order k test body) q.1).1
+
   pub numbers-rise : (d : ℕ) (edge : Bool) (s : Stmt) → Placed ds d edge s → loops_in_order s ≡ true → numbers_rise_in s ≡ true
   numbers-rise d edge (Then a b) h o = let q = both-true (loops_in_order a) (loops_in_order b) o in both_true (numbers-rise d edge a h.0 q.0) (numbers-rise d h.1.0 b h.1.1.1 q.1)
-  numbers-rise d edge (Foreach k at hd test body) h o = loop-rises (d + 1) edge k test body h.1.1 o
+  numbers-rise d edge (Foreach k at hd test body) h o = loop-rises (d + 1) edge k test body h.1.1 (both-true (begins k hd.place test body) (loop_in_order k test body) o).1
   numbers-rise d edge (For k at hd test body) h o = numbers-rise (d + 0) edge body h.1.1 (both-true (folds_in_order test) (loops_in_order body) o).1
   numbers-rise d edge (If k c a b) h o =
       let q = both-true (folds_in_order c) (loops_in_order a && loops_in_order b) o in
@@ -176,10 +182,10 @@ module _ (ds : List Declaration) where
       both_true (numbers-rise d edge a h.1.0 z.0) (numbers-rise d edge b h.1.1 z.1)
   numbers-rise d edge (While k at c body) h o = numbers-rise d edge body h.1 (both-true (folds_in_order c) (loops_in_order body) o).1
   numbers-rise d edge (Do k at body c) h o = numbers-rise d edge body h.0 (both-true (loops_in_order body) (folds_in_order c) o).0
-  numbers-rise d edge (InBfs k at s test body) h o = loop-rises (d + 1) edge k test body h.1.1 o
+  numbers-rise d edge (InBfs k at s test body) h o = search-rises (d + 1) edge k s.place test body h.1.1 o
   numbers-rise d edge (InBfsBoth k at s test body bk bt back) h o =
-      let q = both-true (loop_in_order k test body) (loop_in_order bk bt back) o in
-      both_true (loop-rises (d + 1) edge k test body h.1.0.1 q.0) (loop-rises (d + 1) edge bk bt back h.1.1.1 q.1)
+      let q = both-true (search_in_order k s.place test body) (search_in_order bk s.place bt back) o in
+      both_true (search-rises (d + 1) edge k s.place test body h.1.0.1 q.0) (search-rises (d + 1) edge bk s.place bt back h.1.1.1 q.1)
   numbers-rise d edge Skip h o = refl
   numbers-rise d edge (Declare k x e) h o = refl
   numbers-rise d edge (DeclareEdge x y at) h o = refl

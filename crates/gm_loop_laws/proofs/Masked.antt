@@ -28,6 +28,7 @@ use Rattle.gm_semantics.specs.Iterations.{Loop, Iteration, begun, with_ok, one_w
 use Rattle.gm_semantics.specs.Loops.{iteration, parallel}
 use Rattle.gm_semantics.proofs.ContributionLaws.{IsIn-filter}
 use Rattle.gm_semantics.proofs.TargetLaws.{never}
+use Rattle.gm_forms.specs.Cut.{spares_locals}
 use Rattle.gm_forms.specs.Forms.{depth_at, is_range, is_inner_body}
 use Rattle.gm_forms.specs.Sharing.{Reduced, written, reduced}
 use Rattle.gm_forms.specs.Fission.{elsewhere_of, pushed_properties}
@@ -35,34 +36,12 @@ use Rattle.gm_forms.specs.Doing.{EachGiven, IsFlat}
 use Rattle.gm_forms.proofs.Named.{both-true, all-append}
 use Rattle.gm_forms.proofs.CutTests.{finds}
 use Rattle.gm_forms.proofs.Doings.{does-did, each-append, each-in, gave-from}
-use Rattle.gm_loop_laws.specs.Alone.{spares_locals}
 use Rattle.gm_loop_laws.proofs.Joins.{map-each}
 use Rattle.gm_loop_laws.proofs.LoopEnds.{in-joined, loop-ends}
 use Rattle.gm_loop_laws.proofs.Locals.{without-locals}
 use Rattle.gm_loop_laws.proofs.Splits.{ends_late, is_top, is_late_slot, end_by, compared, split, AllEndSo, BodyEndsSo, split-ok, split-one_way, split-does}
 use Rattle.gm_loop_laws.proofs.Givens.{GivenBy, one-given, Free, body-may}
-use Rattle.gm_loop_laws.proofs.Alone.{hoists-nothing, settled-nothing, along, steps-at, nodes-below, gives, faults, ended, ended-store, ended-outermost, ended-fault, Stands}
-
--- turns that do nothing
-idle-inner : (f : Step → Store) (steps : List Step) → joined (map (λ t. t.with_inner) (map (λ e. begun (f e)) steps)) ≡ []
-idle-inner f [] = refl
-idle-inner f (e ∷ steps) = idle-inner f steps
-
-idle-outermost : (f : Step → Store) (steps : List Step) → joined (map (λ t. t.with_outermost) (map (λ e. begun (f e)) steps)) ≡ []
-idle-outermost f [] = refl
-idle-outermost f (e ∷ steps) = idle-outermost f steps
-
-idle-fault : (f : Step → Store) (steps : List Step) → somes (map (λ t. t.fault) (map (λ e. begun (f e)) steps)) ≡ []
-idle-fault f [] = refl
-idle-fault f (e ∷ steps) = idle-fault f steps
-
-idle : (s : Store) (f : Step → Store) (steps : List Step) → inner_done (begun s) (map (λ e. begun (f e)) steps) ≡ begun s
-idle s f steps =
-    let its = map (λ e. begun (f e)) steps in
-    ap (λ cs. record (begun s) { store = settled_store s cs; with_outermost = joined (map (λ t. t.with_outermost) its); fault = least (somes (map (λ t. t.fault) its) ++ total_faults s cs) }) (idle-inner f steps)
-    ∙ ap (λ cs. record (begun s) { store = settled_store s []; with_outermost = cs; fault = least (somes (map (λ t. t.fault) its) ++ total_faults s []) }) (idle-outermost f steps)
-    ∙ ap (λ fs. record (begun s) { store = settled_store s []; fault = least (fs ++ total_faults s []) }) (idle-fault f steps)
-    ∙ ap begun (settled-nothing s)
+use Rattle.gm_loop_laws.proofs.Alone.{hoists-nothing, settled-nothing, along, steps-at, nodes-below, gives, faults, ended, idle, ended-store, ended-outermost, ended-fault, Stands}
 
 -- the reductions of an inner body to the outer node end with the inner loop, unless the loop pushes the property
 own-ends-so : (loop : Loop) (some : List ℕ) → ((p : ℕ) → is_in some p ≡ true → loop.pushed p ≡ true) → (s : Stmt) → list_all (is_in some) (pushed_properties loop.outer s) ≡ true → BodyEndsSo loop loop.outer loop.pushed loop.pushed s
@@ -87,7 +66,7 @@ own-ends-so loop some known (Combine k total r ts es) p = each ts p
 own-ends-so loop some known _ p = tt
 
 -- a loop with the inner loop alone in it, which pushes what is in a list
-module _ (loop : Loop) (mask : Expr) (held : ℕ → Value) (key k : Key) (h : Head) (test : Expr) (body : Stmt) (s : Store) (saved : (x : ℕ) → IsIn x (nodes loop.graph) → (mode : Mode) (it : Iteration) (j : Key) → it.store.scalar loop.outer ≡ At (Some x) → it.store.node ≡ s.node → evaluated mask (view_in loop mode it j) ≡ plain (Ok (held x))) (apart : nat_eq h.iterator loop.outer ≡ false) where
+module _ (loop : Loop) (mask : Expr) (held : ℕ → Value) (key k : Key) (h : Head) (test : Expr) (body : Stmt) (s : Store) (saved : (x : ℕ) → IsIn x (nodes loop.graph) → (mode : Mode) (it : Iteration) (j : Key) → it.store.scalar loop.outer ≡ At (Some x) → it.store.node ≡ s.node → ((y : ℕ) → nat_eq loop.outer y ≡ false → nat_eq h.iterator y ≡ false → it.store.scalar y ≡ s.scalar y) → evaluated mask (view_in loop mode it j) ≡ plain (Ok (held x))) (apart : nat_eq h.iterator loop.outer ≡ false) where
   abbrev n : ℕ
   n = loop.outer
 
@@ -117,13 +96,19 @@ module _ (loop : Loop) (mask : Expr) (held : ℕ → Value) (key k : Key) (h : H
   pub outer-held : (x : ℕ) → (at_outer x).scalar n ≡ At (Some x)
   outer-held x = ap (λ b. cond b (At (Some x)) (s.scalar n)) (eq-eqb n n refl)
 
+  outer-rest : (x z : ℕ) → nat_eq n z ≡ false → (at_outer x).scalar z ≡ s.scalar z
+  outer-rest x z e = ap (λ b. cond b (At (Some x)) (s.scalar z)) e
+
+  both-rest : (x y z : ℕ) → nat_eq n z ≡ false → nat_eq t z ≡ false → (at_both x y).scalar z ≡ s.scalar z
+  both-rest x y z e f = ap (λ b. cond b (At (Some y)) ((at_outer x).scalar z)) f ∙ outer-rest x z e
+
   both-held : (x y : ℕ) → (at_both x y).scalar n ≡ At (Some x)
   both-held x y = ap (λ b. cond b (At (Some y)) ((at_outer x).scalar n)) apart ∙ outer-held x
 
   module _ (flat-test : IsFlat test) where
     both-values : (x y e : ℕ) → IsIn x ks → value (Both mask test) (seen x y e) ≡ cond (is_true (held x)) (evaluated test (seen x y e)).rest (Ok (held x))
     both-values x y e i =
-        ap (λ a. settled (both a (evaluated test (seen x y e)))) (saved x i (AtEdge e) (begun (at_both x y)) k (both-held x y) refl)
+        ap (λ a. settled (both a (evaluated test (seen x y e)))) (saved x i (AtEdge e) (begun (at_both x y)) k (both-held x y) refl (both-rest x y))
         ∙ ap (λ o. unless_fault o (cond (is_true (held x)) (evaluated test (seen x y e)).rest (Ok (held x)))) (hoists-nothing loop (AtEdge e) (begun (at_both x y)) k test flat-test)
 
     own-value : (x y e : ℕ) → value test (seen x y e) ≡ (evaluated test (seen x y e)).rest
@@ -148,7 +133,7 @@ module _ (loop : Loop) (mask : Expr) (held : ℕ → Value) (key k : Key) (h : H
       (λ v. split-one_way loop outer pushed pp (is_true v) (does body (AtEdge e) (compared loop outer pushed pp)) as_it_is (does body (AtEdge e) (ends_late loop)) as_it_is (begun st) (split-does loop outer pushed pp body e (begun st) so) refl)
 
 module _ (ds : List Declaration) (some : List ℕ) (loop : Loop) (depths : (y : ℕ) → loop.depth y ≡ depth_at ds y) (known : (p : ℕ) → is_in some p ≡ true → loop.pushed p ≡ true)
-    (mask : Expr) (held : ℕ → Value) (key k : Key) (here : Place) (h : Head) (test : Expr) (body : Stmt) (s : Store) (saved : (x : ℕ) → IsIn x (nodes loop.graph) → (mode : Mode) (it : Iteration) (j : Key) → it.store.scalar loop.outer ≡ At (Some x) → it.store.node ≡ s.node → evaluated mask (view_in loop mode it j) ≡ plain (Ok (held x))) (apart : nat_eq h.iterator loop.outer ≡ false) (owner : h.owner ≡ loop.outer) (range : is_range false h.domain ≡ true)
+    (mask : Expr) (held : ℕ → Value) (key k : Key) (here : Place) (h : Head) (test : Expr) (body : Stmt) (s : Store) (saved : (x : ℕ) → IsIn x (nodes loop.graph) → (mode : Mode) (it : Iteration) (j : Key) → it.store.scalar loop.outer ≡ At (Some x) → it.store.node ≡ s.node → ((y : ℕ) → nat_eq loop.outer y ≡ false → nat_eq h.iterator y ≡ false → it.store.scalar y ≡ s.scalar y) → evaluated mask (view_in loop mode it j) ≡ plain (Ok (held x))) (apart : nat_eq h.iterator loop.outer ≡ false) (owner : h.owner ≡ loop.outer) (range : is_range false h.domain ≡ true)
     (flat-test : IsFlat test) (its : List ℕ) (inner-body : is_inner_body ds its true body ≡ true) (alone : Stands ds some loop.outer body) where
   abbrev n' : ℕ
   n' = loop.outer
@@ -213,7 +198,7 @@ module _ (ds : List Declaration) (some : List ℕ) (loop : Loop) (depths : (y : 
   run-ended : (x : ℕ) → IsIn x ks' → run x ≡ ended loop n' loop.pushed loop.pushed (at_outer loop mask held key k h test body s saved apart x) (out_turn x) (along h.domain loop.graph x)
   run-ended x i =
       ap (λ v. with_ok (begun (at_outer loop mask held key k h test body s saved apart x)) (settled v) (λ v. one_way (is_true v) (does stmt Outermost loop) as_it_is (begun (at_outer loop mask held key k h test body s saved apart x))))
-      (saved x i Outermost (begun (at_outer loop mask held key k h test body s saved apart x)) key (outer-held loop mask held key k h test body s saved apart x) refl)
+      (saved x i Outermost (begun (at_outer loop mask held key k h test body s saved apart x)) key (outer-held loop mask held key k h test body s saved apart x) refl (λ z e f. outer-rest loop mask held key k h test body s saved apart x z e))
       ∙ by (is_true (held x)) refl
     where
       so : BodyEndsSo loop n' loop.pushed loop.pushed body
