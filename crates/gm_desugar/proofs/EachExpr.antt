@@ -24,7 +24,7 @@ use Rattle.gm_semantics.specs.Levels.{nodes, no_levels}
 use Rattle.gm_semantics.specs.Statements.{Returns, view_of, with_value, with_store, writes, writes_all}
 use Rattle.gm_semantics.specs.Stores.{write}
 use Rattle.gm_forms.specs.Forms.{depth_at, is_within, is_flat}
-use Rattle.gm_forms.specs.Order.{lie_before, hoisted_in, faults_in, in_order, faults_in_all, hoisted_in_all, all_in_order, target_faults, targets_faults, folds_in_order, all_folds}
+use Rattle.gm_forms.specs.Order.{lie_before, hoisted_in, faults_in, in_order, faults_in_all, hoisted_in_all, all_in_order, target_faults, targets_faults, folds_in_order, all_folds, fault_of, are_numbered}
 use Rattle.gm_forms.specs.Ready.{is_outer_expr, is_phase_expr, is_at_depth, is_inner_code, is_outer_code}
 use Rattle.gm_forms.specs.Sharing.{with_reads, sights_in, sights_in_all, sights_of_target, sights_of_targets, level_reads_in, level_reads_in_all}
 use Rattle.gm_forms.specs.Typing.{type_at, target_type, has_type, all_have_types, fits_targets, returns_type}
@@ -32,7 +32,7 @@ use Rattle.gm_forms.specs.Uses.{Written, Iterates, NodeValue, use_as, suits, use
 use Rattle.gm_forms.proofs.Named.{both-true, all-append}
 use Rattle.gm_forms.proofs.Weaker.{and-true}
 use Rattle.gm_desugar.specs.Literals.{each_expr_in, each_expr}
-use Rattle.gm_desugar.proofs.Fewer.{Fewer, FewerSights, same-sights, sights-both, lie-fewer, fewer-both, FewerReads, reads-both}
+use Rattle.gm_desugar.proofs.Fewer.{Fewer, FewerSights, same-sights, sights-both, lie-fewer, fewer-both, FewerReads, reads-both, numbered-fewer}
 use Rattle.gm_desugar.proofs.Replacing.{append-true, ForExpr, ForBody, ForPhase, loop_at, mode_at, value-same, typed-same, order-same, faults-fewer, expr-same, body-same, body-then, body-if, body-foreach, loops-same, loop-shared, phase-same, phase-then, phase-foreach, phase-for, phase-if, phase-while, phase-do, phase-search, phase-search-both}
 
 module _ (ds : List Declaration) (f : Expr → Expr) (r : (e : Expr) → ForExpr ds e (f e)) where
@@ -277,7 +277,11 @@ module _ (ds : List Declaration) (f : Expr → Expr) (r : (e : Expr) → ForExpr
               let v = all-append (suits ds) (use_as NodeValue p) (uses_in e) u.1 in
               append-true (suits ds) (use_as Iterates g) (use_as NodeValue p ++ uses_in (f e)) u.0 (append-true (suits ds) (use_as NodeValue p) (uses_in (f e)) v.0 ((r e).named v.1));
           typed = typed-same ds e (f e) (r e) (type_at ds p);
-          order = value-order k t e;
+          order = λ h.
+              let u = both-true (are_numbered (fault_of k at ∷ faults_in e k)) (in_order e k && lie_before (hoisted_in e) (target_faults t k)) h in
+              and-true (are_numbered (fault_of k at ∷ faults_in (f e) k)) (in_order (f e) k && lie_before (hoisted_in (f e)) (target_faults t k))
+              (numbered-fewer (fault_of k at ∷ faults_in e k) (fault_of k at ∷ faults_in (f e) k) (fewer-both (fault_of k at ∷ []) (faults_in e k) (fault_of k at ∷ []) (faults_in (f e) k) (λ x i. i) (faults-fewer ds e (f e) (r e) k)) u.0)
+              (value-order k t e u.1);
           share = loop-shared ds g always always (Assign k t e) (Assign k t (f e)) (expr-same ds always) (body-assign g false k t e);
           form = (r e).outer false g;
         }

@@ -1,12 +1,12 @@
 -- Parts that have fewer faults, or read less, than others.
 use Rattle.std.proofs.Common.{◌≡◌, ℕ, Bool, true, false, cond, List, [], ◌∷◌, ◌++◌, refl, sym, ap, subst, ◌∙◌, ⊎_elim, inl, inr}
-use Rattle.std.specs.Prelude.{not, nat_eq}
+use Rattle.std.specs.Prelude.{not, nat_eq, nat_lt}
 use Rattle.std.proofs.lemmas.Bool.{both_ways}
 use Rattle.gm_value.specs.Bag.{IsIn}
 use Rattle.gm_ast.specs.Keys as K
 use Rattle.gm_ast.specs.Keys.{fault_lt, all_before}
 use Rattle.gm_ast.specs.Ways.{is_in}
-use Rattle.gm_forms.specs.Order.{lie_before}
+use Rattle.gm_forms.specs.Order.{lie_before, are_numbered}
 use Rattle.gm_forms.specs.Sharing.{Read, Sights, with_reads, disjoint, read_at, read_elsewhere, read_anywhere, not_through, at_level}
 use Rattle.gm_ast.specs.declared.tree.Head.{Head}
 use Rattle.gm_ast.specs.Loops.{asks_levels}
@@ -34,6 +34,15 @@ lie-fewer xs ys us vs p q h = lie-from us vs (λ f g i j. lies-in xs ys f g h (p
 
 pub fewer-both : (xs ys us vs : List K.Fault) → Fewer us xs → Fewer vs ys → Fewer (us ++ vs) (xs ++ ys)
 fewer-both xs ys us vs p q f i = ⊎_elim (λ l. in-left f xs ys (p f l)) (λ r. in-right f xs ys (q f r)) (in-either f us vs i)
+
+pub numbered-in : (xs : List K.Fault) (f : K.Fault) → are_numbered xs ≡ true → IsIn f xs → nat_lt 0 f.key.statement ≡ true
+numbered-in [] f h i = absurd i
+numbered-in (x ∷ xs) f h (inl e) = subst (λ (g : K.Fault). nat_lt 0 g.key.statement ≡ true) (sym e) (both-true (nat_lt 0 x.key.statement) (are_numbered xs) h).0
+numbered-in (x ∷ xs) f h (inr i) = numbered-in xs f (both-true (nat_lt 0 x.key.statement) (are_numbered xs) h).1 i
+
+pub numbered-fewer : (xs us : List K.Fault) → Fewer us xs → are_numbered xs ≡ true → are_numbered us ≡ true
+numbered-fewer xs [] p h = refl
+numbered-fewer xs (u ∷ us) p h = and-true (nat_lt 0 u.key.statement) (are_numbered us) (numbered-in xs u h (p u (inl refl))) (numbered-fewer xs us (λ f i. p f (inr i)) h)
 
 pub nothing-before : (ys : List K.Fault) → lie_before [] ys ≡ true
 nothing-before [] = refl

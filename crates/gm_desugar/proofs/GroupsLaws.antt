@@ -11,12 +11,13 @@ use Rattle.gm_ast.specs.declared.tree.Sort.TheVariants as Sorts
 use Rattle.gm_ast.specs.declared.tree.Target.TheVariants as T
 use Rattle.gm_ast.specs.declared.tree.Variable.{Variable}
 use Rattle.gm_ast.specs.Names.{is_node_type, sort_eq}
-use Rattle.gm_ast.specs.Program.{Expr, Stmt, Skip, Then, Assign, Group, For, If, While, Do, Program, sequence}
+use Rattle.gm_ast.specs.Program.{Expr, always, Stmt, Skip, Then, Assign, Group, For, If, While, Do, Program, sequence}
 use Rattle.gm_forms.specs.Meanings.{SameMeaning}
-use Rattle.gm_forms.specs.Order.{lie_before, faults_of, in_order, hoisted_in}
+use Rattle.gm_forms.specs.Order.{first_key, are_numbered, lie_before, faults_of, body_in_order, loop_in_order, begins}
 use Rattle.gm_forms.specs.Ready.{is_outer_expr, Ready0}
 use Rattle.gm_forms.specs.Uses.{Iterates, Owner, NodeValue, Anything, has_role, suits, use_as, uses_in}
-use Rattle.gm_forms.proofs.Named.{all-append}
+use Rattle.gm_forms.proofs.Named.{both-true, all-append}
+use Rattle.gm_forms.proofs.Leading.{first-begins}
 use Rattle.gm_forms.proofs.Weaker.{and-true}
 use Rattle.gm_desugar.specs.Groups.{ungrouped, without_groups, has_no_groups}
 use Rattle.gm_desugar.specs.Stages.{WithoutGroups}
@@ -48,7 +49,10 @@ module _ (ds : List Declaration) (res : Option VType) where
         (append-true (suits ds) (use_as Owner g ++ use_as NodeValue p) (uses_in e) (append-true (suits ds) (use_as Owner g) (use_as NodeValue p) (use-as ds Iterates Owner g owns r.0) s.0) s.1);
     typed = λ h. h;
     order = λ h.
-        and-true (in_order e k && lie_before (hoisted_in e) (record { key = k; place = at } ∷ [])) (lie_before [] (faults_of (Assign k (T.Property g p at) e))) h (nothing-before (faults_of (Assign k (T.Property g p at) e)));
+        let s = Assign k (T.Property g p at) e in
+        let u = both-true (are_numbered (faults_of s)) (body_in_order s) h in
+        and-true (begins first_key at always s) (loop_in_order first_key always s) (first-begins at always s refl refl u.0)
+        (and-true (body_in_order s) (lie_before [] (faults_of s)) u.1 (nothing-before (faults_of s)));
     share = λ h. h;
     form = λ h. and-true (nat_eq g g) (is_outer_expr false g e) (eq-eqb g g refl) h;
   }

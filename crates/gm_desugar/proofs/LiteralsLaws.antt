@@ -51,6 +51,7 @@ module _ (ds : List Declaration) where
     hoisted = λ f i. i;
     rest = λ k f i. absurd i;
     hoists = λ i. refl;
+    safe = λ i. refl;
     folds = λ i. refl;
     seen = same-sights (sights_in (Const n));
     away = λ x i. i;

@@ -84,7 +84,7 @@ module _ (k : ℕ) (run : Run) where
   apart-alike (Then s t) n l b x y h =
       let more : k ≤ n + count_reads s = omega arith in
       then-alike k 0 (sequential s run x) (sequential (apart n s) run y) _ _ (later 0 s run x (omega arith)) (apart-alike s n l b.0 x y h) (λ u w i j. apart-alike t (n + count_reads s) more b.1 u w i)
-  apart-alike (Declare key x (Some e)) n l b y z h = set-apart (is_single e) n key e (λ d. Declare key x (Some d)) (declares x) l b.1 (λ d t. refl) (declares-strict x) (declares-alike x) y z h
+  apart-alike (Declare key x (Some e)) n l b y z h = set-apart (is_single x e) n key e (λ d. Declare key x (Some d)) (declares x) l b.1 (λ d t. refl) (declares-strict x) (declares-alike x) y z h
   apart-alike (Assign key g e) n l b y z h = set-apart (stays_alone g e) n key e (Assign key g) (assigns key g) l b.1 (λ d t. refl) (assigns-strict key g) (assigns-alike key g b.0) y z h
   apart-alike (For key at hd e s) n l b x y h =
       in_turns-alike k run (nodes run.graph) _ _ x y h (λ m c d i.

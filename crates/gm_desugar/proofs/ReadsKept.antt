@@ -1,8 +1,8 @@
 -- A program with its reads apart keeps what every pass keeps.
-use Rattle.std.proofs.Common.{◌≡◌, ◌<◌, ◌+◌, ◌++◌, ℕ, suc, Bool, true, false, List, [], ◌∷◌, length, refl, sym, ap, subst, ◌∙◌, arith, Option, Some, None}
-use Rattle.std.specs.Prelude.{◌&&◌, ◌||◌, nat_eq, nat_le, nat_lt}
+use Rattle.std.proofs.Common.{◌≡◌, ◌<◌, ◌≤◌, ◌+◌, ◌++◌, ℕ, suc, Bool, true, false, List, [], ◌∷◌, length, refl, sym, ap, subst, ◌∙◌, arith, Option, Some, None}
+use Rattle.std.specs.Prelude.{not, ◌&&◌, ◌||◌, nat_eq, nat_le, nat_lt}
 use Rattle.std.specs.List.{list_all}
-use Rattle.std.proofs.lemmas.Bool.{both_ways, lt-ltb}
+use Rattle.std.proofs.lemmas.Bool.{both_ways, lt-ltb, ne_eqb}
 use Rattle.std.proofs.lemmas.List.{length-append}
 use Rattle.std.proofs.lemmas.Option.{none-some}
 use Rattle.gm_base.specs.declared.places.Place.{Place}
@@ -36,7 +36,7 @@ use Rattle.gm_desugar.specs.Compounds.{has_no_compounds}
 use Rattle.gm_desugar.specs.Conditions.{fresh, set_to, asked, has_told_conditions}
 use Rattle.gm_desugar.specs.Groups.{has_no_groups}
 use Rattle.gm_desugar.specs.Literals.{has_literals, all_exprs, stays}
-use Rattle.gm_desugar.specs.Reads.{types_read, count_read, reads_set, told_from, is_read, is_single, stays_alone, after_reads, types_unless, types_apart, count_unless, count_reads, apart, has_reads_apart}
+use Rattle.gm_desugar.specs.Reads.{types_read, count_read, reads_set, told_from, names, is_read, is_single, stays_alone, after_reads, types_unless, types_apart, count_unless, count_reads, apart, has_reads_apart}
 use Rattle.gm_desugar.proofs.Longer.{two}
 use Rattle.gm_desugar.proofs.Replacing.{append-true, is-type, type-itself}
 
@@ -58,6 +58,30 @@ length-read ds (Choose c a b) =
     length-append (types_read ds c) (types_read ds a ++ types_read ds b) ∙ ap (λ n. n + length (types_read ds a ++ types_read ds b)) (length-read ds c)
     ∙ ap (λ n. count_read c + n) (length-append (types_read ds a) (types_read ds b) ∙ ap (λ n. n + length (types_read ds b)) (length-read ds a) ∙ ap (λ n. count_read a + n) (length-read ds b))
 length-read ds (Folded f h test e) = refl
+
+-- an expression names no variable from the next one on
+apart-from : (x n k : ℕ) → x < k → k ≤ n → nat_eq x n ≡ false
+apart-from x n k b l = ne_eqb x n (λ e. omega arith)
+
+neither : (a b : Bool) → a ≡ false → b ≡ false → a || b ≡ false
+neither false b h k = k
+neither true b h k = h
+
+pub names-nothing : (k n : ℕ) (e : Expr) → k ≤ n → ReadsBelow k e → names n e ≡ false
+names-nothing k n (Const v) l b = refl
+names-nothing k n (Var x at) l b = apart-from x n k b l
+names-nothing k n (Property x p at) l b = neither (nat_eq x n) (nat_eq p n) (apart-from x n k b.0 l) (apart-from p n k b.1 l)
+names-nothing k n (EdgeProperty x p at) l b = apart-from p n k b l
+names-nothing k n (Degree d x at) l b = apart-from x n k b l
+names-nothing k n NodeCount l b = refl
+names-nothing k n EdgeCount l b = refl
+names-nothing k n (Live x at) l b = apart-from x n k b l
+names-nothing k n (Unary op at e) l b = names-nothing k n e l b
+names-nothing k n (Binary op at a c) l b = neither (names n a) (names n c) (names-nothing k n a l b.0) (names-nothing k n c l b.1)
+names-nothing k n (Both a c) l b = neither (names n a) (names n c) (names-nothing k n a l b.0) (names-nothing k n c l b.1)
+names-nothing k n (Either a c) l b = neither (names n a) (names n c) (names-nothing k n a l b.0) (names-nothing k n c l b.1)
+names-nothing k n (Choose d a c) l b = neither (names n d) (names n a || names n c) (names-nothing k n d l b.0) (neither (names n a) (names n c) (names-nothing k n a l b.1) (names-nothing k n c l b.2))
+names-nothing k n (Folded f h test e) l b = neither (nat_eq h.owner n) (names n test || names n e) (apart-from h.owner n k b.0 l) (neither (names n test) (names n e) (names-nothing k n test l b.1) (names-nothing k n e l b.2))
 
 -- the variables of some types from a number on stand in the table
 module _ (ds es : List Declaration) where
@@ -141,7 +165,7 @@ module _ (ds es : List Declaration) where
   set-sequence res (x ∷ xs) h = set-then res x (sequence xs) h.0 (set-sequence res xs h.1)
 
   -- one read
-  one-set : (res : Option VType) (n : ℕ) (t : VType) (k : Key) (e : Expr) → Placed n (t ∷ []) → Sound e → type_in es e ≡ Some t → is_read e ≡ true → AllSet res (set_to n k e ∷ [])
+  one-set : (res : Option VType) (n : ℕ) (t : VType) (k : Key) (e : Expr) → Placed n (t ∷ []) → Sound e → type_in es e ≡ Some t → is_read n e ≡ true → AllSet res (set_to n k e ∷ [])
   one-set res n t k e h s typed read = (
     record {
       named = append-true (suits es) (use_as Written n) (uses_in e) (suited n t Written h.0.0 h.0.1 refl) s.named;
@@ -153,7 +177,7 @@ module _ (ds es : List Declaration) where
       compounds = refl;
       literals = s.literals;
       conditions = refl;
-      apart = either-right (is_told e) (is_read e) read;
+      apart = either-right (is_told e) (is_read n e) read;
     },
     tt,
   )
@@ -234,35 +258,35 @@ module _ (ds es : List Declaration) where
     property-typed : (x p : ℕ) (at : Place) → p < length ds → type_in es (Property x p at) ≡ Some (type_at ds p)
     property-typed x p at below = ap (λ (v : Variable). Some v.vtype) (same p below)
 
-    pub reads-kept : (res : Option VType) (e : Expr) (n : ℕ) (k : Key) → ReadsBelow (length ds) e → Placed n (types_read ds e) → Sound e → AllSet res (reads_set n k e)
-    reads-kept res (Const v) n k b h s = tt
-    reads-kept res (Var x at) n k b h s = tt
-    reads-kept res (Property x p at) n k b h s = one-set res n (type_at ds p) k (Property x p at) h s (property-typed x p at b.1) refl
-    reads-kept res (EdgeProperty x p at) n k b h s = tt
-    reads-kept res (Degree d x at) n k b h s = one-set res n V.I32 k (Degree d x at) h s refl refl
-    reads-kept res NodeCount n k b h s = tt
-    reads-kept res EdgeCount n k b h s = tt
-    reads-kept res (Live x at) n k b h s = one-set res n V.Node k (Live x at) h s refl refl
-    reads-kept res (Unary op at e) n k b h s = reads-kept res e n k b h (unary-sound op at e s)
-    reads-kept res (Binary op at a c) n k b h s =
+    pub reads-kept : (res : Option VType) (e : Expr) (n : ℕ) (k : Key) → length ds ≤ n → ReadsBelow (length ds) e → Placed n (types_read ds e) → Sound e → AllSet res (reads_set n k e)
+    reads-kept res (Const v) n k l b h s = tt
+    reads-kept res (Var x at) n k l b h s = tt
+    reads-kept res (Property x p at) n k l b h s = one-set res n (type_at ds p) k (Property x p at) h s (property-typed x p at b.1) refl
+    reads-kept res (EdgeProperty x p at) n k l b h s = tt
+    reads-kept res (Degree d x at) n k l b h s = one-set res n V.I32 k (Degree d x at) h s refl refl
+    reads-kept res NodeCount n k l b h s = tt
+    reads-kept res EdgeCount n k l b h s = tt
+    reads-kept res (Live x at) n k l b h s = one-set res n V.Node k (Live x at) h s refl refl
+    reads-kept res (Unary op at e) n k l b h s = reads-kept res e n k l b h (unary-sound op at e s)
+    reads-kept res (Binary op at a c) n k l b h s =
         let p = placed-two n a c h in
         let q = binary-sound op at a c s in
-        set-both res (reads_set n k a) (reads_set (n + count_read a) k c) (reads-kept res a n k b.0 p.0 q.0) (reads-kept res c (n + count_read a) k b.1 p.1 q.1)
-    reads-kept res (Both a c) n k b h s =
+        set-both res (reads_set n k a) (reads_set (n + count_read a) k c) (reads-kept res a n k l b.0 p.0 q.0) (reads-kept res c (n + count_read a) k (omega arith) b.1 p.1 q.1)
+    reads-kept res (Both a c) n k l b h s =
         let p = placed-two n a c h in
         let q = both-sound a c s in
-        set-both res (reads_set n k a) (reads_set (n + count_read a) k c) (reads-kept res a n k b.0 p.0 q.0) (reads-kept res c (n + count_read a) k b.1 p.1 q.1)
-    reads-kept res (Either a c) n k b h s =
+        set-both res (reads_set n k a) (reads_set (n + count_read a) k c) (reads-kept res a n k l b.0 p.0 q.0) (reads-kept res c (n + count_read a) k (omega arith) b.1 p.1 q.1)
+    reads-kept res (Either a c) n k l b h s =
         let p = placed-two n a c h in
         let q = either-sound a c s in
-        set-both res (reads_set n k a) (reads_set (n + count_read a) k c) (reads-kept res a n k b.0 p.0 q.0) (reads-kept res c (n + count_read a) k b.1 p.1 q.1)
-    reads-kept res (Choose d a c) n k b h s =
+        set-both res (reads_set n k a) (reads_set (n + count_read a) k c) (reads-kept res a n k l b.0 p.0 q.0) (reads-kept res c (n + count_read a) k (omega arith) b.1 p.1 q.1)
+    reads-kept res (Choose d a c) n k l b h s =
         let p = placed-three n d a c h in
         let q = choose-sound d a c s in
         let m = n + count_read d in
-        set-both res (reads_set n k d) (reads_set m k a ++ reads_set (m + count_read a) k c) (reads-kept res d n k b.0 p.0 q.0)
-        (set-both res (reads_set m k a) (reads_set (m + count_read a) k c) (reads-kept res a m k b.1 p.1 q.1) (reads-kept res c (m + count_read a) k b.2 p.2 q.2))
-    reads-kept res (Folded f hd test e) n k b h s = one-set res n f.vtype k (Folded f hd test e) h s (fold-typed f hd test e s.typed.0 s.typed.1) refl
+        set-both res (reads_set n k d) (reads_set m k a ++ reads_set (m + count_read a) k c) (reads-kept res d n k l b.0 p.0 q.0)
+        (set-both res (reads_set m k a) (reads_set (m + count_read a) k c) (reads-kept res a m k (omega arith) b.1 p.1 q.1) (reads-kept res c (m + count_read a) k (omega arith) b.2 p.2 q.2))
+    reads-kept res (Folded f hd test e) n k l b h s = one-set res n f.vtype k (Folded f hd test e) h s (fold-typed f hd test e s.typed.0 s.typed.1) (ap not (names-nothing (length ds) n (Folded f hd test e) l b))
 
     stays-told : (op : Op1) (e : Expr) (n : ℕ) → stays op e ≡ true → stays op (told_from n e) ≡ true
     stays-told Neg (Const v) n h = h
@@ -526,11 +550,11 @@ module _ (ds es : List Declaration) where
   as-it-is : (res : Option VType) (s : Stmt) → Known res s → has_reads_apart s ≡ true → Set res s
   as-it-is res s h a = record { named = h.named; typed = h.typed; ordered = h.ordered; share = h.share; form = h.form; groups = h.groups; compounds = h.compounds; literals = h.literals; conditions = h.conditions; apart = a }
 
-  single-told : (e : Expr) → is_told e ≡ true → is_single e ≡ true
-  single-told e h = ap (λ b. b || is_read e) h
+  single-told : (x : ℕ) (e : Expr) → is_told e ≡ true → is_single x e ≡ true
+  single-told x e h = ap (λ b. b || is_read x e) h
 
   alone-told : (t : Target) (e : Expr) → is_told e ≡ true → stays_alone t e ≡ true
-  alone-told (T.Scalar x at) e h = single-told e h
+  alone-told (T.Scalar x at) e h = single-told x e h
   alone-told (T.Property x p at) e h = h
 
   told-typed : (t : VType) (e d : Expr) → Told e d → has_type es t e ≡ true → has_type es t d ≡ true
@@ -556,7 +580,7 @@ module _ (ds es : List Declaration) where
     compounds = refl;
     literals = t.literals;
     conditions = refl;
-    apart = single-told d t.told;
+    apart = single-told x d t.told;
   }
 
   assign-sound : (res : Option VType) (k : Key) (g : Target) (e : Expr) → Known res (Assign k g e) → Sound e
@@ -598,11 +622,11 @@ module _ (ds es : List Declaration) where
 
   module _ (same : (x : ℕ) → x < length ds → variable_at es x ≡ variable_at ds x) (res : Option VType) where
     -- a statement after the reads of its expression, or as it is
-    leaf-kept : (alone : Bool) (n : ℕ) (k : Key) (e : Expr) (s : Expr → Stmt) → ReadsBelow (length ds) e → Placed n (types_unless alone ds e) → Sound e → ((d : Expr) → Told e d → Set res (s d)) → (alone ≡ true → Set res (s e)) → Set res (after_reads alone n k e s)
-    leaf-kept true n k e s b h sound change stay = stay refl
-    leaf-kept false n k e s b h sound change stay =
+    leaf-kept : (alone : Bool) (n : ℕ) (k : Key) (e : Expr) (s : Expr → Stmt) → length ds ≤ n → ReadsBelow (length ds) e → Placed n (types_unless alone ds e) → Sound e → ((d : Expr) → Told e d → Set res (s d)) → (alone ≡ true → Set res (s e)) → Set res (after_reads alone n k e s)
+    leaf-kept true n k e s l b h sound change stay = stay refl
+    leaf-kept false n k e s l b h sound change stay =
         let d = told_from n e in
-        set-sequence res (reads_set n k e ++ (s d ∷ [])) (set-both res (reads_set n k e) (s d ∷ []) (reads-kept same res e n k b h sound) (change d (told-kept same e n b h sound), tt))
+        set-sequence res (reads_set n k e ++ (s d ∷ [])) (set-both res (reads_set n k e) (s d ∷ []) (reads-kept same res e n k l b h sound) (change d (told-kept same e n b h sound), tt))
 
     count-apart : (alone : Bool) (e : Expr) → length (types_unless alone ds e) ≡ count_unless alone e
     count-apart true e = refl
@@ -610,7 +634,7 @@ module _ (ds es : List Declaration) where
 
     pub length-apart : (s : Stmt) → length (types_apart ds s) ≡ count_reads s
     length-apart (Then a b) = length-append (types_apart ds a) (types_apart ds b) ∙ ap (λ n. n + length (types_apart ds b)) (length-apart a) ∙ ap (λ n. count_reads a + n) (length-apart b)
-    length-apart (Declare k x (Some e)) = count-apart (is_single e) e
+    length-apart (Declare k x (Some e)) = count-apart (is_single x e) e
     length-apart (Assign k t e) = count-apart (stays_alone t e) e
     length-apart (For k at h e s) = length-apart s
     length-apart (If k e a b) = length-append (types_apart ds a) (types_apart ds b) ∙ ap (λ n. n + length (types_apart ds b)) (length-apart a) ∙ ap (λ n. count_reads a + n) (length-apart b)
@@ -622,19 +646,19 @@ module _ (ds es : List Declaration) where
     placed-parts : (n : ℕ) (a b : Stmt) → Placed n (types_apart ds a ++ types_apart ds b) → Placed n (types_apart ds a) × Placed (n + count_reads a) (types_apart ds b)
     placed-parts n a b h = let q = placed-both n (types_apart ds a) (types_apart ds b) h in (q.0, subst (λ m. Placed (n + m) (types_apart ds b)) (length-apart a) q.1)
 
-    pub apart-kept : (s : Stmt) (n : ℕ) → NamesBelow (length ds) s → Placed n (types_apart ds s) → Known res s → Set res (apart n s)
-    apart-kept (Then a b) n w h k =
+    pub apart-kept : (s : Stmt) (n : ℕ) → length ds ≤ n → NamesBelow (length ds) s → Placed n (types_apart ds s) → Known res s → Set res (apart n s)
+    apart-kept (Then a b) n l w h k =
         let p = placed-parts n a b h in
         let q = then-known res a b k in
-        set-then res (apart n a) (apart (n + count_reads a) b) (apart-kept a n w.0 p.0 q.0) (apart-kept b (n + count_reads a) w.1 p.1 q.1)
-    apart-kept (Declare key x (Some e)) n w h k = leaf-kept (is_single e) n key e (λ d. Declare key x (Some d)) w.1 h (declare-sound res key x e k) (λ d t. declare-set res key x e d k t) (λ a. as-it-is res (Declare key x (Some e)) k a)
-    apart-kept (Assign key g e) n w h k = leaf-kept (stays_alone g e) n key e (Assign key g) w.1 h (assign-sound res key g e k) (λ d t. assign-set res key g e d k t) (λ a. as-it-is res (Assign key g e) k a)
-    apart-kept (For key at hd e s) n w h k = let q = for-known res key at hd e s k in for-set res key at hd e (apart n s) q.0 q.1 q.2 (apart-kept s n w.3 h q.3)
-    apart-kept (If key e a b) n w h k =
+        set-then res (apart n a) (apart (n + count_reads a) b) (apart-kept a n l w.0 p.0 q.0) (apart-kept b (n + count_reads a) (omega arith) w.1 p.1 q.1)
+    apart-kept (Declare key x (Some e)) n l w h k = leaf-kept (is_single x e) n key e (λ d. Declare key x (Some d)) l w.1 h (declare-sound res key x e k) (λ d t. declare-set res key x e d k t) (λ a. as-it-is res (Declare key x (Some e)) k a)
+    apart-kept (Assign key g e) n l w h k = leaf-kept (stays_alone g e) n key e (Assign key g) l w.1 h (assign-sound res key g e k) (λ d t. assign-set res key g e d k t) (λ a. as-it-is res (Assign key g e) k a)
+    apart-kept (For key at hd e s) n l w h k = let q = for-known res key at hd e s k in for-set res key at hd e (apart n s) q.0 q.1 q.2 (apart-kept s n l w.3 h q.3)
+    apart-kept (If key e a b) n l w h k =
         let p = placed-parts n a b h in
         let q = if-known res key e a b k in
-        if-set res key e (apart n a) (apart (n + count_reads a) b) q.0 (apart-kept a n w.1 p.0 q.1) (apart-kept b (n + count_reads a) w.2 p.1 q.2)
-    apart-kept (While key at e s) n w h k = let q = while-known res key at e s k in while-set res key at e (apart n s) q.0 (apart-kept s n w.1 h q.1)
-    apart-kept (Do key at s e) n w h k = let q = do-known res key at e s k in do-set res key at e (apart n s) q.0 (apart-kept s n w.0 h q.1)
-    apart-kept (Return key at (Some e)) n w h k = leaf-kept (is_told e) n key e (λ d. Return key at (Some d)) w h (return-sound res key at e k) (λ d t. return-set res key at e d k t) (λ a. as-it-is res (Return key at (Some e)) k a)
-    apart-kept s n w h k = as-it-is res s k refl
+        if-set res key e (apart n a) (apart (n + count_reads a) b) q.0 (apart-kept a n l w.1 p.0 q.1) (apart-kept b (n + count_reads a) (omega arith) w.2 p.1 q.2)
+    apart-kept (While key at e s) n l w h k = let q = while-known res key at e s k in while-set res key at e (apart n s) q.0 (apart-kept s n l w.1 h q.1)
+    apart-kept (Do key at s e) n l w h k = let q = do-known res key at e s k in do-set res key at e (apart n s) q.0 (apart-kept s n l w.0 h q.1)
+    apart-kept (Return key at (Some e)) n l w h k = leaf-kept (is_told e) n key e (λ d. Return key at (Some d)) l w h (return-sound res key at e k) (λ d t. return-set res key at e d k t) (λ a. as-it-is res (Return key at (Some e)) k a)
+    apart-kept s n l w h k = as-it-is res s k refl

@@ -86,7 +86,7 @@ module _ (p : Program) (named : is_named p ≡ true) where
   kept-named r =
       let ds = p.declarations in
       let es = ds ++ others in
-      let s : Set ds es p.result (apart (length ds) p.body) = apart-kept ds es (variable-appended ds others) p.result p.body (length ds) names (placed-at-end ds ds (types_apart ds p.body)) (known r) in
+      let s : Set ds es p.result (apart (length ds) p.body) = apart-kept ds es (variable-appended ds others) p.result p.body (length ds) (let e : length ds ≤ length ds = omega arith in e) names (placed-at-end ds ds (types_apart ds p.body)) (known r) in
       let within : p.inputs + p.outputs ≤ length es = (let e = length-append ds others in let b = leb-true (p.inputs + p.outputs) (length ds) parts.0 in omega arith) in
       record {
         with_conditions = record {

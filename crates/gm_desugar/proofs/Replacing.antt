@@ -28,7 +28,7 @@ use Rattle.gm_semantics.specs.Statements.{Run, State, Goes, view_of, with_value,
 use Rattle.gm_semantics.specs.Outcomes.{outcome_of, first_store}
 use Rattle.gm_forms.specs.Forms.{depth_at, is_flat, is_inner_head}
 use Rattle.gm_forms.specs.Meanings.{SameMeaning}
-use Rattle.gm_forms.specs.Order.{lie_before, rest_in, hoisted_in, hoists_in_order, faults_in, in_order, faults_of, body_in_order, loop_in_order, folds_in_order, loops_in_order}
+use Rattle.gm_forms.specs.Order.{lie_before, rest_in, hoisted_in, hoists_in_order, faults_in, in_order, faults_of, body_in_order, loop_in_order, folds_in_order, loops_in_order, fault_of, are_numbered, cannot_fail, leads, begins, search_in_order}
 use Rattle.gm_forms.specs.Ready.{is_outer_expr, is_phase_expr, is_inner_code, is_outer_code, is_phase_code, Ready0}
 use Rattle.gm_forms.specs.Sharing.{Sights, with_reads, sights_in, sights_of, read_at, read_elsewhere, read_anywhere, written, deferred, reduced, disjoint, all_agree, targets_alike, inner_shares, inners_share, shares, loops_share, reads_in, level_reads_in, level_reads_of, shared_in, kept_in, all_last_one_way, shares_beside, search_shares}
 use Rattle.gm_forms.specs.Typing.{type_at, type_in, is_type, has_type, is_typed_in}
@@ -36,7 +36,7 @@ use Rattle.gm_forms.specs.Uses.{Role, Use, has_role, suits, use_as, uses_in, use
 use Rattle.gm_forms.proofs.Courses.{then_do-both, with_value-each, either_way-each, begin_turn-each, repeated-each, in_turns-each}
 use Rattle.gm_forms.proofs.Named.{both-true, all-append}
 use Rattle.gm_forms.proofs.Weaker.{and-true}
-use Rattle.gm_desugar.proofs.Fewer.{Fewer, FewerSights, same-sights, sights-both, lie-fewer, fewer-both, disjoint-fewer, members-both, anywhere-fewer, elsewhere-fewer, at-fewer, FewerReads, reads-both, at-level-fewer}
+use Rattle.gm_desugar.proofs.Fewer.{Fewer, FewerSights, same-sights, sights-both, lie-fewer, fewer-both, disjoint-fewer, members-both, anywhere-fewer, elsewhere-fewer, at-fewer, FewerReads, reads-both, at-level-fewer, numbered-fewer}
 
 -- lists of uses suit as their parts do
 pub append-true : {A : Type 0} (f : A → Bool) (xs ys : List A) → list_all f xs ≡ true → list_all f ys ≡ true → list_all f (xs ++ ys) ≡ true
@@ -87,6 +87,7 @@ pub record ForExpr (ds : List Declaration) (e d : Expr) : Type 0 where
   pub hoisted : Fewer (hoisted_in d) (hoisted_in e)
   pub rest : (k : Key) → Fewer (rest_in d k) (rest_in e k)
   pub hoists : hoists_in_order e ≡ true → hoists_in_order d ≡ true
+  pub safe : cannot_fail e ≡ true → cannot_fail d ≡ true
   pub folds : folds_in_order e ≡ true → folds_in_order d ≡ true
   pub seen : FewerSights (sights_in d) (sights_in e)
   pub away : FewerReads (level_reads_in d) (level_reads_in e)
@@ -102,6 +103,7 @@ expr-same ds e = record {
   hoisted = λ f i. i;
   rest = λ k f i. i;
   hoists = λ h. h;
+  safe = λ h. h;
   folds = λ h. h;
   seen = same-sights (sights_in e);
   away = λ r i. i;
@@ -118,6 +120,7 @@ expr-trans ds e d c p q = record {
   hoisted = λ f i. p.hoisted f (q.hoisted f i);
   rest = λ k f i. p.rest k f (q.rest k f i);
   hoists = λ h. q.hoists (p.hoists h);
+  safe = λ h. q.safe (p.safe h);
   folds = λ h. q.folds (p.folds h);
   seen = record { properties = λ r i. p.seen.properties r (q.seen.properties r i); scalars = λ x i. p.seen.scalars x (q.seen.scalars x i) };
   away = λ r i. p.away r (q.away r i);
@@ -311,6 +314,36 @@ module _ (ds : List Declaration) where
       and-true (in_order d k) (body_in_order t && lie_before (faults_in d k) (faults_of t)) (order-same c d r k u.0)
       (and-true (body_in_order t) (lie_before (faults_in d k) (faults_of t)) (p.order v.0) (lie-fewer (faults_in c k) (faults_of s) (faults_in d k) (faults_of t) (faults-fewer c d r k) p.fewer v.1))
 
+  -- a loop comes before its body
+  leads-order : (n : ℕ) (inner : Bool) (k : Key) (at : Place) (s t : Stmt) → ForBody ds n inner s t → leads k at s ≡ true → leads k at t ≡ true
+  leads-order n inner k at s t p h = lie-fewer (fault_of k at ∷ []) (faults_of s) (fault_of k at ∷ []) (faults_of t) (λ f i. i) p.fewer h
+
+  inner-order : (n : ℕ) (k : Key) (at : Place) (c d : Expr) (s t : Stmt) → ForExpr ds c d → ForBody ds n true s t → leads k at s && loop_in_order k c s ≡ true → leads k at t && loop_in_order k d t ≡ true
+  inner-order n k at c d s t r p h =
+      let u = both-true (leads k at s) (loop_in_order k c s) h in
+      and-true (leads k at t) (loop_in_order k d t) (leads-order n true k at s t p u.0) (loop-order n true k c d s t r p u.1)
+
+  outer-order : (n : ℕ) (k : Key) (at : Place) (c d : Expr) (s t : Stmt) → ForExpr ds c d → ForBody ds n false s t → begins k at c s && loop_in_order k c s ≡ true → begins k at d t && loop_in_order k d t ≡ true
+  outer-order n k at c d s t r p h =
+      let own = nat_lt 0 k.statement in
+      let u = both-true (begins k at c s) (loop_in_order k c s) h in
+      let v = both-true (leads k at s) (are_numbered (hoisted_in c ++ faults_of s) && (own || cannot_fail c)) u.0 in
+      let w = both-true (are_numbered (hoisted_in c ++ faults_of s)) (own || cannot_fail c) v.1 in
+      and-true (begins k at d t) (loop_in_order k d t)
+      (and-true (leads k at t) (are_numbered (hoisted_in d ++ faults_of t) && (own || cannot_fail d)) (leads-order n false k at s t p v.0)
+      (and-true (are_numbered (hoisted_in d ++ faults_of t)) (own || cannot_fail d)
+      (numbered-fewer (hoisted_in c ++ faults_of s) (hoisted_in d ++ faults_of t) (fewer-both (hoisted_in c) (faults_of s) (hoisted_in d) (faults_of t) r.hoisted p.fewer) w.0) (either own w.1)))
+      (loop-order n false k c d s t r p u.1)
+    where
+      either : (b : Bool) → b || cannot_fail c ≡ true → b || cannot_fail d ≡ true
+      either true e = refl
+      either false e = r.safe e
+
+  search-order : (n : ℕ) (k : Key) (at : Place) (c d : Expr) (s t : Stmt) → ForExpr ds c d → ForBody ds n false s t → search_in_order k at c s ≡ true → search_in_order k at d t ≡ true
+  search-order n k at c d s t r p h =
+      let u = both-true (are_numbered (fault_of k at ∷ [])) (begins k at c s && loop_in_order k c s) h in
+      and-true (are_numbered (fault_of k at ∷ [])) (begins k at d t && loop_in_order k d t) u.0 (outer-order n k at c d s t r p u.1)
+
   -- an inner loop shares what it did
   inner-shared : (n : ℕ) (c d : Expr) (s t : Stmt) → ForExpr ds c d → ForBody ds n true s t → inner_shares ds n c s ≡ true → inner_shares ds n d t ≡ true
   inner-shared n c d s t r p h =
@@ -330,8 +363,8 @@ module _ (ds : List Declaration) where
     pushes_same = p.pushes_same;
     named = part-named (uses_of_head hd) c d s t r p.named;
     typed = λ res. part-typed res c d s t r (p.typed res);
-    fewer = fewer-both (faults_in c k) (faults_of s) (faults_in d k) (faults_of t) (faults-fewer c d r k) p.fewer;
-    order = loop-order n true k c d s t r p;
+    fewer = fewer-both (fault_of k hd.place ∷ []) (faults_in c k ++ faults_of s) (fault_of k hd.place ∷ []) (faults_in d k ++ faults_of t) (λ f i. i) (fewer-both (faults_in c k) (faults_of s) (faults_in d k) (faults_of t) (faults-fewer c d r k) p.fewer);
+    order = inner-order n k hd.place c d s t r p;
     seen =
         let first : Sights = record { properties = []; scalars = hd.owner ∷ [] } in
         sights-both first (with_reads (sights_in d) (sights_of ds n true t)) first (with_reads (sights_in c) (sights_of ds n true s)) (same-sights first) (sights-both (sights_in d) (sights_of ds n true t) (sights_in c) (sights_of ds n true s) r.seen p.seen);
@@ -439,7 +472,7 @@ module _ (ds : List Declaration) where
       same = λ g bound u. loops-same hd.iterator k c d s t r p g bound no_levels (nodes g) u;
       named = part-named (uses_of_head hd) c d s t r p.named;
       typed = part-typed res c d s t r (p.typed res);
-      order = loop-order hd.iterator false k c d s t r p;
+      order = outer-order hd.iterator k hd.place c d s t r p;
       share = loop-shared hd.iterator c d s t r p;
       form = λ h.
           let u = both-true (is_nodes hd.domain) (is_outer_expr false hd.iterator c && is_outer_code ds false hd.iterator s) h in
@@ -519,7 +552,7 @@ module _ (ds : List Declaration) where
           in_turns-each run (levels g root) _ _ (loops-same hd.iterator k c d s t r p g bound (level_of g root)) u);
       named = part-named (uses_of_search hd) c d s t r p.named;
       typed = part-typed res c d s t r (p.typed res);
-      order = loop-order hd.iterator false k c d s t r p;
+      order = search-order hd.iterator k hd.place c d s t r p;
       share = search-shared hd.iterator c d s t r p;
       form = loop-form true hd.iterator c d s t r p;
     }
@@ -545,8 +578,8 @@ module _ (ds : List Declaration) where
           and-true (has_type ds Flag d) (is_typed_in ds res t && (has_type ds Flag d2 && is_typed_in ds res t2)) (typed-same c d r Flag u.0)
           (and-true (is_typed_in ds res t) (has_type ds Flag d2 && is_typed_in ds res t2) (p.typed res v.0) (part-typed res c2 d2 s2 t2 r2 (p2.typed res) v.1));
       order = λ h.
-          let u = both-true (loop_in_order k c s) (loop_in_order k2 c2 s2) h in
-          and-true (loop_in_order k d t) (loop_in_order k2 d2 t2) (loop-order hd.iterator false k c d s t r p u.0) (loop-order hd.iterator false k2 c2 d2 s2 t2 r2 p2 u.1);
+          let u = both-true (search_in_order k hd.place c s) (search_in_order k2 hd.place c2 s2) h in
+          and-true (search_in_order k hd.place d t) (search_in_order k2 hd.place d2 t2) (search-order hd.iterator k hd.place c d s t r p u.0) (search-order hd.iterator k2 hd.place c2 d2 s2 t2 r2 p2 u.1);
       share = λ h.
           let u = both-true (search_shares ds hd.iterator c s) (search_shares ds hd.iterator c2 s2) h in
           and-true (search_shares ds hd.iterator d t) (search_shares ds hd.iterator d2 t2) (search-shared hd.iterator c d s t r p u.0) (search-shared hd.iterator c2 d2 s2 t2 r2 p2 u.1);

@@ -1,6 +1,6 @@
 -- Expressions made of parts that stand in place of others.
 use Rattle.std.proofs.Common.{◌≡◌, ℕ, Bool, true, false, List, [], ◌∷◌, ◌++◌, map, refl, ap, ◌∙◌, ⊎_elim, inl, inr, Option, Some, None, Result}
-use Rattle.std.specs.Prelude.{◌&&◌}
+use Rattle.std.specs.Prelude.{not, ◌&&◌}
 use Rattle.std.specs.List.{list_all}
 use Rattle.std.proofs.lemmas.Bool.{both_ways}
 use Rattle.std.proofs.Math.Path.{fun_ext}
@@ -25,14 +25,14 @@ use Rattle.gm_ast.specs.Program.{Expr, Unary, Binary, Both, Either, Choose, Fold
 use Rattle.gm_semantics.specs.declared.faults.Fault.{Fault}
 use Rattle.gm_semantics.specs.Expressions.{Evaluated, located, reduce_of, element, reduction, settled, early, one_of, two_of, both, either, choice, entered, steps_in, evaluated}
 use Rattle.gm_forms.specs.Forms.{is_flat, is_inner_head}
-use Rattle.gm_forms.specs.Order.{lie_before, can_fail1, can_fail2, fault_if, rest_in, hoisted_in, hoists_in_order, folds_in_order, fold_fault}
+use Rattle.gm_forms.specs.Order.{lie_before, can_fail1, can_fail2, fault_if, rest_in, hoisted_in, hoists_in_order, folds_in_order, fold_fault, fault_of, are_numbered, cannot_fail}
 use Rattle.gm_forms.specs.Ready.{is_outer_expr, is_phase_expr}
 use Rattle.gm_forms.specs.Sharing.{reads_in, told_in, with_reads, sights_in, level_reads_in}
 use Rattle.gm_forms.specs.Typing.{type_in, type_if, by_one, is_type, takes}
 use Rattle.gm_forms.specs.Uses.{suits, uses_of_head, uses_in}
 use Rattle.gm_forms.proofs.Named.{both-true, all-append}
 use Rattle.gm_forms.proofs.Weaker.{and-true}
-use Rattle.gm_desugar.proofs.Fewer.{Fewer, FewerSights, sights-both, lie-fewer, fewer-both, FewerReads, reads-both, at-level-fewer}
+use Rattle.gm_desugar.proofs.Fewer.{Fewer, FewerSights, sights-both, lie-fewer, fewer-both, FewerReads, reads-both, at-level-fewer, numbered-fewer}
 use Rattle.gm_desugar.proofs.Replacing.{append-true, type-itself, ForExpr, typed-same}
 
 -- no expression has a type that it has not
@@ -60,6 +60,7 @@ module _ (ds : List Declaration) where
     hoisted = r.hoisted;
     rest = λ k. fewer-both (fault_if (can_fail1 op) k at) (rest_in e k) (fault_if (can_fail1 op) k at) (rest_in d k) (λ f i. i) (r.rest k);
     hoists = r.hoists;
+    safe = λ h. let u = both-true (not (can_fail1 op)) (cannot_fail e) h in and-true (not (can_fail1 op)) (cannot_fail d) u.0 (r.safe u.1);
     folds = r.folds;
     seen = r.seen;
     away = r.away;
@@ -91,6 +92,9 @@ module _ (ds : List Declaration) where
         and-true (hoists_in_order a') (hoists_in_order b' && lie_before (hoisted_in a') (hoisted_in b')) (p.hoists u.0)
         (and-true (hoists_in_order b') (lie_before (hoisted_in a') (hoisted_in b')) (q.hoists v.0) (lie-fewer (hoisted_in a) (hoisted_in b) (hoisted_in a') (hoisted_in b') p.hoisted q.hoisted v.1))
 
+    safe-two : cannot_fail a && cannot_fail b ≡ true → cannot_fail a' && cannot_fail b' ≡ true
+    safe-two h = let u = both-true (cannot_fail a) (cannot_fail b) h in and-true (cannot_fail a') (cannot_fail b') (p.safe u.0) (q.safe u.1)
+
     folds-two : folds_in_order a && folds_in_order b ≡ true → folds_in_order a' && folds_in_order b' ≡ true
     folds-two h = let u = both-true (folds_in_order a) (folds_in_order b) h in and-true (folds_in_order a') (folds_in_order b') (p.folds u.0) (q.folds u.1)
 
@@ -121,6 +125,7 @@ module _ (ds : List Declaration) where
       hoisted = hoisted-two;
       rest = λ k. fewer-both (fault_if (can_fail2 op) k at) (rest_in a k ++ rest_in b k) (fault_if (can_fail2 op) k at) (rest_in a' k ++ rest_in b' k) (λ f i. i) (rest-two k);
       hoists = hoists-two;
+      safe = λ h. let u = both-true (not (can_fail2 op)) (cannot_fail a && cannot_fail b) h in and-true (not (can_fail2 op)) (cannot_fail a' && cannot_fail b') u.0 (safe-two u.1);
       folds = folds-two;
       seen = seen-two;
       away = away-two;
@@ -137,6 +142,7 @@ module _ (ds : List Declaration) where
       hoisted = hoisted-two;
       rest = rest-two;
       hoists = hoists-two;
+      safe = safe-two;
       folds = folds-two;
       seen = seen-two;
       away = away-two;
@@ -153,6 +159,7 @@ module _ (ds : List Declaration) where
       hoisted = hoisted-two;
       rest = rest-two;
       hoists = hoists-two;
+      safe = safe-two;
       folds = folds-two;
       seen = seen-two;
       away = away-two;
@@ -160,6 +167,16 @@ module _ (ds : List Declaration) where
       outer = outer-two;
       phase = phase-two;
     }
+
+    hoisted-fold : (f : Fold) (head : Head) → Fewer (hoisted_in (Folded f head a' b')) (hoisted_in (Folded f head a b))
+    hoisted-fold f head =
+        let start = fault_of f.filter head.place ∷ [] in
+        let more = (hoisted_in a ++ rest_in a f.filter) ++ ((hoisted_in b ++ rest_in b f.body) ++ fold_fault f) in
+        let fewer = (hoisted_in a' ++ rest_in a' f.filter) ++ ((hoisted_in b' ++ rest_in b' f.body) ++ fold_fault f) in
+        fewer-both start more start fewer (λ x i. i)
+        (fewer-both (hoisted_in a ++ rest_in a f.filter) ((hoisted_in b ++ rest_in b f.body) ++ fold_fault f) (hoisted_in a' ++ rest_in a' f.filter) ((hoisted_in b' ++ rest_in b' f.body) ++ fold_fault f)
+        (fewer-both (hoisted_in a) (rest_in a f.filter) (hoisted_in a') (rest_in a' f.filter) p.hoisted (p.rest f.filter))
+        (fewer-both (hoisted_in b ++ rest_in b f.body) (fold_fault f) (hoisted_in b' ++ rest_in b' f.body) (fold_fault f) (fewer-both (hoisted_in b) (rest_in b f.body) (hoisted_in b') (rest_in b' f.body) q.hoisted (q.rest f.body)) (λ x i. i)))
 
     hoists-fold : (f : Fold) (head : Head) → hoists_in_order (Folded f head a b) ≡ true → hoists_in_order (Folded f head a' b') ≡ true
     hoists-fold f head h =
@@ -177,16 +194,26 @@ module _ (ds : List Declaration) where
         let d4 = lie_before (hoisted_in b') (rest_in b' f.body) in
         let d5 = lie_before x' y' in
         let d6 = lie_before (x' ++ y') (fold_fault f) in
-        let r1 = both-true (hoists_in_order a) (hoists_in_order b && (c3 && (c4 && (c5 && c6)))) h in
+        let start = fault_of f.filter head.place ∷ [] in
+        let r0 = both-true (lie_before start (y ++ fold_fault f)) (hoists_in_order a && (hoists_in_order b && (c3 && (c4 && (c5 && c6))))) h in
+        let r1 = both-true (hoists_in_order a) (hoists_in_order b && (c3 && (c4 && (c5 && c6)))) r0.1 in
         let r2 = both-true (hoists_in_order b) (c3 && (c4 && (c5 && c6))) r1.1 in
         let r3 = both-true c3 (c4 && (c5 && c6)) r2.1 in
         let r4 = both-true c4 (c5 && c6) r3.1 in
         let r5 = both-true c5 c6 r4.1 in
-        and-true (hoists_in_order a') (hoists_in_order b' && (d3 && (d4 && (d5 && d6)))) (p.hoists r1.0)
+        and-true (lie_before start (y' ++ fold_fault f)) (hoists_in_order a' && (hoists_in_order b' && (d3 && (d4 && (d5 && d6)))))
+        (lie-fewer start (y ++ fold_fault f) start (y' ++ fold_fault f) (λ g i. i) (fewer-both y (fold_fault f) y' (fold_fault f) fy (λ g i. i)) r0.0)
+        (and-true (hoists_in_order a') (hoists_in_order b' && (d3 && (d4 && (d5 && d6)))) (p.hoists r1.0)
         (and-true (hoists_in_order b') (d3 && (d4 && (d5 && d6))) (q.hoists r2.0)
         (and-true d3 (d4 && (d5 && d6)) (lie-fewer (hoisted_in a) (rest_in a f.filter) (hoisted_in a') (rest_in a' f.filter) p.hoisted (p.rest f.filter) r3.0)
         (and-true d4 (d5 && d6) (lie-fewer (hoisted_in b) (rest_in b f.body) (hoisted_in b') (rest_in b' f.body) q.hoisted (q.rest f.body) r4.0)
-        (and-true d5 d6 (lie-fewer x y x' y' fx fy r5.0) (lie-fewer (x ++ y) (fold_fault f) (x' ++ y') (fold_fault f) (fewer-both x y x' y' fx fy) (λ g i. i) r5.1)))))
+        (and-true d5 d6 (lie-fewer x y x' y' fx fy r5.0) (lie-fewer (x ++ y) (fold_fault f) (x' ++ y') (fold_fault f) (fewer-both x y x' y' fx fy) (λ g i. i) r5.1))))))
+
+    folds-fold : (f : Fold) (head : Head) → folds_in_order (Folded f head a b) ≡ true → folds_in_order (Folded f head a' b') ≡ true
+    folds-fold f head h =
+        let u = both-true (hoists_in_order (Folded f head a b)) (are_numbered (hoisted_in (Folded f head a b))) h in
+        and-true (hoists_in_order (Folded f head a' b')) (are_numbered (hoisted_in (Folded f head a' b'))) (hoists-fold f head u.0)
+        (numbered-fewer (hoisted_in (Folded f head a b)) (hoisted_in (Folded f head a' b')) (hoisted-fold f head) u.1)
 
     -- a reduction's filter and braces
     pub expr-fold : (f : Fold) (head : Head) → ForExpr ds (Folded f head a b) (Folded f head a' b')
@@ -204,12 +231,11 @@ module _ (ds : List Declaration) where
           let v = both-true (is_type (takes f.word f.vtype) (type_in ds b)) (reduces (reduce_of f.word) f.vtype) u.1 in
           and-true (is_type Flag (type_in ds a')) (is_type (takes f.word f.vtype) (type_in ds b') && reduces (reduce_of f.word) f.vtype) (typed-same ds a a' p Flag u.0)
           (and-true (is_type (takes f.word f.vtype) (type_in ds b')) (reduces (reduce_of f.word) f.vtype) (typed-same ds b b' q (takes f.word f.vtype) v.0) v.1)) h;
-      hoisted = fewer-both (hoisted_in a ++ rest_in a f.filter) ((hoisted_in b ++ rest_in b f.body) ++ fold_fault f) (hoisted_in a' ++ rest_in a' f.filter) ((hoisted_in b' ++ rest_in b' f.body) ++ fold_fault f)
-          (fewer-both (hoisted_in a) (rest_in a f.filter) (hoisted_in a') (rest_in a' f.filter) p.hoisted (p.rest f.filter))
-          (fewer-both (hoisted_in b ++ rest_in b f.body) (fold_fault f) (hoisted_in b' ++ rest_in b' f.body) (fold_fault f) (fewer-both (hoisted_in b) (rest_in b f.body) (hoisted_in b') (rest_in b' f.body) q.hoisted (q.rest f.body)) (λ x i. i));
+      hoisted = hoisted-fold f head;
       rest = λ k x i. i;
       hoists = hoists-fold f head;
-      folds = hoists-fold f head;
+      safe = λ h. absurd (both_ways false refl h);
+      folds = folds-fold f head;
       seen = record {
         properties = seen-two.properties;
         scalars = λ x i. ⊎_elim (λ (e : x ≡ head.owner). inl e) (λ (j : IsIn x (told_in a' ++ told_in b')). inr (seen-two.scalars x j)) i;
@@ -254,6 +280,7 @@ module _ (ds : List Declaration) where
         (and-true (hoists_in_order b') (x' && y') (q.hoists v.0)
         (and-true x' y' (lie-fewer (hoisted_in c) (hoisted_in a ++ hoisted_in b) (hoisted_in c') (hoisted_in a' ++ hoisted_in b') r.hoisted (hoisted-two a a' b b' p q) w.0)
         (lie-fewer (hoisted_in a) (hoisted_in b) (hoisted_in a') (hoisted_in b') p.hoisted q.hoisted w.1))));
+    safe = λ h. let u = both-true (cannot_fail c) (cannot_fail a && cannot_fail b) h in and-true (cannot_fail c') (cannot_fail a' && cannot_fail b') (r.safe u.0) (safe-two a a' b b' p q u.1);
     folds = λ h. let u = both-true (folds_in_order c) (folds_in_order a && folds_in_order b) h in and-true (folds_in_order c') (folds_in_order a' && folds_in_order b') (r.folds u.0) (folds-two a a' b b' p q u.1);
     seen = sights-both (sights_in c') (with_reads (sights_in a') (sights_in b')) (sights_in c) (with_reads (sights_in a) (sights_in b)) r.seen (seen-two a a' b b' p q);
     away = reads-both (level_reads_in c) (level_reads_in a ++ level_reads_in b) (level_reads_in c') (level_reads_in a' ++ level_reads_in b') r.away (away-two a a' b b' p q);

@@ -3,12 +3,13 @@ use Rattle.std.specs.Prelude.{Bool, true, false, ◌&&◌}
 use Rattle.gm_ast.specs.declared.tree.Domain.TheVariants.{Nodes}
 use Rattle.gm_ast.specs.declared.tree.Target.TheVariants as T
 use Rattle.gm_ast.specs.Program.{always, Stmt, Then, Assign, Group, Foreach, For, If, While, Do, Program}
+use Rattle.gm_forms.specs.Order.{first_key}
 
--- a statement with each group assignment as a loop, in which the graph's own variable stands for the node
+-- a statement with each group assignment as a loop, in which the graph's own variable stands for the node, under the key before all faults
 abbrev pub ungrouped : Stmt → Stmt
 ungrouped (Then a b) = Then (ungrouped a) (ungrouped b)
 ungrouped (Group k at g p e) =
-    Foreach k at (record { iterator = g; domain = Nodes; owner = g; place = at }) always (Assign k (T.Property g p at) e)
+    Foreach first_key at (record { iterator = g; domain = Nodes; owner = g; place = at }) always (Assign k (T.Property g p at) e)
 ungrouped (For k at h test s) = For k at h test (ungrouped s)
 ungrouped (If k c a b) = If k c (ungrouped a) (ungrouped b)
 ungrouped (While k at c s) = While k at c (ungrouped s)

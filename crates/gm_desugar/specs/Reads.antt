@@ -1,5 +1,5 @@
 -- Reads of a sequential phase, each an assignment of its own: administrative normal form.
-use Rattle.std.specs.Prelude.{ℕ, ◌+◌, Bool, true, false, ◌&&◌, ◌||◌, List, [], ◌∷◌, ◌++◌, map, length, Option, Some, None}
+use Rattle.std.specs.Prelude.{ℕ, ◌+◌, nat_eq, Bool, true, false, not, ◌&&◌, ◌||◌, List, [], ◌∷◌, ◌++◌, map, length, Option, Some, None}
 use Rattle.gm_value.specs.declared.values.VType.{VType}
 use Rattle.gm_value.specs.declared.values.VType.TheVariants as V
 use Rattle.gm_ast.specs.declared.tree.Declaration.{Declaration}
@@ -7,7 +7,7 @@ use Rattle.gm_ast.specs.declared.tree.Key.{Key}
 use Rattle.gm_ast.specs.declared.tree.Target.{Target}
 use Rattle.gm_ast.specs.declared.tree.Target.TheVariants as T
 use Rattle.gm_base.specs.declared.places.Place.{Place}
-use Rattle.gm_ast.specs.Program.{Expr, Var, Property, Degree, Live, Unary, Binary, Both, Either, Choose, Folded, Stmt, Then, Declare, Assign, For, If, While, Do, Return, Program, sequence}
+use Rattle.gm_ast.specs.Program.{Expr, Const, Var, Property, EdgeProperty, Degree, NodeCount, EdgeCount, Live, Unary, Binary, Both, Either, Choose, Folded, Stmt, Then, Declare, Assign, For, If, While, Do, Return, Program, sequence}
 use Rattle.gm_forms.specs.Forms.{is_told, may}
 use Rattle.gm_forms.specs.Typing.{type_at}
 use Rattle.gm_desugar.specs.Conditions.{fresh, set_to, asked}
@@ -64,17 +64,34 @@ told_from n (Either a b) = Either (told_from n a) (told_from (n + count_read a) 
 told_from n (Choose c a b) = Choose (told_from n c) (told_from (n + count_read c) a) (told_from ((n + count_read c) + count_read a) b)
 told_from n e = e
 
--- an expression that is one read, or tells with scalars and counts
-abbrev pub is_read : Expr → Bool
-is_read (Property x p at) = true
-is_read (Degree d x at) = true
-is_read (Live x at) = true
-is_read (Folded f h test e) = true
-is_read e = false
+-- whether an expression names a variable: as a scalar, a node or a property that it reads
+abbrev pub names : ℕ → Expr → Bool
+names x (Const v) = false
+names x (Var y at) = nat_eq y x
+names x (Property y p at) = nat_eq y x || nat_eq p x
+names x (EdgeProperty y p at) = nat_eq p x
+names x (Degree d y at) = nat_eq y x
+names x NodeCount = false
+names x EdgeCount = false
+names x (Live y at) = nat_eq y x
+names x (Unary op at e) = names x e
+names x (Binary op at a b) = names x a || names x b
+names x (Both a b) = names x a || names x b
+names x (Either a b) = names x a || names x b
+names x (Choose c a b) = names x c || (names x a || names x b)
+names x (Folded f h test e) = nat_eq h.owner x || (names x test || names x e)
+
+-- one read that a scalar may be set to. A reduction does not name the scalar, to which later passes take its total
+abbrev pub is_read : ℕ → Expr → Bool
+is_read x (Property y p at) = true
+is_read x (Degree d y at) = true
+is_read x (Live y at) = true
+is_read x (Folded f h test e) = not (names x (Folded f h test e))
+is_read x e = false
 
 -- what is assigned to a scalar: one read, or what scalars and counts tell
-abbrev pub is_single : Expr → Bool
-is_single e = is_told e || is_read e
+abbrev pub is_single : ℕ → Expr → Bool
+is_single x e = is_told e || is_read x e
 
 -- a statement with an expression, after the reads of the expression. Where there is nothing to set it stands alone
 abbrev pub after_reads : (alone : Bool) → ℕ → Key → Expr → (Expr → Stmt) → Stmt
@@ -83,7 +100,7 @@ after_reads false n k e s = sequence (reads_set n k e ++ (s (told_from n e) ∷ 
 
 -- whether an assignment's value may stay as it is
 abbrev pub stays_alone : Target → Expr → Bool
-stays_alone (T.Scalar x at) e = is_single e
+stays_alone (T.Scalar x at) e = is_single x e
 stays_alone (T.Property x p at) e = is_told e
 
 -- how many variables an expression's reads take, where they are set before
@@ -94,7 +111,7 @@ count_unless false e = count_read e
 -- how many variables the reads of a sequential phase take
 abbrev pub count_reads : Stmt → ℕ
 count_reads (Then a b) = count_reads a + count_reads b
-count_reads (Declare k x (Some e)) = count_unless (is_single e) e
+count_reads (Declare k x (Some e)) = count_unless (is_single x e) e
 count_reads (Assign k t e) = count_unless (stays_alone t e) e
 count_reads (For k at h e s) = count_reads s
 count_reads (If k e a b) = count_reads a + count_reads b
@@ -103,10 +120,10 @@ count_reads (Do k at s e) = count_reads s
 count_reads (Return k at (Some e)) = count_unless (is_told e) e
 count_reads s = 0
 
--- a sequential phase with the reads of what is declared, assigned and returned set to variables from a number on, where there is more than one read
+-- a sequential phase with the reads of what is declared, assigned and returned set to variables from a number on, where they do not stand alone
 abbrev pub apart : ℕ → Stmt → Stmt
 apart n (Then a b) = Then (apart n a) (apart (n + count_reads a) b)
-apart n (Declare k x (Some e)) = after_reads (is_single e) n k e (λ d. Declare k x (Some d))
+apart n (Declare k x (Some e)) = after_reads (is_single x e) n k e (λ d. Declare k x (Some d))
 apart n (Assign k t e) = after_reads (stays_alone t e) n k e (Assign k t)
 apart n (For k at h e s) = For k at h e (apart n s)
 apart n (If k e a b) = If k e (apart n a) (apart (n + count_reads a) b)
@@ -121,9 +138,9 @@ types_unless true ds e = []
 types_unless false ds e = types_read ds e
 
 -- those of what a declaration sets, if anything
-abbrev pub types_declared : List Declaration → Option Expr → List VType
-types_declared ds (Some e) = types_unless (is_single e) ds e
-types_declared ds None = []
+abbrev pub types_declared : List Declaration → ℕ → Option Expr → List VType
+types_declared ds x (Some e) = types_unless (is_single x e) ds e
+types_declared ds x None = []
 
 -- those of what is returned, if anything
 abbrev pub types_returned : List Declaration → Option Expr → List VType
@@ -133,7 +150,7 @@ types_returned ds None = []
 -- the types of all these variables, in the same order
 abbrev pub types_apart : List Declaration → Stmt → List VType
 types_apart ds (Then a b) = types_apart ds a ++ types_apart ds b
-types_apart ds (Declare k x e) = types_declared ds e
+types_apart ds (Declare k x e) = types_declared ds x e
 types_apart ds (Assign k t e) = types_unless (stays_alone t e) ds e
 types_apart ds (For k at h e s) = types_apart ds s
 types_apart ds (If k e a b) = types_apart ds a ++ types_apart ds b
@@ -149,7 +166,7 @@ with_reads_apart p = record p { declarations = p.declarations ++ map fresh (type
 -- whether in a sequential phase each read stands alone as the value of a scalar
 abbrev pub has_reads_apart : Stmt → Bool
 has_reads_apart (Then a b) = has_reads_apart a && has_reads_apart b
-has_reads_apart (Declare k x (Some e)) = is_single e
+has_reads_apart (Declare k x (Some e)) = is_single x e
 has_reads_apart (Assign k t e) = stays_alone t e
 has_reads_apart (For k at h e s) = has_reads_apart s
 has_reads_apart (If k e a b) = has_reads_apart a && has_reads_apart b

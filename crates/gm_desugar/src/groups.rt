@@ -12,7 +12,7 @@ ghost use Rattle.gm_forms.specs.Meanings.{SameMeaning};
 ghost use Rattle.gm_forms.specs.Ready.{Ready0};
 
 use gm_ast::forms::Work;
-use gm_ast::tree::{Domain, Expr, Head, Key, Stmt, Target, Tree};
+use gm_ast::tree::{Domain, Expr, Head, Key, Stage, Stmt, Target, Tree};
 use gm_base::{NoMemory, Place};
 use gm_value::Value;
 use std::alloc::{AllocError, Global};
@@ -52,8 +52,12 @@ fn loop_of(
         place,
     };
     let body = Box::new(alloc, Stmt::Assign { key, target, value })?;
+    let first = Key {
+        statement: 0,
+        stage: Stage::Inner,
+    };
     Ok(Stmt::Foreach {
-        key,
+        key: first,
         place,
         head,
         filter: Expr::Const(Value::Flag(true)),

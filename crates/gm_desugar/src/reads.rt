@@ -258,9 +258,40 @@ fn told_from(alloc: Global, next: &mut u32, e: Expr) -> Result<Expr, AllocError>
     }
 }
 
-// Whether an expression is one read.
-fn is_read(e: &Expr) -> bool
-    ensures { result ≡ Reads.is_read (expr_of e.now) }
+// Whether an expression names a variable.
+fn names(x: u32, e: &Expr) -> bool
+    ensures { result ≡ Reads.names x (expr_of e.now) }
+{
+    match e {
+        Expr::Const(_) => false,
+        Expr::Var { variable, .. } => *variable == x,
+        Expr::Property {
+            owner,
+            property,
+            ..
+        } => *owner == x || *property == x,
+        Expr::EdgeProperty { property, .. } => *property == x,
+        Expr::Degree { owner, .. } => *owner == x,
+        Expr::NodeCount => false,
+        Expr::EdgeCount => false,
+        Expr::Live { variable, .. } => *variable == x,
+        Expr::Unary { inner, .. } => names(x, inner),
+        Expr::Binary { left, right, .. } => names(x, left) || names(x, right),
+        Expr::Both(left, right) => names(x, left) || names(x, right),
+        Expr::Either(left, right) => names(x, left) || names(x, right),
+        Expr::Choose(test, yes, no) => names(x, test) || (names(x, yes) || names(x, no)),
+        Expr::Fold {
+            head,
+            filter,
+            body,
+            ..
+        } => head.owner == x || (names(x, filter) || names(x, body)),
+    }
+}
+
+// Whether an expression is one read that a scalar may be set to.
+fn is_read(x: u32, e: &Expr) -> bool
+    ensures { result ≡ Reads.is_read x (expr_of e.now) }
 {
     match e {
         Expr::Const(_) => false,
@@ -276,15 +307,15 @@ fn is_read(e: &Expr) -> bool
         Expr::Both(_, _) => false,
         Expr::Either(_, _) => false,
         Expr::Choose(_, _, _) => false,
-        Expr::Fold { .. } => true,
+        Expr::Fold { .. } => !names(x, e),
     }
 }
 
-// Whether an expression is one read, or scalars and counts tell it.
-fn is_single(e: &Expr) -> bool
-    ensures { result ≡ Reads.is_single (expr_of e.now) }
+// Whether an expression is one read that a scalar may be set to, or scalars and counts tell it.
+fn is_single(x: u32, e: &Expr) -> bool
+    ensures { result ≡ Reads.is_single x (expr_of e.now) }
 {
-    is_told(e) || is_read(e)
+    is_told(e) || is_read(x, e)
 }
 
 // Whether an assignment's value may stay as it is.
@@ -292,7 +323,7 @@ fn stays_alone(target: Target, value: &Expr) -> bool
     ensures { result ≡ Reads.stays_alone target (expr_of value.now) }
 {
     match target {
-        Target::Scalar { .. } => is_single(value),
+        Target::Scalar { variable, .. } => is_single(variable, value),
         Target::Property { .. } => is_told(value),
     }
 }
@@ -315,13 +346,14 @@ fn types_unless(
 // Adds the types of the reads of what a declaration sets, if it sets anything.
 fn types_declared(
     declarations: &[Declaration],
+    variable: u32,
     value: &Option<Expr>,
     types: &mut Vec<VType>,
 ) -> Result<(), AllocError>
-    ensures { OnOk result (types.new.items ≡ types.old.items ++ Reads.types_declared declarations.now (option_map expr_of value.now)) }
+    ensures { OnOk result (types.new.items ≡ types.old.items ++ Reads.types_declared declarations.now variable (option_map expr_of value.now)) }
 {
     match value {
-        Some(value) => types_unless(is_single(value), declarations, value, types),
+        Some(value) => types_unless(is_single(variable, value), declarations, value, types),
         None => Ok(()),
     }
 }
@@ -366,7 +398,11 @@ fn types_apart(
 {
     match s {
         Stmt::Block(stmts) => types_among(declarations, stmts, types),
-        Stmt::Declare { value, .. } => types_declared(declarations, value, types),
+        Stmt::Declare {
+            variable,
+            value,
+            ..
+        } => types_declared(declarations, *variable, value, types),
         Stmt::Assign { target, value, .. } => {
             types_unless(stays_alone(*target, value), declarations, value, types)
         }
@@ -415,7 +451,7 @@ fn declare_apart(
     ensures apart { IfOk result (λ r. stmt_of r ≡ apart next.old (Program.Declare key variable (Some (expr_of value)))) }
     ensures next { OnOk result (next.new ≡ next.old + count_reads (Program.Declare key variable (Some (expr_of value)))) }
 {
-    if is_single(&value) {
+    if is_single(variable, &value) {
         return Ok(Stmt::Declare {
             key,
             variable,

@@ -1,0 +1,13 @@
+//! Reductions and reads of the sequential phase as loops over all nodes.
+//!
+//! What the first passes of the compiler leave of a sequential phase, where each read through a node variable, each
+//! degree and each reduction stands alone as the value of a scalar, becomes loops, in the order of work:
+//!
+//! 1. `folds_out`: a reduction becomes a loop onto the scalar that takes its total.
+//!
+//! A pass is a function on trees in `specs/`, the code that gives what this function gives, and a law: the result
+//! means the same, keeps what every pass keeps (`IsSane`), and has the next form. Trees are rebuilt by value, in time
+//! and memory linear in them.
+#![tactic(auto)]
+
+pub mod folds;
