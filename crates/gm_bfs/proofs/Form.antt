@@ -1,22 +1,20 @@
 -- A desugared program has the form without searches when the pass is done with it.
-use Rattle.std.proofs.Common.{◌≡◌, ◌<◌, ◌+◌, ℕ, zero, suc, Bool, true, false, cond, List, [], ◌∷◌, ◌++◌, length, map, refl, sym, ap, ◌∙◌, Option, Some, None, arith}
+use Rattle.std.proofs.Common.{◌≡◌, ◌<◌, ◌+◌, ℕ, zero, suc, Bool, true, false, cond, List, [], ◌∷◌, ◌++◌, length, map, refl, ap, ◌∙◌, Option, Some, None, arith}
 use Rattle.std.specs.Prelude.{◌&&◌, ◌||◌, not, nat_eq, nat_lt, nat_le, option_map}
 use Rattle.std.specs.List.{list_all}
 use Rattle.std.proofs.lemmas.Bool.{both_ways}
 use Rattle.gm_base.specs.declared.places.Place.{Place}
 use Rattle.gm_value.specs.declared.reductions.Reduce.{Reduce}
-use Rattle.gm_value.specs.declared.values.Value.TheVariants.{I32, I64, Flag, At}
+use Rattle.gm_value.specs.declared.values.Value.TheVariants.{Flag}
 use Rattle.gm_ast.specs.declared.tree.Declaration.{Declaration}
 use Rattle.gm_ast.specs.declared.tree.Domain.{Domain}
 use Rattle.gm_ast.specs.declared.tree.Domain.TheVariants.{Nodes, OutNbrs, InNbrs, UpNbrs, DownNbrs}
 use Rattle.gm_ast.specs.declared.tree.Head.{Head}
 use Rattle.gm_ast.specs.declared.tree.Key.{Key}
-use Rattle.gm_ast.specs.declared.tree.Search.{Search}
 use Rattle.gm_ast.specs.declared.tree.Target.{Target}
 use Rattle.gm_ast.specs.declared.tree.Target.TheVariants as T
 use Rattle.gm_ast.specs.declared.tree.Variable.{Variable}
 use Rattle.gm_ast.specs.Loops.{is_nodes}
-use Rattle.gm_ast.specs.Ways.{is_in}
 use Rattle.gm_ast.specs.Program.{Expr, always, Const, Var, Property, EdgeProperty, Degree, NodeCount, EdgeCount, Live, Unary, Binary, Both, Either, Choose, Folded, Stmt, Skip, Then, Declare, DeclareEdge, Assign, Defer, Combine, Group, Foreach, For, If, While, Do, InBfs, InBfsBoth, Return, Program, sequence}
 use Rattle.gm_semantics.specs.Frames.{TargetBelow, TargetsBelow, NamesBelow}
 use Rattle.gm_semantics.specs.Statements.{variable_at}
@@ -29,16 +27,16 @@ use Rattle.gm_bfs.specs.declared.fresh.Fresh.{Fresh}
 use Rattle.gm_bfs.specs.declared.fresh.Site.{Site}
 use Rattle.gm_bfs.specs.Variables.{fresh_from, fresh_declarations, copy_declaration, with_fresh}
 use Rattle.gm_bfs.specs.Copies.{asks_up, asks_down, copied, reading, inner_reading}
-use Rattle.gm_bfs.specs.Searches.{is_always, conjunction, is_on, ranged, inner_loop, by_levels, is_idle, is_safe, visit, set, set_at, at_node, scalar, first_levels, begin, next_level, level_before, activate, reach, look, copies_from, unless_empty, copy, copy_property, number, where_asked, first_where, forward_turn, forward, back_turn, backward, site_of, search_out, search_both}
+use Rattle.gm_bfs.specs.Searches.{is_always, conjunction, is_on, ranged, inner_loop, by_levels, is_idle, is_safe, visit, set, at_node, scalar, first_levels, begin, next_level, level_before, activate, reach, look, copies_from, unless_empty, copy, number, where_asked, first_where, forward, back_turn, backward, site_of}
 use Rattle.gm_bfs.specs.Levelled.{searches_out, has_search, levelled}
 
 -- the variables of a table, and those behind it
-variable-before : (ds xs : List Declaration) (x : ℕ) → x < length ds → variable_at (ds ++ xs) x ≡ variable_at ds x
+pub variable-before : (ds xs : List Declaration) (x : ℕ) → x < length ds → variable_at (ds ++ xs) x ≡ variable_at ds x
 variable-before [] xs x b = absurd (omega arith)
 variable-before (d ∷ ds) xs zero b = refl
 variable-before (d ∷ ds) xs (suc x) b = variable-before ds xs x (omega arith)
 
-variable-behind : (ds xs : List Declaration) (i : ℕ) → variable_at (ds ++ xs) (length ds + i) ≡ variable_at xs i
+pub variable-behind : (ds xs : List Declaration) (i : ℕ) → variable_at (ds ++ xs) (length ds + i) ≡ variable_at xs i
 variable-behind [] xs i = let same : 0 + i ≡ i = omega arith in ap (variable_at xs) same
 variable-behind (d ∷ ds) xs i =
     let next : length (d ∷ ds) + i ≡ suc (length ds + i) = omega arith in
@@ -392,7 +390,7 @@ module _ (ds : List Declaration) where
   phase-plain s none h = h
 
 -- a scalar of the fresh ones
-depth-fresh : (ds : List Declaration) (i : ℕ) → depth_at (with_fresh ds) (length ds + i) ≡ depth_at (fresh_declarations ++ map copy_declaration ds) i
+pub depth-fresh : (ds : List Declaration) (i : ℕ) → depth_at (with_fresh ds) (length ds + i) ≡ depth_at (fresh_declarations ++ map copy_declaration ds) i
 depth-fresh ds i = ap (λ (v : Variable). v.depth) (variable-behind ds (fresh_declarations ++ map copy_declaration ds) i)
 
 depth-root : (ds : List Declaration) → depth_at (with_fresh ds) (length ds) ≡ 0

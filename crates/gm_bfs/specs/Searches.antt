@@ -12,7 +12,7 @@ use Rattle.gm_ast.specs.declared.tree.Key.{Key}
 use Rattle.gm_ast.specs.declared.tree.Search.{Search}
 use Rattle.gm_ast.specs.declared.tree.Target.TheVariants as T
 use Rattle.gm_ast.specs.Program.{Expr, always, Const, Var, Property, EdgeProperty, Degree, NodeCount, EdgeCount, Live, Unary, Binary, Both, Either, Choose, Folded, Stmt, Skip, Then, Assign, Combine, Foreach, If, While, sequence}
-use Rattle.gm_forms.specs.Order.{can_fail1, can_fail2}
+use Rattle.gm_forms.specs.Order.{first_key, can_fail1, can_fail2}
 use Rattle.gm_bfs.specs.declared.fresh.Fresh.{Fresh}
 use Rattle.gm_bfs.specs.declared.fresh.Site.{Site}
 use Rattle.gm_bfs.specs.Variables.{copy_of, filter_key, body_key, total_of}
@@ -51,9 +51,9 @@ over_nodes s x = record { iterator = x; domain = Nodes; owner = s.graph; place =
 abbrev pub along_edges : Site → Fresh → Head
 along_edges s f = record { iterator = f.neighbour; domain = OutNbrs; owner = f.node; place = s.place }
 
--- a loop over all nodes that pass a filter
+-- A loop over all nodes that pass a filter, which cannot fault: so its key may come before all others
 abbrev pub each_node : Site → Fresh → Expr → Stmt → Stmt
-each_node s f test body = Foreach (filter_key s) s.place (over_nodes s f.node) test body
+each_node s f test body = Foreach first_key s.place (over_nodes s f.node) test body
 
 -- the root has level 0, and no other node is reached
 abbrev pub first_levels : Site → Fresh → Stmt

@@ -4,6 +4,8 @@ ghost use Rattle.std.specs.Prelude.{◌≡◌, IfOk, map, true};
 ghost use Rattle.gm_ast.specs.Program.{sequence};
 ghost use Rattle.gm_ast.specs.Tree.{expr_of, program_of, stmt_of};
 ghost use Rattle.gm_forms.specs.Forms.{is_desugared, is_levelled};
+ghost use Rattle.gm_forms.specs.Meanings.{SameMeaning};
+ghost use Rattle.gm_forms.specs.Typing.{has_types};
 ghost use Rattle.gm_forms.specs.Uses.{is_named};
 ghost use Rattle.gm_bfs.specs.Levelled as Levelled;
 
@@ -15,11 +17,15 @@ use gm_base::NoMemory;
 use std::alloc::Global;
 
 /// Writes each search of a program as loops over levels. A program without searches stays as it is. Where variables
-/// stand in the table as they are used and the program is a desugared one, the result has the form of one without
-/// searches.
+/// stand in the table as they are used and the program is a desugared one, the result means the same, for every graph,
+/// all arguments and every bound, and has the form of one without searches. Variables stand in the longer table as they
+/// are used, and expressions have types.
 pub fn bfs_out(alloc: Global, program: Work) -> Result<Work, NoMemory>
     ensures made { IfOk result (λ r. program_of r ≡ Levelled.levelled (program_of program)) }
+    ensures same { IfOk result (λ r. is_named (program_of program) ≡ true → is_desugared (program_of program) ≡ true → SameMeaning (program_of program) (program_of r)) }
     ensures form { IfOk result (λ r. is_named (program_of program) ≡ true → is_desugared (program_of program) ≡ true → is_levelled (program_of r) ≡ true) }
+    ensures named { IfOk result (λ r. is_named (program_of program) ≡ true → is_named (program_of r) ≡ true) }
+    ensures typed { IfOk result (λ r. is_named (program_of program) ≡ true → has_types (program_of program) ≡ true → has_types (program_of r) ≡ true) }
 {
     let tree = without_searches(alloc, program.into_tree())?;
     Ok(Work::new(tree))

@@ -16,8 +16,12 @@
 //! no part is copied: time and memory are linear in the tree, but that each part that asks for levels has a table of
 //! all variables.
 //!
-//! It is proved that the code gives what the definition says, and that a desugared program comes out without searches.
-//! That the program means the same is not proved yet; tests run programs before and after the pass.
+//! It is proved that the code gives what the definition says, that a desugared program comes out without searches, and
+//! that it means the same: the same outcome for every graph, all arguments and every bound, with the same fault and the
+//! same number of turns. The law in short: at the head of the `While` the property holds the levels up to the current
+//! one, and another turn is wanted where a node is on the current level; a turn at an active node does what the search
+//! does there, since its iteration changes its own node alone, and the copies hold what other levels held; the next
+//! level has the nodes to which an edge leads from this one and that had no level.
 //!
 //! - `fresh`: the fresh variables and where a search stands;
 //! - `marks`: which properties a part copies;

@@ -6,7 +6,7 @@ ghost use Rattle.gm_ast.specs.Tree.{expr_of, stmt_of};
 ghost use Rattle.gm_bfs.specs.Searches as Searches;
 
 use crate::fresh::{Fresh, Site, copy_of};
-use gm_ast::tree::{Domain, Expr, Head, Key, Stmt, Target};
+use gm_ast::tree::{Domain, Expr, Head, Key, Stage, Stmt, Target};
 use gm_base::NoMemory;
 use gm_value::{Op2, Reduce, Value};
 use std::alloc::Global;
@@ -98,7 +98,7 @@ pub(crate) fn over_nodes(site: Site, iterator: u32) -> Head
     }
 }
 
-// A loop over all nodes that pass a filter.
+// A loop over all nodes that pass a filter, which cannot fault: its key comes before all others.
 fn each_node(
     alloc: Global,
     site: Site,
@@ -108,8 +108,12 @@ fn each_node(
 ) -> Result<Stmt, NoMemory>
     ensures { IfOk result (λ r. stmt_of r ≡ Searches.each_node site fresh (expr_of filter) (stmt_of body)) }
 {
+    let first = Key {
+        statement: 0,
+        stage: Stage::Inner,
+    };
     Ok(Stmt::Foreach {
-        key: site.filter_key(),
+        key: first,
         place: site.place,
         head: over_nodes(site, fresh.node),
         filter,

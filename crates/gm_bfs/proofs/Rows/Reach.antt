@@ -53,7 +53,7 @@ tree : (levelled program).body ≡ sequence (
     sequence (
     sequence (
     Assign (key 1 Operator) (Target.Scalar 4 (place 2 26)) (Live 1 (place 2 26)) ∷
-    Foreach (key 1 Inner) (place 2 26) (head 12 Domain.Nodes 0 (place 2 26)) always
+    Foreach (key 0 Inner) (place 2 26) (head 12 Domain.Nodes 0 (place 2 26)) always
     (Assign (key 1 Operator) (Target.Property 12 10 (place 2 26))
     (Choose (Binary Op2.Eq (place 2 26) (Var 12 (place 2 26)) (Var 4 (place 2 26))) (Const (I32 (pos 0))) (Const (I32 (pos 2147483647))))) ∷
     Assign (key 1 Operator) (Target.Scalar 5 (place 2 26)) (Const (I32 (pos 0))) ∷
@@ -62,16 +62,16 @@ tree : (levelled program).body ≡ sequence (
     Assign (key 1 Operator) (Target.Scalar 7 (place 2 26)) (Binary Op2.Add (place 2 26) (Var 5 (place 2 26)) (Const (I32 (pos 1)))) ∷
     Skip ∷
     Assign (key 1 Operator) (Target.Scalar 9 (place 2 26)) (Const (Flag false)) ∷
-    Foreach (key 1 Inner) (place 2 26) (head 12 Domain.Nodes 0 (place 2 26)) always
+    Foreach (key 0 Inner) (place 2 26) (head 12 Domain.Nodes 0 (place 2 26)) always
     (Assign (key 1 Operator) (Target.Property 12 11 (place 2 26)) (Binary Op2.Eq (place 2 26) (Property 12 10 (place 2 26)) (Var 5 (place 2 26)))) ∷
     Skip ∷
     sequence (
     Foreach (key 1 Operator) (place 2 26) (head 3 Domain.Nodes 0 (place 2 26)) (Property 3 11 (place 2 26))
     (sequence (Assign (key 3 Operator) (Target.Property 3 2 (place 3 5)) (Const (Flag true)) ∷ [])) ∷
-    Foreach (key 1 Inner) (place 2 26) (head 12 Domain.Nodes 0 (place 2 26)) (Property 12 11 (place 2 26))
+    Foreach (key 0 Inner) (place 2 26) (head 12 Domain.Nodes 0 (place 2 26)) (Property 12 11 (place 2 26))
     (Foreach (key 1 Inner) (place 2 26) (head 13 Domain.OutNbrs 12 (place 2 26)) always
     (Combine (key 1 Operator) (total (key 1 Total) (place 2 26) (place 2 26)) Min (Target.Property 13 10 (place 2 26) ∷ []) (Var 7 (place 2 26) ∷ []))) ∷ []) ∷
-    Foreach (key 1 Inner) (place 2 26) (head 12 Domain.Nodes 0 (place 2 26)) always
+    Foreach (key 0 Inner) (place 2 26) (head 12 Domain.Nodes 0 (place 2 26)) always
     (Combine (key 1 Operator) (total (key 1 Total) (place 2 26) (place 2 26)) Or (Target.Scalar 9 (place 2 26) ∷ [])
     (Binary Op2.Eq (place 2 26) (Property 12 10 (place 2 26)) (Var 7 (place 2 26)) ∷ [])) ∷
     Assign (key 1 Operator) (Target.Scalar 8 (place 2 26)) (Var 9 (place 2 26)) ∷
