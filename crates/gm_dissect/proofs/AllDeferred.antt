@@ -76,7 +76,7 @@ module _ (p q : ℕ) where
   loop-less : (key : Key) (at : Place) (h : Head) (test : Expr) (body : Stmt) (y : ℕ) → IsIn y (deferred_in (undeferred_loop p q key at h test body)) → Less (deferred_of body) y
   loop-less key at h test body y i = by (defers p body) refl i
     where
-      by : (b : Bool) → defers p body ≡ b → IsIn y (deferred_in (cond b (sequence (copied q p key at h ∷ Foreach key at h test (undeferred p q body) ∷ copied p q key at h ∷ [])) (Foreach key at h test body))) → Less (deferred_of body) y
+      by : (b : Bool) → defers p body ≡ b → IsIn y (deferred_in (cond b (sequence (copied q p at h ∷ Foreach key at h test (undeferred p q body) ∷ copied p q at h ∷ [])) (Foreach key at h test body))) → Less (deferred_of body) y
       by true e i = ⊎_elim (body-less body y) (λ j. absurd j) (in-either y (deferred_of (undeferred p q body)) [] i)
       by false e i = (i, λ (f : y ≡ p). both_ways (defers p body) e (listed-defers p body (subst (λ z. IsIn z (deferred_of body)) f i)))
 

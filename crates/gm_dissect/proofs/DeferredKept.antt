@@ -15,13 +15,14 @@ use Rattle.gm_ast.specs.declared.tree.Sort.{Sort}
 use Rattle.gm_ast.specs.declared.tree.Sort.TheVariants as Sorts
 use Rattle.gm_ast.specs.declared.tree.Target.TheVariants as T
 use Rattle.gm_ast.specs.declared.tree.Variable.{Variable}
+use Rattle.gm_ast.specs.Keys.{Fault}
 use Rattle.gm_ast.specs.Loops.{is_nodes}
 use Rattle.gm_ast.specs.Names.{is_node_type, sort_eq}
 use Rattle.gm_ast.specs.Program.{Expr, Property, always, Stmt, Skip, Then, Assign, Foreach, Program, sequence}
 use Rattle.gm_semantics.specs.Frames.{NamesBelow}
 use Rattle.gm_semantics.specs.Statements.{variable_or, variable_at}
 use Rattle.gm_forms.specs.Forms.{is_flat, is_outer_body, is_flat_loop}
-use Rattle.gm_forms.specs.Order.{lie_before, faults_in, faults_of, in_order, body_in_order}
+use Rattle.gm_forms.specs.Order.{fault_of, are_numbered, cannot_fail, lie_before, hoisted_in, faults_in, faults_of, in_order, body_in_order}
 use Rattle.gm_forms.specs.Ready.{Ready2}
 use Rattle.gm_forms.specs.Sharing.{Sights, Reduced, told_in, reads_in, sights_of, written, reduced, deferred, inners_share, shares, disjoint, shared_in, kept_in, read_anywhere, read_elsewhere, all_agree, targets_alike}
 use Rattle.gm_forms.specs.Typing.{type_at, has_type, is_typed_in}
@@ -38,14 +39,14 @@ use Rattle.gm_dissect.proofs.Kept.{Sound, sound-then, sound-skip, phase-kept}
 use Rattle.gm_dissect.proofs.Longer.{all-suit, vtype-same, typed-same, shares-same, outer-body-same}
 use Rattle.gm_dissect.proofs.Undeferred.{append-true, deferred-below, shared-below, Low, low-both, reads-low, sights-low, elsewhere-low, sights-undeferred, reduced-undeferred, inners-undeferred, alike-undeferred, faults-undeferred, order-undeferred, form-undeferred, typed-undeferred, named-undeferred, written-undeferred, deferred-undeferred}
 
-type-itself : (t : VType) → same_type t t ≡ true
+pub type-itself : (t : VType) → same_type t t ≡ true
 type-itself V.I32 = refl
 type-itself V.I64 = refl
 type-itself V.Flag = refl
 type-itself V.Node = refl
 
 -- what iterates may own
-owns : (v : Variable) → has_role v Iterates ≡ true → has_role v Owner ≡ true
+pub owns : (v : Variable) → has_role v Iterates ≡ true → has_role v Owner ≡ true
 owns v h = by v.sort refl h
   where
     by : (s : Sort) → v.sort ≡ s → sort_eq Sorts.Iterator s || sort_eq Sorts.Graph s ≡ true → (sort_eq Sorts.Iterator s || (sort_eq Sorts.Scalar s && is_node_type v.vtype)) || sort_eq Sorts.Graph s ≡ true
@@ -57,7 +58,7 @@ owns v h = by v.sort refl h
     by Sorts.EdgeProperty e h = absurd (both_ways false refl h)
 
 -- the variable behind a table
-length-one : (ds : List Declaration) (d : Declaration) → length (ds ++ (d ∷ [])) ≡ suc (length ds)
+pub length-one : (ds : List Declaration) (d : Declaration) → length (ds ++ (d ∷ [])) ≡ suc (length ds)
 length-one [] d = refl
 length-one (x ∷ ds) d = ap suc (length-one ds d)
 
@@ -65,7 +66,7 @@ get-last : (ds : List Declaration) (d : Declaration) → slice_get (ds ++ (d ∷
 get-last [] d = refl
 get-last (x ∷ ds) d = get-last ds d
 
-last-variable : (ds : List Declaration) (d : Declaration) → variable_at (ds ++ (d ∷ [])) (length ds) ≡ d.variable
+pub last-variable : (ds : List Declaration) (d : Declaration) → variable_at (ds ++ (d ∷ [])) (length ds) ≡ d.variable
 last-variable ds d = ap (λ o. variable_or (option_map (λ (x : Declaration). x.variable) o)) (get-last ds d)
 
 -- ds: the table; p: the property; res: the result's type
@@ -82,7 +83,7 @@ module _ (ds : List Declaration) (p : ℕ) (res : Option VType) where
   more : length ds ≤ length dt
   more = let e = length-one ds (copy_of ds p) in omega (arith, e)
 
-  use-suits : (x : ℕ) (role : _) → x < length dt → has_role (variable_at dt x) role ≡ true → list_all (suits dt) (use_as role x) ≡ true
+  pub use-suits : (x : ℕ) (role : _) → x < length dt → has_role (variable_at dt x) role ≡ true → list_all (suits dt) (use_as role x) ≡ true
   use-suits x role l h = and-true (nat_lt x (length dt) && has_role (variable_at dt x) role) true (and-true (nat_lt x (length dt)) (has_role (variable_at dt x) role) (lt-ltb x (length dt) l) h) refl
 
   copy-use : list_all (suits dt) (use_as NodeValue q) ≡ true
@@ -121,7 +122,7 @@ module _ (ds : List Declaration) (p : ℕ) (res : Option VType) where
       property-use = use-suits p NodeValue (let k = known.0 in let m = more in omega (arith, k, m)) (ap (λ (v : Variable). has_role v NodeValue) (same p known.0) ∙ known.1)
 
       -- a loop that copies
-      copy-sound : (a b : ℕ) → list_all (suits dt) (use_as NodeValue a) ≡ true → list_all (suits dt) (use_as NodeValue b) ≡ true → type_at dt a ≡ type_at dt b → Sound dt res (copied a b key at hd)
+      copy-sound : (a b : ℕ) → list_all (suits dt) (use_as NodeValue a) ≡ true → list_all (suits dt) (use_as NodeValue b) ≡ true → type_at dt a ≡ type_at dt b → Sound dt res (copied a b at hd)
       copy-sound a b u v t =
           let r = all-append (suits dt) (uses_of_head hd) (uses_in test ++ uses_of body) longer-loop.named in
           let i = all-append (suits dt) (use_as Iterates n) (use_as (owner_role hd.domain) hd.owner) r.0 in
@@ -190,6 +191,10 @@ module _ (ds : List Declaration) (p : ℕ) (res : Option VType) where
           ∙ and-true (disjoint (shared_in all) (reads ++ (told ++ new))) (disjoint (new ++ kept_in all) elsewhere && (disjoint less (new ++ others) && rest)) one
           (and-true (disjoint (new ++ kept_in all) elsewhere) (disjoint less (new ++ others) && rest) two (and-true (disjoint less (new ++ others)) rest three c.1))
 
+      -- whether the loop begins well over some faults
+      abbrev begins_with : List Fault → Bool
+      begins_with fs = lie_before (fault_of key hd.place ∷ []) fs && (are_numbered (hoisted_in test ++ fs) && (nat_lt 0 key.statement || cannot_fail test))
+
       -- the loop that writes to the copy
       middle-sound : Sound dt res (Foreach key at hd test inside)
       middle-sound =
@@ -199,23 +204,23 @@ module _ (ds : List Declaration) (p : ℕ) (res : Option VType) where
             named = append-true (suits dt) (uses_of_head hd) (uses_in test ++ uses_of inside) r.0 (append-true (suits dt) (uses_in test) (uses_of inside) s.0 (named-undeferred dt n p q body copy-use s.1));
             typed = ap (λ x. has_type dt V.Flag test && x) (typed-undeferred dt n p q res body types) ∙ longer-loop.typed;
             order =
-                ap (λ x. in_order test key && (x && lie_before (faults_in test key) (faults_of inside))) (order-undeferred dt n p q body)
-                ∙ ap (λ x. in_order test key && (body_in_order body && lie_before (faults_in test key) x)) (faults-undeferred dt n p q body)
+                ap (λ x. begins_with x && (in_order test key && (body_in_order inside && lie_before (faults_in test key) x))) (faults-undeferred dt n p q body)
+                ∙ ap (λ x. begins_with (faults_of body) && (in_order test key && (x && lie_before (faults_in test key) (faults_of body)))) (order-undeferred dt n p q body)
                 ∙ longer-loop.order;
             share = shared;
             form = ap (λ b. is_nodes hd.domain && (is_flat (n ∷ []) false test && b)) (form-undeferred dt n p q body) ∙ longer-loop.form;
           }
 
-      three-sound : Sound dt res (sequence (copied q p key at hd ∷ Foreach key at hd test inside ∷ copied p q key at hd ∷ []))
+      three-sound : Sound dt res (sequence (copied q p at hd ∷ Foreach key at hd test inside ∷ copied p q at hd ∷ []))
       three-sound =
-          sound-then dt res (copied q p key at hd) (sequence (Foreach key at hd test inside ∷ copied p q key at hd ∷ [])) (copy-sound q p copy-use property-use types)
-          (sound-then dt res (Foreach key at hd test inside) (sequence (copied p q key at hd ∷ [])) middle-sound
-          (sound-then dt res (copied p q key at hd) Skip (copy-sound p q property-use copy-use (sym types)) (sound-skip dt res)))
+          sound-then dt res (copied q p at hd) (sequence (Foreach key at hd test inside ∷ copied p q at hd ∷ [])) (copy-sound q p copy-use property-use types)
+          (sound-then dt res (Foreach key at hd test inside) (sequence (copied p q at hd ∷ [])) middle-sound
+          (sound-then dt res (copied p q at hd) Skip (copy-sound p q property-use copy-use (sym types)) (sound-skip dt res)))
 
   loop-sound : (key : Key) (at : Place) (hd : Head) (test : Expr) (body : Stmt) → Sound ds res (Foreach key at hd test body) → Sound dt res (undeferred_loop p q key at hd test body)
   loop-sound key at hd test body sound = by (defers p body) refl
     where
-      by : (b : Bool) → defers p body ≡ b → Sound dt res (cond b (sequence (copied q p key at hd ∷ Foreach key at hd test (undeferred p q body) ∷ copied p q key at hd ∷ [])) (Foreach key at hd test body))
+      by : (b : Bool) → defers p body ≡ b → Sound dt res (cond b (sequence (copied q p at hd ∷ Foreach key at hd test (undeferred p q body) ∷ copied p q at hd ∷ [])) (Foreach key at hd test body))
       by true e = three-sound key at hd test body sound (defers-listed p body e)
       by false e = longer-loop key at hd test body sound
 

@@ -28,7 +28,9 @@ use Rattle.gm_semantics.specs.Loops.{pushes}
 use Rattle.gm_semantics.specs.Statements.{Run, State, Course, variable_at, loop_of, with_value, then_do, with_store, sequential}
 use Rattle.gm_semantics.specs.Frames.{ReadsBelow, NamesBelow, AlikeStates, AlikeCourses}
 use Rattle.gm_semantics.proofs.StatementFrames.{sequential-alike}
+use Rattle.gm_forms.specs.Cut.{touched}
 use Rattle.gm_forms.specs.Forms.{depth_at, is_flat, is_inner_head, is_inner_body, is_outer_body}
+use Rattle.gm_forms.specs.Order.{first_key, second_key}
 use Rattle.gm_forms.specs.Sharing.{Reduced, reduced_by, are_at_once, variables_of, variables_where, is_owned, is_kept, written_by, written, reduced, deferred, shared_in, kept_in, disjoint, all_agree, inners_share, targets_alike, with_reads, sights_in, sights_of, read_anywhere, read_elsewhere, reads_in}
 use Rattle.gm_forms.specs.Uses.{Role, Iterates, Written, Declared, NodeValue, Owner, Use, use_as, has_role, owner_role, suits, uses_in, uses_in_all, uses_of_head, uses_of_target, uses_of_targets, uses_of}
 use Rattle.gm_forms.proofs.CutLaws.{apart-out}
@@ -37,22 +39,34 @@ use Rattle.gm_forms.proofs.Doings.{in-left, in-right, in-either}
 use Rattle.gm_forms.proofs.Named.{both-true, all-append, names-below}
 use Rattle.gm_forms.proofs.Weaker.{and-true}
 use Rattle.gm_loop_laws.specs.Deferring.{undeferred, only_defers}
-use Rattle.gm_loop_laws.specs.Masks.{Change, looped, in_turn, SameChange, touched}
-use Rattle.gm_loop_laws.proofs.Delays.{defers-move}
+use Rattle.gm_loop_laws.specs.Masks.{Change, looped, in_turn, SameChange}
+use Rattle.gm_loop_laws.proofs.Delays.{defers-move, copies-any}
 use Rattle.gm_loop_laws.proofs.Pieces.{own-loop, courses-alike}
 use Rattle.gm_loop_laws.proofs.Pushes.{undeferred-pushes}
 use Rattle.gm_dissect.specs.Deferred.{copied, defers, undeferred_loop}
 use Rattle.gm_dissect.proofs.Phases.{KnownLoop, Rewrites}
 
-either-true : (a b : Bool) → a || b ≡ true → (a ≡ true) ⊎ (b ≡ true)
+pub either-true : (a b : Bool) → a || b ≡ true → (a ≡ true) ⊎ (b ≡ true)
 either-true true b h = inl refl
 either-true false b h = inr h
 
+-- whether a variable holds values that a body may write
+abbrev pub may_be_written : Variable → Bool
+may_be_written v = sort_eq Sorts.Scalar v.sort || sort_eq Sorts.NodeProperty v.sort
+
+pub declared-written : (v : Variable) → has_role v Declared ≡ true → may_be_written v ≡ true
+declared-written v h = by (sort_eq Sorts.Scalar v.sort) (sort_eq Sorts.NodeProperty v.sort) h
+  where
+    by : (a b : Bool) → a || (b && nat_eq v.depth 0) ≡ true → a || b ≡ true
+    by true b h = refl
+    by false true h = refl
+    by false false h = h
+
 -- what is written has the role of what is declared
-written-declared : (v : Variable) → has_role v Written ≡ true → has_role v Declared ≡ true
+pub written-declared : (v : Variable) → has_role v Written ≡ true → may_be_written v ≡ true
 written-declared v h = ap (λ b. b || sort_eq Sorts.NodeProperty v.sort) h
 
-property-declared : (v : Variable) → has_role v NodeValue ≡ true → has_role v Declared ≡ true
+property-declared : (v : Variable) → has_role v NodeValue ≡ true → may_be_written v ≡ true
 property-declared v h = by (sort_eq Sorts.Scalar v.sort) h
   where
     by : (b : Bool) → sort_eq Sorts.NodeProperty v.sort ≡ true → b || sort_eq Sorts.NodeProperty v.sort ≡ true
@@ -60,7 +74,7 @@ property-declared v h = by (sort_eq Sorts.Scalar v.sort) h
     by false h = h
 
 -- nothing that iterates is declared
-never-iterates : (v : Variable) → has_role v Iterates ≡ true → has_role v Declared ≡ true → ⊥
+pub never-iterates : (v : Variable) → has_role v Iterates ≡ true → may_be_written v ≡ true → ⊥
 never-iterates v = by v.sort
   where
     by : (s : Sort) → sort_eq Sorts.Iterator s || sort_eq Sorts.Graph s ≡ true → sort_eq Sorts.Scalar s || sort_eq Sorts.NodeProperty s ≡ true → ⊥
@@ -84,7 +98,7 @@ no-scalar v = by v.sort
     by Sorts.EdgeProperty h i = both_ways false refl h
 
 module _ (ds : List Declaration) where
-  abbrev Suit : List Use → Type 0
+  abbrev pub Suit : List Use → Type 0
   Suit us = list_all (suits ds) us ≡ true
 
   -- a use says where a variable is, and what
@@ -94,13 +108,13 @@ module _ (ds : List Declaration) where
       let b = both-true (nat_lt x (length ds)) (has_role (variable_at ds x) role) s.0 in
       (ltb-true x (length ds) b.0, b.1)
 
-  abbrev IsDeclared : ℕ → Type 0
-  IsDeclared y = has_role (variable_at ds y) Declared ≡ true
+  abbrev pub IsDeclared : ℕ → Type 0
+  IsDeclared y = may_be_written (variable_at ds y) ≡ true
 
   one-of : (x y : ℕ) → IsDeclared x → IsIn y (x ∷ []) → IsDeclared y
   one-of x y d i = ⊎_elim (λ (e : y ≡ x). subst IsDeclared (sym e) d) (λ j. absurd j) i
 
-  target-declared : (t : Target) (y : ℕ) → Suit (uses_of_target t) → IsIn y (written_by t) → IsDeclared y
+  pub target-declared : (t : Target) (y : ℕ) → Suit (uses_of_target t) → IsIn y (written_by t) → IsDeclared y
   target-declared (T.Scalar x at) y h i = one-of x y (written-declared (variable_at ds x) (use-of Written x h).1) i
   target-declared (T.Property x p at) y h i =
       let r = all-append (suits ds) (use_as Owner x) (use_as NodeValue p) h in one-of p y (property-declared (variable_at ds p) (use-of NodeValue p r.1).1) i
@@ -115,7 +129,7 @@ module _ (ds : List Declaration) where
   touched-declared : (s : Stmt) (y : ℕ) → Suit (uses_of s) → IsIn y (touched s) → IsDeclared y
   touched-declared (Then a b) y h i =
       let r = all-append (suits ds) (uses_of a) (uses_of b) h in ⊎_elim (touched-declared a y r.0) (touched-declared b y r.1) (in-either y (touched a) (touched b) i)
-  touched-declared (Declare k x None) y h i = one-of x y (use-of Declared x h).1 i
+  touched-declared (Declare k x None) y h i = one-of x y (declared-written (variable_at ds x) (use-of Declared x h).1) i
   touched-declared (Declare k x (Some e)) y h i =
       let r = all-append (suits ds) (use_as Written x) (uses_in e) h in one-of x y (written-declared (variable_at ds x) (use-of Written x r.0).1) i
   touched-declared (Assign k t e) y h i = let r = all-append (suits ds) (uses_of_target t) (uses_in e) h in target-declared t y r.0 i
@@ -286,14 +300,14 @@ defers-listed p (If k c a b) h =
 defers-listed p s h = absurd (both_ways false refl h)
 
 -- changes one after another, as courses
-turns-do : (f g : Change) (next : State → Course) (v : State) → ((w : Store) → with_value (g w) (with_store v) ≡ next (record v { store = w })) → with_value (in_turn f g v.store) (with_store v) ≡ then_do (with_value (f v.store) (with_store v)) next
+pub turns-do : (f g : Change) (next : State → Course) (v : State) → ((w : Store) → with_value (g w) (with_store v) ≡ next (record v { store = w })) → with_value (in_turn f g v.store) (with_store v) ≡ then_do (with_value (f v.store) (with_store v)) next
 turns-do f g next v h = by (f v.store)
   where
     by : (r : Result Store Fault) → with_value (then_with r g) (with_store v) ≡ then_do (with_value r (with_store v)) next
     by (Ok w) = h w
     by (Err e) = refl
 
-last-do : (run : Run) (v : State) (r : Result Store Fault) → with_value r (with_store v) ≡ then_do (with_value r (with_store v)) (sequential Skip run)
+pub last-do : (run : Run) (v : State) (r : Result Store Fault) → with_value r (with_store v) ≡ then_do (with_value r (with_store v)) (sequential Skip run)
 last-do run v (Ok w) = refl
 last-do run v (Err e) = refl
 
@@ -309,13 +323,14 @@ module _ (ds : List Declaration) (run : Run) (p : ℕ) where
     loop = loop_of run no_levels n body
 
     abbrev into : Stmt
-    into = Assign key (T.Property n fresh at) (Property n p at)
+    into = Assign second_key (T.Property n fresh at) (Property n p at)
 
     abbrev out : Stmt
-    out = Assign key (T.Property n p at) (Property n fresh at)
+    out = Assign second_key (T.Property n p at) (Property n fresh at)
 
-    law : SameChange fresh (looped loop key test body) (in_turn (looped loop key always into) (in_turn (looped loop key test (undeferred p fresh body)) (looped loop key always out)))
-    law =
+    under-key : SameChange fresh (looped loop key test body)
+        (in_turn (looped loop key always (Assign key (T.Property n fresh at) (Property n p at))) (in_turn (looped loop key test (undeferred p fresh body)) (looped loop key always (Assign key (T.Property n p at) (Property n fresh at)))))
+    under-key =
         let below = names-below ds (Foreach key at h test body) known.named in
         let form = both-true (is_flat (n ∷ []) false test) (is_outer_body ds false n body) known.form in
         let r = all-append (suits ds) (uses_of_head h) (uses_in test ++ uses_of body) known.named in
@@ -336,34 +351,43 @@ module _ (ds : List Declaration) (run : Run) (p : ℕ) where
         (λ e. apart (in-right p own (shared_in all ++ kept_in all) (⊎_elim (λ j. in-left p (shared_in all) (kept_in all) j) (λ j. in-right p (shared_in all) (kept_in all) j) e))) d) in
         defers-move fresh ds loop p fresh key at test body below.0 is.0 (omega arith) below.2 below.3 form.1 only
 
+    -- the copies, under keys of their own
+    law : SameChange fresh (looped loop key test body) (in_turn (looped loop first_key always into) (in_turn (looped loop key test (undeferred p fresh body)) (looped loop first_key always out)))
+    law =
+        subst (λ f. SameChange fresh (looped loop key test body) (in_turn f (in_turn (looped loop key test (undeferred p fresh body)) (looped loop first_key always out)))) (sym (copies-any loop first_key second_key key p fresh at))
+        (subst (λ f. SameChange fresh (looped loop key test body) (in_turn (looped loop key always (Assign key (T.Property n fresh at) (Property n p at))) (in_turn (looped loop key test (undeferred p fresh body)) f))) (sym (copies-any loop first_key second_key key fresh p at)) under-key)
+
     -- each loop by what it pushes itself
     abbrev alone : Expr → Stmt → Change
     alone e s = looped (loop_of run no_levels n s) key e s
 
-    into-same : looped loop key always into ≡ alone always into
-    into-same = fun_ext (λ s. own-loop loop (pushes into n) key always into refl s)
+    abbrev copying : Stmt → Change
+    copying s = looped (loop_of run no_levels n s) first_key always s
 
-    out-same : looped loop key always out ≡ alone always out
-    out-same = fun_ext (λ s. own-loop loop (pushes out n) key always out refl s)
+    into-same : looped loop first_key always into ≡ copying into
+    into-same = fun_ext (λ s. own-loop loop (pushes into n) first_key always into refl s)
+
+    out-same : looped loop first_key always out ≡ copying out
+    out-same = fun_ext (λ s. own-loop loop (pushes out n) first_key always out refl s)
 
     within-same : looped loop key test (undeferred p fresh body) ≡ alone test (undeferred p fresh body)
     within-same = ap (λ (f : ℕ → Bool). looped (record loop { pushed = f }) key test (undeferred p fresh body)) (sym (fun_ext (λ y. undeferred-pushes p fresh n y body)))
 
-    three : SameChange fresh (looped loop key test body) (in_turn (alone always into) (in_turn (alone test (undeferred p fresh body)) (alone always out)))
+    three : SameChange fresh (looped loop key test body) (in_turn (copying into) (in_turn (alone test (undeferred p fresh body)) (copying out)))
     three =
-        subst (λ f. SameChange fresh (looped loop key test body) (in_turn f (in_turn (alone test (undeferred p fresh body)) (alone always out)))) into-same
-        (subst (λ f. SameChange fresh (looped loop key test body) (in_turn (looped loop key always into) (in_turn f (alone always out)))) within-same
-        (subst (λ f. SameChange fresh (looped loop key test body) (in_turn (looped loop key always into) (in_turn (looped loop key test (undeferred p fresh body)) f))) out-same law))
+        subst (λ f. SameChange fresh (looped loop key test body) (in_turn f (in_turn (alone test (undeferred p fresh body)) (copying out)))) into-same
+        (subst (λ f. SameChange fresh (looped loop key test body) (in_turn (looped loop first_key always into) (in_turn f (copying out)))) within-same
+        (subst (λ f. SameChange fresh (looped loop key test body) (in_turn (looped loop first_key always into) (in_turn (looped loop key test (undeferred p fresh body)) f))) out-same law))
 
     pub loop-alike : AlikeCourses fresh (sequential (Foreach key at h test body) run u)
-        (sequential (sequence (copied fresh p key at h ∷ Foreach key at h test (undeferred p fresh body) ∷ copied p fresh key at h ∷ [])) run v)
+        (sequential (sequence (copied fresh p at h ∷ Foreach key at h test (undeferred p fresh body) ∷ copied p fresh at h ∷ [])) run v)
     loop-alike =
         subst (AlikeCourses fresh (sequential (Foreach key at h test body) run u))
-        (turns-do (alone always into) (in_turn (alone test (undeferred p fresh body)) (alone always out))
-        (sequential (sequence (Foreach key at h test (undeferred p fresh body) ∷ copied p fresh key at h ∷ [])) run) v
-        (λ w. turns-do (alone test (undeferred p fresh body)) (alone always out) (sequential (sequence (copied p fresh key at h ∷ [])) run) (record v { store = w })
-        (λ x. last-do run (record v { store = x }) (alone always out x))))
-        (courses-alike fresh u v (looped loop key test body u.store) (in_turn (alone always into) (in_turn (alone test (undeferred p fresh body)) (alone always out)) v.store) (three u.store v.store alike.store) alike.turns)
+        (turns-do (copying into) (in_turn (alone test (undeferred p fresh body)) (copying out))
+        (sequential (sequence (Foreach key at h test (undeferred p fresh body) ∷ copied p fresh at h ∷ [])) run) v
+        (λ w. turns-do (alone test (undeferred p fresh body)) (copying out) (sequential (sequence (copied p fresh at h ∷ [])) run) (record v { store = w })
+        (λ x. last-do run (record v { store = x }) (copying out x))))
+        (courses-alike fresh u v (looped loop key test body u.store) (in_turn (copying into) (in_turn (alone test (undeferred p fresh body)) (copying out)) v.store) (three u.store v.store alike.store) alike.turns)
 
   -- the loops that defer writes to a property are written so
   pub undeferred-alike : Rewrites ds run (undeferred_loop p fresh)
@@ -371,6 +395,6 @@ module _ (ds : List Declaration) (run : Run) (p : ℕ) where
     where
       by : (b : Bool) → defers p body ≡ b →
           AlikeCourses fresh (sequential (Foreach key at h test body) run u)
-          (sequential (cond b (sequence (copied fresh p key at h ∷ Foreach key at h test (undeferred p fresh body) ∷ copied p fresh key at h ∷ [])) (Foreach key at h test body)) run v)
+          (sequential (cond b (sequence (copied fresh p at h ∷ Foreach key at h test (undeferred p fresh body) ∷ copied p fresh at h ∷ [])) (Foreach key at h test body)) run v)
       by true e = loop-alike key at h test body known (defers-listed p body e) u v alike
       by false e = sequential-alike fresh (Foreach key at h test body) run u v (names-below ds (Foreach key at h test body) known.named) alike

@@ -8,3 +8,12 @@ pub mod Undeferred
 pub mod Kept
 pub mod DeferredKept
 pub mod AllDeferred
+pub mod SavedLoops
+pub mod SavedKept
+pub mod SavedConditions
+pub mod LocalLoops
+pub mod Moved
+pub mod MovedSights
+pub mod MovedReduced
+pub mod LocalKept
+pub mod LocalLaws

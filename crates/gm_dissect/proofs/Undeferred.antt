@@ -29,7 +29,7 @@ pub append-true : {A : Type 0} (f : A → Bool) (xs ys : List A) → list_all f 
 append-true f [] ys h i = i
 append-true f (x ∷ xs) ys h i = let b = both-true (f x) (list_all f xs) h in and-true (f x) (list_all f (xs ++ ys)) b.0 (append-true f xs ys b.1 i)
 
-two-same : {A : Type 0} (f : A → A → A) (a b c d : A) → a ≡ c → b ≡ d → f a b ≡ f c d
+pub two-same : {A : Type 0} (f : A → A → A) (a b c d : A) → a ≡ c → b ≡ d → f a b ≡ f c d
 two-same f a b c d p q = ap (λ x. f x b) p ∙ ap (f c) q
 
 -- what is named is below a number

@@ -9,12 +9,13 @@ use Rattle.gm_ast.specs.declared.tree.Target.{Target}
 use Rattle.gm_ast.specs.declared.tree.Target.TheVariants as T
 use Rattle.gm_ast.specs.Program.{Expr, Property, always, Stmt, Then, Assign, Defer, Foreach, If, Program, sequence}
 use Rattle.gm_semantics.specs.Statements.{variable_at}
+use Rattle.gm_forms.specs.Order.{first_key, second_key}
 use Rattle.gm_loop_laws.specs.Deferring.{undeferred}
 use Rattle.gm_dissect.specs.Loops.{each_loop}
 
--- a loop that sets one property to another at every node
-abbrev pub copied : ℕ → ℕ → Key → Place → Head → Stmt
-copied p q k at h = Foreach k at h always (Assign k (T.Property h.iterator p at) (Property h.iterator q at))
+-- a loop that sets one property to another at every node. It cannot fault, so that its keys need only stand in order
+abbrev pub copied : ℕ → ℕ → Place → Head → Stmt
+copied p q at h = Foreach first_key at h always (Assign second_key (T.Property h.iterator p at) (Property h.iterator q at))
 
 -- whether a target is a property
 abbrev pub is_property : ℕ → Target → Bool
@@ -31,7 +32,7 @@ defers p _ = false
 -- a loop that defers writes to a property p: p is copied to q, the loop writes to q at once, and q is copied to p. Any other loop stands as it is
 abbrev pub undeferred_loop : ℕ → ℕ → Key → Place → Head → Expr → Stmt → Stmt
 undeferred_loop p q k at h test body =
-    if defers p body then sequence (copied q p k at h ∷ Foreach k at h test (undeferred p q body) ∷ copied p q k at h ∷ [])
+    if defers p body then sequence (copied q p at h ∷ Foreach k at h test (undeferred p q body) ∷ copied p q at h ∷ [])
     else Foreach k at h test body
 
 -- a property like another, which no text names

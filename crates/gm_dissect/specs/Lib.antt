@@ -1,3 +1,5 @@
 pub mod Loops
 pub mod Deferred
 pub mod AllDeferred
+pub mod Conditions
+pub mod Locals

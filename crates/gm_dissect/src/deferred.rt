@@ -18,7 +18,7 @@ ghost use Rattle.gm_dissect.specs.Deferred.{copied, copy_of, defers, undeferred_
 ghost use Rattle.gm_dissect.specs.Loops.{each_loop};
 
 use gm_ast::forms::Work;
-use gm_ast::tree::{Declaration, Expr, Head, Key, Sort, Stmt, Target, Tree, Variable};
+use gm_ast::tree::{Declaration, Expr, Head, Key, Sort, Stage, Stmt, Target, Tree, Variable};
 use gm_base::{Items, NoMemory, Place};
 use gm_value::{VType, Value};
 use std::alloc::{AllocError, Global};
@@ -98,7 +98,7 @@ fn defers_among(stmts: &Vec<Stmt>, property: u32) -> bool
 
 // Whether a body does.
 #[cycle(deferring)]
-fn defers(body: &Stmt, property: u32) -> bool
+pub(crate) fn defers(body: &Stmt, property: u32) -> bool
     ensures { result ≡ defers property (stmt_of body.now) }
 {
     match body {
@@ -175,12 +175,19 @@ fn copying(
     alloc: Global,
     property: u32,
     other: u32,
-    key: Key,
     place: Place,
     head: Head,
 ) -> Result<Stmt, AllocError>
-    ensures { IfOk result (λ r. stmt_of r ≡ copied property other key place head) }
+    ensures { IfOk result (λ r. stmt_of r ≡ copied property other place head) }
 {
+    let first = Key {
+        statement: 0,
+        stage: Stage::Inner,
+    };
+    let key = Key {
+        statement: 1,
+        stage: Stage::Inner,
+    };
     let target = Target::Property {
         owner: head.iterator,
         property,
@@ -193,7 +200,7 @@ fn copying(
     };
     let body = Box::new(alloc, Stmt::Assign { key, target, value })?;
     Ok(Stmt::Foreach {
-        key,
+        key: first,
         place,
         head,
         filter: Expr::Const(Value::Flag(true)),
@@ -248,10 +255,10 @@ fn undefer_loop(
     if !defers(&body, moved.property) {
         return loop_of(alloc, key, place, head, filter, body);
     }
-    let first = copying(alloc, moved.copy, moved.property, key, place, head)?;
+    let first = copying(alloc, moved.copy, moved.property, place, head)?;
     let changed = undefer_body(alloc, moved, body)?;
     let middle = loop_of(alloc, key, place, head, filter, changed)?;
-    let last = copying(alloc, moved.property, moved.copy, key, place, head)?;
+    let last = copying(alloc, moved.property, moved.copy, place, head)?;
     three(alloc, first, middle, last)
 }
 
