@@ -1,0 +1,34 @@
+pub mod Samples
+pub mod MoreSamples
+mod Rows
+mod MoreRows
+pub mod Terms
+pub mod Bodies
+pub mod Givens
+pub mod Own
+pub mod OwnSteps
+pub mod Orders
+pub mod Spots
+pub mod Settles
+pub mod Kept
+pub mod PutFacts
+pub mod Supersteps
+pub mod OwnLoops
+pub mod Receivers
+pub mod Sends
+pub mod FoldFacts
+pub mod Receiving
+pub mod Regions
+pub mod TwoSupersteps
+pub mod Shapes
+pub mod Ranks
+pub mod Shown
+pub mod Masters
+pub mod Homes
+pub mod FirstUses
+pub mod HomeTurns
+pub mod HomeFacts
+pub mod HomeSteps
+pub mod HomeLoops
+pub mod Registers
+pub mod Takings

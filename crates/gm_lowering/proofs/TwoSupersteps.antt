@@ -1,0 +1,1037 @@
+-- A message loop is two supersteps.
+use Rattle.std.proofs.Common.{◌≡◌, ◌≢◌, ◌<◌, ◌≤◌, inl, inr, ℕ, zero, suc, Bool, true, false, cond, Option, Some, None, Result, Ok, Err, List, [], ◌∷◌, ◌++◌, length, map, refl, ap, ◌∙◌, sym, subst, arith, add-one, append_assoc, ⊎_elim}
+use Rattle.std.specs.Prelude.{◌+◌, ◌&&◌, ◌||◌, nat_lt, nat_eq, not, if◌then◌else◌, filter, slice_index_or}
+use Rattle.std.specs.List.{list_all, flat_map, enumerate_from}
+use Rattle.std.proofs.Math.Path.{fun_ext}
+use Rattle.std.proofs.lemmas.List.{append-nil}
+use Rattle.std.proofs.lemmas.Bool.{both_ways, ne_eqb, eq-eqb, eqb-true, ltb-true, lt-ltb, cases_lt}
+use Rattle.gm_base.specs.declared.places.Place.{Place}
+use Rattle.gm_value.specs.declared.values.Value.{Value}
+use Rattle.gm_value.specs.declared.values.Value.TheVariants.{At}
+use Rattle.gm_value.specs.Bag.{IsIn, SameBag, same_nil, same_cons, same_swap, same_trans}
+use Rattle.gm_value.specs.Numbers.{zero_of}
+use Rattle.gm_value.specs.Operations.{is_true}
+use Rattle.gm_model.specs.Graphs.{NumberedGraph, Step, node_count}
+use Rattle.gm_ast.specs.declared.tree.Direction.TheVariants.{Out, In}
+use Rattle.gm_ast.specs.declared.tree.Domain.TheVariants.{OutNbrs, InNbrs}
+use Rattle.gm_ast.specs.declared.tree.Head.{Head}
+use Rattle.gm_ast.specs.declared.tree.Key.{Key}
+use Rattle.gm_ast.specs.declared.tree.Sort.TheVariants as Sorts
+use Rattle.gm_ast.specs.Keys as K
+use Rattle.gm_ast.specs.Names.{is}
+use Rattle.gm_ast.specs.Program as P
+use Rattle.gm_ast.specs.Program.{Expr, Stmt}
+use Rattle.gm_ast.specs.Ways.{is_in}
+use Rattle.gm_forms.proofs.Named.{both-true}
+use Rattle.gm_semantics.specs.declared.faults.Fault.{Fault}
+use Rattle.gm_semantics.specs.declared.slots.Slot.{Slot}
+use Rattle.gm_semantics.specs.declared.slots.Slot.TheVariants as slots
+use Rattle.gm_semantics.specs.Contributions as S
+use Rattle.gm_semantics.specs.Contributions.{Contribution, settled_store, total_faults}
+use Rattle.gm_semantics.specs.Faults.{least, somes, joined, unless_fault}
+use Rattle.gm_semantics.specs.Faults as F
+use Rattle.gm_semantics.specs.Loops.{iteration, left_at, own_left, parallel}
+use Rattle.gm_semantics.proofs.ContributionLaws.{IsIn-filter, IsIn-same, slots_eq-true, settled_store-same, total_faults-same}
+use Rattle.gm_semantics.proofs.Leasts.{lesser_of, least-append}
+use Rattle.gm_semantics.proofs.OrderLaws.{joined-same}
+use Rattle.gm_semantics.proofs.TargetLaws.{value-away}
+use Rattle.gm_semantics.specs.Expressions.{value, steps_in, steps_of}
+use Rattle.gm_semantics.specs.Iterations.{Loop, Outermost, AtEdge, Iteration, begun, view_in, with_ok, one_way, as_it_is, inner_done, does}
+use Rattle.gm_semantics.specs.Levels.{node_in, numbers_from, nodes}
+use Rattle.gm_semantics.specs.Statements.{variable_at}
+use Rattle.gm_semantics.specs.Stores.{Store, has_slot, read, write, overlaid}
+use Rattle.gm_semantics.specs.Laws.{OneReduction}
+use Rattle.gm_image.specs.Parts.{is_among}
+use Rattle.gm_image.specs.Program as image
+use Rattle.gm_machine.specs.declared.faults.Fault as M
+use Rattle.gm_machine.specs.Expressions.{value as term_value, value_at}
+use Rattle.gm_machine.specs.Faults.{lesser, least_fault}
+use Rattle.gm_machine.specs.Machine.{Nodes, Stepped, context_at, block_at, inbox, all_steps, stepped, superstep}
+use Rattle.gm_machine.specs.Taking.{settled}
+use Rattle.gm_machine.specs.Vertex.{Message, After, view, steps, leaves, begun as begin, vertex_after}
+use Rattle.gm_machine.proofs.LeastLaws.{least_right, least_from-right}
+use Rattle.gm_machine.proofs.SlotSteps.{settled-nothing}
+use Rattle.gm_lowering.specs.Layouts.{Layout, is_global, is_register}
+use Rattle.gm_lowering.specs.Places.{Spot, Segment, segment, ascending, spots_in}
+use Rattle.gm_lowering.specs.Terms.{Env, own_env, term}
+use Rattle.gm_lowering.specs.Plans.{Load, SenderItself, SenderProperty, SenderDegree, EdgeValue, same_load}
+use Rattle.gm_lowering.specs.Blocks.{load_index, direction_of, receiver_env, own_site}
+use Rattle.gm_lowering.specs.Showing.{fault_of, answer_of}
+use Rattle.gm_lowering.specs.OwnLoops.{own_finds, own_sets, puts_to_scalars, IsOwnLoop, NodeShows}
+use Rattle.gm_lowering.specs.MessageLoops.{has_load, load_value, IsMessageLoop, is_to_scalars, is_to_nodes}
+use Rattle.gm_lowering.specs.Sends.{send_block, load_at, message_along}
+use Rattle.gm_lowering.specs.Receiving.{receive_block, turn_of, given_by, faults_by, IsMessageOf, Receives, inner_spots}
+use Rattle.gm_lowering.specs.Phases.{GlobalsApart, NodesInGraph, Shown, Leaves, StepIs, GivesApart, given_in}
+use Rattle.gm_lowering.specs.Settles.{HasSpot, fault_or_none, is_some_list, AreHeld, AreGiven, SettlesAlike}
+use Rattle.gm_lowering.specs.Sites.{are_of_scalars, slot_at, given, phase_value, OwnGave}
+use Rattle.gm_lowering.specs.TwoSupersteps.{is_readable, EdgesShown, StepsWithin, HasSender, MessageLoopsAreTwoSupersteps}
+use Rattle.gm_lowering.proofs.Bodies.{value-of}
+use Rattle.gm_lowering.proofs.Own.{Shows, own-holds, node-in, global-no_graph, global-no_register}
+use Rattle.gm_lowering.proofs.OwnSteps.{begins}
+use Rattle.gm_lowering.proofs.FoldFacts.{here_at, IsReceived}
+use Rattle.gm_lowering.proofs.Orders.{named, lesser-lower}
+use Rattle.gm_lowering.proofs.Supersteps.{not-here, least-two}
+use Rattle.gm_lowering.proofs.PutFacts.{here}
+use Rattle.gm_lowering.proofs.Receiving.{gave-of, received, spots-at, receiving-steps}
+use Rattle.gm_lowering.proofs.Regions.{value-filtered, fault-filtered, least-members, in-front, in-back, in-parts, part_of, parts_from, by-parts}
+use Rattle.gm_lowering.proofs.Sends.{send-blocks-send}
+use Rattle.gm_lowering.proofs.Settles.{somes-in, in-somes, filter-in, filter-map, total-spot, reductions-settle}
+use Rattle.gm_lowering.proofs.Spots.{HoldNodes, Within, spot-right, reads, value-within}
+
+-- loads that are one
+same-load : (x y : Load) → same_load x y ≡ true → x ≡ y
+same-load SenderItself SenderItself h = refl
+same-load SenderItself (SenderProperty q) h = absurd (both_ways false refl h)
+same-load SenderItself (SenderDegree d) h = absurd (both_ways false refl h)
+same-load SenderItself (EdgeValue q) h = absurd (both_ways false refl h)
+same-load (SenderProperty p) SenderItself h = absurd (both_ways false refl h)
+same-load (SenderProperty p) (SenderProperty q) h = ap SenderProperty (eqb-true p q h)
+same-load (SenderProperty p) (SenderDegree d) h = absurd (both_ways false refl h)
+same-load (SenderProperty p) (EdgeValue q) h = absurd (both_ways false refl h)
+same-load (SenderDegree d) SenderItself h = absurd (both_ways false refl h)
+same-load (SenderDegree d) (SenderProperty q) h = absurd (both_ways false refl h)
+same-load (SenderDegree Out) (SenderDegree Out) h = refl
+same-load (SenderDegree Out) (SenderDegree In) h = absurd (both_ways false refl h)
+same-load (SenderDegree In) (SenderDegree Out) h = absurd (both_ways false refl h)
+same-load (SenderDegree In) (SenderDegree In) h = refl
+same-load (SenderDegree d) (EdgeValue q) h = absurd (both_ways false refl h)
+same-load (EdgeValue p) SenderItself h = absurd (both_ways false refl h)
+same-load (EdgeValue p) (SenderProperty q) h = absurd (both_ways false refl h)
+same-load (EdgeValue p) (SenderDegree d) h = absurd (both_ways false refl h)
+same-load (EdgeValue p) (EdgeValue q) h = ap EdgeValue (eqb-true p q h)
+
+-- a value of a message is found at its load's index
+found-load : (f : Load → Value) (loads : List Load) (x : Load) → has_load loads x ≡ true → value_at (map f loads) (load_index x loads) ≡ f x
+found-load f [] x h = absurd (both_ways false refl h)
+found-load f (y ∷ ys) x h = by (same_load x y) refl h (λ k. found-load f ys x k) where
+  by : (b : Bool) → same_load x y ≡ b → b || has_load ys x ≡ true → (has_load ys x ≡ true → value_at (map f ys) (load_index x ys) ≡ f x) → value_at (map f (y ∷ ys)) (if b then 0 else suc (load_index x ys)) ≡ f x
+  by true e k go = ap f (sym (same-load x y e))
+  by false e k go = go k
+
+readable-one : (c : Layout) (loads : List Load) (x : Load) → list_all (is_readable c) loads ≡ true → has_load loads x ≡ true → is_readable c x ≡ true
+readable-one c [] x o h = absurd (both_ways false refl h)
+readable-one c (y ∷ ys) x o h =
+    let q = both-true (is_readable c y) (list_all (is_readable c) ys) o in
+    by (same_load x y) refl h q.0 (λ k. readable-one c ys x q.1 k) where
+      by : (b : Bool) → same_load x y ≡ b → b || has_load ys x ≡ true → is_readable c y ≡ true → (has_load ys x ≡ true → is_readable c x ≡ true) → is_readable c x ≡ true
+      by true e k o go = ap (is_readable c) (same-load x y e) ∙ o
+      by false e k o go = go k
+
+map-map : {A B C : Type 0} (h : A → B) (f : B → C) (xs : List A) → map f (map h xs) ≡ map (λ x. f (h x)) xs
+map-map h f [] = refl
+map-map h f (x ∷ xs) = ap (λ l. f (h x) ∷ l) (map-map h f xs)
+
+map-both : {A B : Type 0} (f : A → B) (xs ys : List A) → map f (xs ++ ys) ≡ map f xs ++ map f ys
+map-both f [] ys = refl
+map-both f (x ∷ xs) ys = ap (λ l. f x ∷ l) (map-both f xs ys)
+
+-- whether an answer is True
+abbrev truth : Result Value Fault → Bool
+truth (Ok z) = is_true z
+truth (Err f) = false
+
+module _ (c : Layout) (p : image.Program) (fields base q q2 kind : ℕ) (all : List Spot) (loop : Loop) (mask_key : Key) (mask : Expr) (key : Key) (place : Place) (h : Head) (test : Expr) (body : Stmt) (loads : List Load)
+    (globals : List Value) (s : Nodes) (r : Store)
+    (sender : HasSender c loop mask_key mask h loads)
+    (able : IsMessageLoop c p.registers fields loop h.iterator loads test body)
+    (gs : GlobalsApart c (length globals))
+    (all_is : all ≡ spots_in mask mask_key ++ inner_spots c loop.outer h.iterator key test body)
+    (fit : base + length (ascending all) ≤ length p.places)
+    (block : block_at p q ≡ send_block c (segment base all) loop.outer mask_key mask h.domain kind loads)
+    (block2 : block_at p q2 ≡ receive_block c (segment base all) loop.outer h.iterator loads kind key test body)
+    (shown : Shown c p.registers fields loop.graph globals s r)
+    (edges : EdgesShown c loop.graph r)
+    (in_graph : NodesInGraph c loop.graph r)
+    (within : StepsWithin loop.graph h.domain)
+    (apart : GivesApart (given_in loop mask_key mask (P.Foreach key place h test body) r)) where
+  abbrev n : ℕ
+  n = loop.outer
+
+  abbrev i : ℕ
+  i = h.iterator
+
+  abbrev g : NumberedGraph
+  g = loop.graph
+
+  abbrev seg : Segment
+  seg = segment base all
+
+  abbrev v : Env
+  v = receiver_env c seg n i loads
+
+  abbrev fields_at : ℕ → List Value
+  fields_at k = slice_index_or s.fields k []
+
+  abbrev from : ℕ → Store
+  from k = write r (slots.Scalar n) (At (Some k))
+
+  abbrev start : ℕ → Iteration
+  start k = begun (from k)
+
+  abbrev mask_value : ℕ → Result Value Fault
+  mask_value k = value mask (view_in loop Outermost (start k) mask_key)
+
+  abbrev masked : ℕ → Bool
+  masked k = truth (mask_value k)
+
+  abbrev along : ℕ → List Step
+  along k = steps (direction_of h.domain) g k
+
+  -- the turns of a node, and of all nodes from one on
+  abbrev turns_of : ℕ → List (ℕ × Step)
+  turns_of k = if masked k then map (λ e. (k, e)) (along k) else []
+
+  abbrev turns_from : ℕ → ℕ → List (ℕ × Step)
+  turns_from a m = flat_map turns_of (numbers_from a m)
+
+  abbrev all_turns : List (ℕ × Step)
+  all_turns = turns_from 0 (node_count g)
+
+  abbrev msg : ℕ × Step → Message
+  msg x = message_along c g kind loads x.0 (fields_at x.0) x.1
+
+  node-shows : (k : ℕ) → k < node_count g → NodeShows c g p.registers fields globals (fields_at k) k r
+  node-shows k lt = record {
+    phase = record { scalar = shown.scalars; in_graph = in_graph };
+    locals = shown.locals;
+    properties = shown.properties k lt;
+    field_count = shown.widths k lt;
+    inside = lt;
+  }
+
+  one-in : (x : ℕ) → is_in (n ∷ []) x ≡ true → x ≡ n
+  one-in x o = eqb-true x n (or-none (nat_eq x n) o) where
+    or-none : (b : Bool) → b || false ≡ true → b ≡ true
+    or-none true e = refl
+    or-none false e = e
+
+  starts : (k : ℕ) → k < node_count g → HoldNodes g (n ∷ []) (λ x. k) (start k)
+  starts k lt x o = (ap (λ b. if b then At (Some k) else r.scalar x) (eq-eqb n x (sym (one-in x o))), lt)
+
+  -- a mask has a value
+  mask-is : (k : ℕ) → k < node_count g → (z : Value) × (mask_value k ≡ Ok z)
+  mask-is k lt = by (mask_value k) refl (subst (Within (mask_value k)) sender.quiet (value-within (view_in loop Outermost (start k) mask_key) mask refl (reads c (n ∷ []) false loop Outermost (λ x. k) (start k) mask_key mask sender.found (starts k lt)))) where
+    by : (a : Result Value Fault) → mask_value k ≡ a → Within a [] → (z : Value) × (mask_value k ≡ Ok z)
+    by (Ok z) e w = (z, e)
+    by (Err f) e w = absurd w
+
+  -- the outer loop as one of its mask alone
+  only-mask : IsOwnLoop c p.registers fields loop mask P.Skip
+  only-mask = record { apart = able.apart; iterator = able.outer; types = able.types; depths = able.depths; found = sender.found; fits = refl }
+
+  mask-term : (k : ℕ) → k < node_count g → (z : Value) → mask_value k ≡ Ok z → term_value (view (context_at g globals k) (begin p.registers (fields_at k))) (term (own_env c seg n) mask_key mask) ≡ Ok z
+  mask-term k lt z e =
+      value-of (own_site c seg n) loop Outermost (context_at g globals k) _ (Shows c seg loop n k (length p.registers) fields (length p.places) (context_at g globals k) able.apart able.outer able.types able.depths)
+      (OwnGave c (own_env c seg n)) (own_finds c n) (own_sets c n) (puts_to_scalars c (own_finds c n))
+      (own-holds c seg loop n k (length p.registers) fields (length p.places) (context_at g globals k) able.apart able.outer able.types able.depths)
+      (start k) (begin p.registers (fields_at k)) mask_key mask sender.found
+      (begins c seg p fields loop 0 mask_key mask P.Skip globals (fields_at k) k r only-mask (node-shows k lt))
+      ∙ ap (answer_of (own_env c seg n)) e
+
+  -- the first step of a vertex
+  abbrev one_step : ℕ × List Value → After
+  one_step x = vertex_after p (send_block c seg n mask_key mask h.domain kind loads) (context_at g globals x.0) [] x.1
+
+  abbrev sends : ℕ → After
+  sends k = leaves (record (begin p.registers (fields_at k)) { messages = map msg (turns_of k) })
+
+  step-sends : (k : ℕ) → k < node_count g → one_step (k, fields_at k) ≡ sends k
+  step-sends k lt =
+      let z = mask-is k lt in
+      send-blocks-send c seg p g n kind mask_key mask h.domain loads globals (fields_at k) k z.0 (mask-term k lt z.0 z.1)
+      ∙ ap (λ ms. leaves (record (begin p.registers (fields_at k)) { messages = ms })) (by (is_true z.0) ∙ ap (λ a. map msg (if truth a then map (λ e. (k, e)) (along k) else [])) (sym z.1)) where
+        by : (b : Bool) → (if b then map (message_along c g kind loads k (fields_at k)) (along k) else []) ≡ map msg (if b then map (λ e. (k, e)) (along k) else [])
+        by true = sym (map-map (λ e. (k, e)) msg (along k))
+        by false = refl
+
+  -- all first steps
+  abbrev AllSend : ℕ → List (List Value) → Type 0
+  AllSend a [] = Unit {0}
+  AllSend a (fs ∷ fss) = (one_step (a, fs) ≡ sends a) × (fields_at a ≡ fs) × AllSend (suc a) fss
+
+  all-send : (a : ℕ) (fss : List (List Value)) → a + length fss ≤ node_count g → ((j : ℕ) → slice_index_or s.fields (a + j) [] ≡ slice_index_or fss j []) → AllSend a fss
+  all-send a [] le e = tt
+  all-send a (fs ∷ fss) le e =
+      let same : fields_at a ≡ fs = ap fields_at (let z : a ≡ a + 0 = omega arith in z) ∙ e 0 in (
+        ap (λ x. one_step (a, x)) (sym same) ∙ step-sends a (omega arith),
+        same,
+        all-send (suc a) fss (omega arith) (λ j. ap (λ z. slice_index_or s.fields z []) (let z : suc a + j ≡ a + suc j = omega arith in z) ∙ e (suc j)),
+      )
+
+  abbrev steps_of_all : ℕ → List (List Value) → List After
+  steps_of_all a fss = map one_step (enumerate_from a fss)
+
+  next-steps : (a : ℕ) (fss : List (List Value)) → steps_of_all (a + 1) fss ≡ steps_of_all (suc a) fss
+  next-steps a fss = ap (λ j. steps_of_all j fss) (add-one a)
+
+  messages-all : (a : ℕ) (fss : List (List Value)) → AllSend a fss → flat_map (λ x. x.state.messages) (steps_of_all a fss) ≡ map msg (turns_from a (length fss))
+  messages-all a [] e = refl
+  messages-all a (fs ∷ fss) e =
+      ap (λ l. (one_step (a, fs)).state.messages ++ flat_map (λ x. x.state.messages) l) (next-steps a fss)
+      ∙ ap (λ x. x.state.messages ++ flat_map (λ x. x.state.messages) (steps_of_all (suc a) fss)) e.0
+      ∙ ap (λ l. map msg (turns_of a) ++ l) (messages-all (suc a) fss e.2)
+      ∙ sym (map-both msg (turns_of a) (turns_from (suc a) (length fss)))
+
+  fields-all : (a : ℕ) (fss : List (List Value)) → AllSend a fss → map (λ x. x.state.fields) (steps_of_all a fss) ≡ fss
+  fields-all a [] e = refl
+  fields-all a (fs ∷ fss) e =
+      ap (λ l. (one_step (a, fs)).state.fields ∷ map (λ x. x.state.fields) l) (next-steps a fss)
+      ∙ ap (λ x. x.state.fields ∷ map (λ x. x.state.fields) (steps_of_all (suc a) fss)) e.0
+      ∙ ap (λ l. fields_at a ∷ l) (fields-all (suc a) fss e.2) ∙ ap (λ l. l ∷ fss) e.1
+
+  puts-all : (a : ℕ) (fss : List (List Value)) → AllSend a fss → flat_map (λ x. x.state.puts) (steps_of_all a fss) ≡ []
+  puts-all a [] e = refl
+  puts-all a (fs ∷ fss) e =
+      ap (λ l. (one_step (a, fs)).state.puts ++ flat_map (λ x. x.state.puts) l) (next-steps a fss)
+      ∙ ap (λ x. x.state.puts ++ flat_map (λ x. x.state.puts) (steps_of_all (suc a) fss)) e.0
+      ∙ puts-all (suc a) fss e.2
+
+  faults-all : (a : ℕ) (fss : List (List Value)) → AllSend a fss → least_right (map (λ x. x.fault) (steps_of_all a fss)) ≡ None
+  faults-all a [] e = refl
+  faults-all a (fs ∷ fss) e =
+      ap (λ l. lesser (one_step (a, fs)).fault (least_right (map (λ x. x.fault) l))) (next-steps a fss)
+      ∙ ap (λ x. lesser x.fault (least_right (map (λ x. x.fault) (steps_of_all (suc a) fss)))) e.0
+      ∙ faults-all (suc a) fss e.2
+
+  -- the first superstep
+  abbrev first : Stepped
+  first = superstep p g q globals s
+
+  every : AllSend 0 s.fields
+  every = all-send 0 s.fields (subst (λ m. 0 + m ≤ node_count g) (sym shown.all_nodes) (omega arith)) (λ j. ap fields_at (let z : 0 + j ≡ j = omega arith in z))
+
+  first-is : first ≡ stepped (length p.places) globals s (steps_of_all 0 s.fields)
+  first-is =
+      ap (λ b. stepped (length p.places) globals s (all_steps p g b globals s.sent s.fields)) block
+      ∙ ap (λ m. stepped (length p.places) globals s (all_steps p g (send_block c seg n mask_key mask h.domain kind loads) globals m s.fields)) shown.idle
+
+  puts-none : settled (length p.places) (flat_map (λ x. x.state.puts) (steps_of_all 0 s.fields)) globals ≡ record { values = globals; fault = None }
+  puts-none = ap (λ ps. settled (length p.places) ps globals) (puts-all 0 s.fields every) ∙ settled-nothing (length p.places) globals
+
+  first-fault : first.fault ≡ None
+  first-fault =
+      ap (λ t. t.fault) first-is
+      ∙ ap (λ t. lesser (least_fault (map (λ x. x.fault) (steps_of_all 0 s.fields))) t.fault) puts-none
+      ∙ ap (λ o. lesser o None) (least_from-right None (map (λ x. x.fault) (steps_of_all 0 s.fields)) ∙ ap (lesser None) (faults-all 0 s.fields every))
+
+  first-globals : first.globals ≡ globals
+  first-globals = ap (λ t. t.globals) first-is ∙ ap (λ t. t.values) puts-none
+
+  first-fields : first.nodes.fields ≡ s.fields
+  first-fields = ap (λ t. t.nodes.fields) first-is ∙ fields-all 0 s.fields every
+
+  first-sent : first.nodes.sent ≡ map msg all_turns
+  first-sent = ap (λ t. t.nodes.sent) first-is ∙ messages-all 0 s.fields every ∙ ap (λ m. map msg (turns_from 0 m)) shown.all_nodes
+
+  -- turns are from nodes, along their edges
+  in-map : {A B : Type 0} (f : A → B) (xs : List A) (y : B) → IsIn y (map f xs) → (x : A) × IsIn x xs × (y ≡ f x)
+  in-map f [] y o = absurd o
+  in-map f (x ∷ xs) y o = ⊎_elim (λ (e : y ≡ f x). (x, inl refl, e)) (λ (w : IsIn y (map f xs)). let t = in-map f xs y w in (t.0, inr t.1, t.2)) o
+
+  in-turns-of : (k : ℕ) (x : ℕ × Step) → IsIn x (turns_of k) → (x.0 ≡ k) × IsIn x.1 (along k)
+  in-turns-of k x o = by (masked k) o where
+    by : (b : Bool) → IsIn x (if b then map (λ e. (k, e)) (along k) else []) → (x.0 ≡ k) × IsIn x.1 (along k)
+    by true o = let t = in-map (λ e. (k, e)) (along k) x o in (ap (λ y. y.0) t.2, subst (λ e. IsIn e (along k)) (sym (ap (λ y. y.1) t.2)) t.1)
+    by false o = absurd o
+
+  in-turns : (a m : ℕ) (x : ℕ × Step) → a + m ≤ node_count g → IsIn x (turns_from a m) → (x.0 < node_count g) × IsIn x.1 (along x.0)
+  in-turns a zero x le o = absurd o
+  in-turns a (suc m) x le o =
+      ⊎_elim
+      (λ (w : IsIn x (turns_of a)).
+      let t = in-turns-of a x w in
+      let lt : a < node_count g = omega arith in
+      (subst (λ z. z < node_count g) (sym t.0) lt, subst (λ z. IsIn x.1 (along z)) (sym t.0) t.1))
+      (λ (w : IsIn x (turns_from (suc a) m)). in-turns (suc a) m x (omega arith) w)
+      (in-parts x (turns_of a) (turns_from (suc a) m) o)
+
+  turn-inside : (x : ℕ × Step) → IsIn x all_turns → (x.0 < node_count g) × (x.1.node < node_count g)
+  turn-inside x o = let t = in-turns 0 (node_count g) x (omega arith) o in (t.0, within x.0 x.1 t.1)
+
+  -- what a message carries
+  load-is : (k : ℕ) → k < node_count g → (e : Step) (x : Load) → is_readable c x ≡ true → load_at c g k (fields_at k) e x ≡ load_value (view_in loop (AtEdge e.edge) (start k) key) k x
+  load-is k lt e SenderItself o = refl
+  load-is k lt e (SenderProperty y) o = shown.properties k lt y o
+  load-is k lt e (SenderDegree Out) o = refl
+  load-is k lt e (SenderDegree In) o = refl
+  load-is k lt e (EdgeValue y) o =
+      let t = both-true (nat_lt y (length c.declarations)) (is Sorts.EdgeProperty (variable_at c.declarations y)) o in
+      edges y e.edge (ltb-true y (length c.declarations) t.0) t.1
+
+  abbrev node_of : ℕ × Step → ℕ
+  node_of x = x.1.node
+
+  message-of : (j : ℕ) (x : ℕ × Step) → IsIn x all_turns → x.1.node ≡ j → IsMessageOf loop loads kind key r j x (msg x)
+  message-of j x o e = record {
+    arrives = e;
+    of_kind = refl;
+    from_inside = (turn-inside x o).0;
+    carries = λ y has. found-load (load_at c g x.0 (fields_at x.0) x.1) loads y has ∙ load-is x.0 (turn-inside x o).0 x.1 y (readable-one c loads y sender.readable has);
+  }
+
+  abbrev turn : ℕ × Step → Iteration
+  turn = turn_of loop i key test body r
+
+  incl : (f : K.Fault) → HasSpot f (inner_spots c n i key test body) → HasSpot f all
+  incl f o = subst (HasSpot f) (sym all_is) (spot-right f (spots_in mask mask_key) (inner_spots c n i key test body) o)
+
+  turn-gave : (x : ℕ × Step) → IsIn x all_turns → ((turn x).with_inner ≡ []) × ((turn x).deferred ≡ [])
+  turn-gave x o =
+      let t = turn-inside x o in
+      let q = gave-of c p fields base all loop i loads kind key test body globals (fields_at x.1.node) x.1.node r msg able incl fit (node-shows x.1.node t.1) x (message-of x.1.node x o refl) in
+      (q.inner, q.deferred)
+
+  -- the outer iteration
+  abbrev inner : Stmt
+  inner = P.Foreach key place h test body
+
+  abbrev it : ℕ → Iteration
+  it k = iteration loop mask_key mask inner r k
+
+  steps-are : (k : ℕ) → k < node_count g → steps_in (view_in loop Outermost (start k) key) h ≡ along k
+  steps-are k lt =
+      ap (λ y. steps_of (view_in loop Outermost (start k) key) h.domain (node_in g ((from k).scalar y))) sender.owner
+      ∙ ap (λ a. steps_of (view_in loop Outermost (start k) key) h.domain (node_in g a)) (ap (λ b. if b then At (Some k) else r.scalar n) (eq-eqb n n refl))
+      ∙ ap (steps_of (view_in loop Outermost (start k) key) h.domain) (node-in g k lt)
+      ∙ ⊎_elim
+      (λ (e : h.domain ≡ OutNbrs). ap (λ d. steps_of (view_in loop Outermost (start k) key) d (Some k)) e ∙ sym (ap (λ d. steps (direction_of d) g k) e))
+      (λ (e : h.domain ≡ InNbrs). ap (λ d. steps_of (view_in loop Outermost (start k) key) d (Some k)) e ∙ sym (ap (λ d. steps (direction_of d) g k) e))
+      sender.neighbours
+
+  -- what an iteration is
+  pub record IterationIs (k : ℕ) (a : Iteration) : Type 0 where
+    given : a.with_outermost ≡ given_by turn (turns_of k)
+    fault : a.fault ≡ least (faults_by turn (turns_of k))
+    node : (y m : ℕ) → a.store.node y m ≡ r.node y m
+    deferred : a.deferred ≡ []
+
+  inner-none : (xs : List (ℕ × Step)) → ((x : ℕ × Step) → IsIn x xs → IsIn x all_turns) → joined (map (λ x. (turn x).with_inner) xs) ≡ []
+  inner-none [] o = refl
+  inner-none (x ∷ xs) o = ap (λ l. l ++ joined (map (λ x. (turn x).with_inner) xs)) (turn-gave x (o x (inl refl))).0 ∙ inner-none xs (λ y w. o y (inr w))
+
+  done-is : (k : ℕ) (es : List Step) → ((x : ℕ × Step) → IsIn x (map (λ e. (k, e)) es) → IsIn x all_turns) → masked k ≡ true → es ≡ along k
+      → IterationIs k (inner_done (start k) (map (λ e. turn (k, e)) es))
+  done-is k es o mk same =
+      let turns = map (λ e. turn (k, e)) es in
+      let pairs = map (λ e. (k, e)) es in
+      let none : joined (map (λ t. t.with_inner) turns) ≡ [] =
+      ap joined (map-map (λ e. turn (k, e)) (λ t. t.with_inner) es ∙ sym (map-map (λ e. (k, e)) (λ x. (turn x).with_inner) es)) ∙ inner-none pairs o in
+      let pairs_are : pairs ≡ turns_of k = ap (map (λ e. (k, e))) same ∙ sym (ap (λ b. if b then map (λ e. (k, e)) (along k) else []) mk) in
+      record {
+        given = ap joined (map-map (λ e. turn (k, e)) (λ t. t.with_outermost) es ∙ sym (map-map (λ e. (k, e)) (λ x. (turn x).with_outermost) es)) ∙ ap (given_by turn) pairs_are;
+        fault =
+            ap (λ l. least (somes (map (λ t. t.fault) turns) ++ total_faults (from k) l)) none
+            ∙ ap least (append-nil (somes (map (λ t. t.fault) turns)))
+            ∙ ap (λ l. least (somes l)) (map-map (λ e. turn (k, e)) (λ t. t.fault) es ∙ sym (map-map (λ e. (k, e)) (λ x. (turn x).fault) es))
+            ∙ ap (λ xs. least (faults_by turn xs)) pairs_are;
+        node = λ y m. ap (λ l. S.value_after (from k) l (slots.Node y m)) none ∙ value-away (from k) (slots.Node y m) [] (λ x w. absurd w);
+        deferred = refl;
+      }
+
+  in-all : (k : ℕ) (x : ℕ × Step) → k < node_count g → IsIn x (turns_of k) → IsIn x all_turns
+  in-all k x lt o = go 0 (node_count g) (omega arith) (omega arith) where
+    go : (a m : ℕ) → a ≤ k → k < a + m → IsIn x (turns_from a m)
+    go a zero le l = absurd (omega arith)
+    go a (suc m) le l =
+        ⊎_elim
+        (λ (less : a < k). in-back x (turns_of a) (turns_from (suc a) m) (go (suc a) m (omega arith) (omega arith)))
+        (λ (more : k ≤ a). let same : k ≡ a = omega arith in in-front x (turns_of a) (turns_from (suc a) m) (subst (λ z. IsIn x (turns_of z)) same o))
+        (cases_lt a k)
+
+  iteration-is : (k : ℕ) → k < node_count g → IterationIs k (it k)
+  iteration-is k lt = by (mask-is k lt) where
+    by : (z : Value) × (mask_value k ≡ Ok z) → IterationIs k (it k)
+    by z =
+        subst (λ a. IterationIs k (with_ok (start k) a (λ y. one_way (is_true y) (does inner Outermost loop) as_it_is (start k)))) (sym z.1)
+        (way (is_true z.0) (ap truth z.1)) where
+          way : (b : Bool) → masked k ≡ b → IterationIs k (one_way b (does inner Outermost loop) as_it_is (start k))
+          way true e =
+              subst (λ es. IterationIs k (inner_done (start k) (map (λ e. turn (k, e)) es))) (sym (steps-are k lt))
+              (done-is k (along k) (λ x o. in-all k x lt (subst (IsIn x) (sym (ap (λ b. if b then map (λ e. (k, e)) (along k) else []) e)) o)) e refl)
+          way false e = record {
+            given = sym (ap (λ b. given_by turn (if b then map (λ e. (k, e)) (along k) else [])) e);
+            fault = sym (ap (λ b. least (faults_by turn (if b then map (λ e. (k, e)) (along k) else []))) e);
+            node = λ y m. refl;
+            deferred = refl;
+          }
+
+  -- all iterations
+  joined-both : {A : Type 0} (xs ys : List (ℕ × Step)) (f : ℕ × Step → List A) → joined (map f (xs ++ ys)) ≡ joined (map f xs) ++ joined (map f ys)
+  joined-both [] ys f = refl
+  joined-both (x ∷ xs) ys f = ap (λ l. f x ++ l) (joined-both xs ys f) ∙ sym (append_assoc (f x) (joined (map f xs)) (joined (map f ys)))
+
+  given-from : (a m : ℕ) → a + m ≤ node_count g → joined (map (λ x. x.with_outermost) (map it (numbers_from a m))) ≡ given_by turn (turns_from a m)
+  given-from a zero le = refl
+  given-from a (suc m) le =
+      ap (λ l. l ++ joined (map (λ x. x.with_outermost) (map it (numbers_from (suc a) m)))) (iteration-is a (omega arith)).given
+      ∙ ap (λ l. given_by turn (turns_of a) ++ l) (given-from (suc a) m (omega arith))
+      ∙ sym (joined-both (turns_of a) (turns_from (suc a) m) (λ x. (turn x).with_outermost))
+
+  deferred-from : (a m : ℕ) → a + m ≤ node_count g → joined (map (λ x. x.deferred) (map it (numbers_from a m))) ≡ []
+  deferred-from a zero le = refl
+  deferred-from a (suc m) le =
+      ap (λ l. l ++ joined (map (λ x. x.deferred) (map it (numbers_from (suc a) m)))) (iteration-is a (omega arith)).deferred ∙ deferred-from (suc a) m (omega arith)
+
+  somes-both : (xs ys : List (Option Fault)) → somes (xs ++ ys) ≡ somes xs ++ somes ys
+  somes-both [] ys = refl
+  somes-both (None ∷ xs) ys = somes-both xs ys
+  somes-both (Some f ∷ xs) ys = ap (λ l. f ∷ l) (somes-both xs ys)
+
+  faults-both : (xs ys : List (ℕ × Step)) → faults_by turn (xs ++ ys) ≡ faults_by turn xs ++ faults_by turn ys
+  faults-both xs ys = ap somes (map-both (λ x. (turn x).fault) xs ys) ∙ somes-both (map (λ x. (turn x).fault) xs) (map (λ x. (turn x).fault) ys)
+
+  faults-from : (a m : ℕ) → a + m ≤ node_count g → least (somes (map (λ x. x.fault) (map it (numbers_from a m)))) ≡ least (faults_by turn (turns_from a m))
+  faults-from a zero le = refl
+  faults-from a (suc m) le =
+      ap (λ o. least (somes (o ∷ map (λ x. x.fault) (map it (numbers_from (suc a) m))))) (iteration-is a (omega arith)).fault
+      ∙ one (least (faults_by turn (turns_of a))) (map (λ x. x.fault) (map it (numbers_from (suc a) m)))
+      ∙ ap (lesser_of (least (faults_by turn (turns_of a)))) (faults-from (suc a) m (omega arith))
+      ∙ sym (least-append (faults_by turn (turns_of a)) (faults_by turn (turns_from (suc a) m)))
+      ∙ ap least (sym (faults-both (turns_of a) (turns_from (suc a) m))) where
+        one : (o : Option Fault) (os : List (Option Fault)) → least (somes (o ∷ os)) ≡ lesser_of o (least (somes os))
+        one None os = refl
+        one (Some f) os = refl
+
+  -- the store between the own writes and the contributions is the first one
+  left-same : (a m y k : ℕ) → a + m ≤ node_count g → left_at (numbers_from a m) (map it (numbers_from a m)) r y k ≡ r.node y k
+  left-same a zero y k le = refl
+  left-same a (suc m) y k le = by (nat_eq a k) ((iteration-is a (omega arith)).node y k) (left-same (suc a) m y k (omega arith)) where
+    by : (b : Bool) {x z : Value} → x ≡ r.node y k → z ≡ r.node y k → (if b then x else z) ≡ r.node y k
+    by true e f = e
+    by false e f = f
+
+  abbrev its : List Iteration
+  its = map it (nodes g)
+
+  own-is : own_left r (nodes g) its ≡ r
+  own-is = ap (λ f. record r { node = f }) (fun_ext (λ y. fun_ext (λ k. left-same 0 (node_count g) y k (omega arith))))
+
+  -- contributions, in the order of the senders and in that of the receivers
+  abbrev part : ℕ → List (ℕ × Step)
+  part j = part_of node_of all_turns j
+
+  abbrev parts : ℕ → ℕ → List (ℕ × Step)
+  parts a m = parts_from node_of all_turns a m
+
+  abbrev sent_order : List Contribution
+  sent_order = given_by turn all_turns
+
+  abbrev given_order : List Contribution
+  given_order = given_by turn (parts 0 (node_count g))
+
+  same-bag : SameBag sent_order given_order
+  same-bag = joined-same (λ x. (turn x).with_outermost) (by-parts node_of all_turns (node_count g) (λ x o. (turn-inside x o).1))
+
+  given-is : given_in loop mask_key mask inner r ≡ sent_order
+  given-is = given-from 0 (node_count g) (omega arith)
+
+  apart-sent : GivesApart sent_order
+  apart-sent = subst GivesApart given-is apart
+
+  back : (y : Contribution) → IsIn y given_order → IsIn y sent_order
+  back y o = IsIn-same y (turned same-bag) o where
+    turned : {A : Type 0} {xs ys : List A} → SameBag xs ys → SameBag ys xs
+    turned same_nil = same_nil
+    turned (same_cons x w) = same_cons x (turned w)
+    turned (same_swap x y xs) = same_swap y x xs
+    turned (same_trans w u) = same_trans (turned u) (turned w)
+
+  part-in : (j : ℕ) (x : ℕ × Step) → IsIn x (part j) → IsIn x all_turns × (x.1.node ≡ j)
+  part-in j x o = let t = IsIn-filter (λ y. nat_eq (node_of y) j) x all_turns o in (t.0, eqb-true x.1.node j t.1)
+
+  -- what is given by a turn in a part
+  in-given : (xs : List (ℕ × Step)) (y : Contribution) → IsIn y (given_by turn xs) → (x : ℕ × Step) × IsIn x xs × IsIn y (turn x).with_outermost
+  in-given [] y o = absurd o
+  in-given (x ∷ xs) y o =
+      ⊎_elim (λ (w : IsIn y (turn x).with_outermost). (x, inl refl, w)) (λ (w : IsIn y (given_by turn xs)). let t = in-given xs y w in (t.0, inr t.1, t.2)) (in-parts y (turn x).with_outermost (given_by turn xs) o)
+
+  given-in : (xs : List (ℕ × Step)) (y : Contribution) (x : ℕ × Step) → IsIn x xs → IsIn y (turn x).with_outermost → IsIn y (given_by turn xs)
+  given-in [] y x o w = o
+  given-in (z ∷ xs) y x o w =
+      ⊎_elim
+      (λ (e : x ≡ z). in-front y (turn z).with_outermost (given_by turn xs) (subst (λ u. IsIn y (turn u).with_outermost) e w))
+      (λ (u : IsIn x xs). in-back y (turn z).with_outermost (given_by turn xs) (given-in xs y x u w)) o
+
+  part-sent : (j : ℕ) (y : Contribution) → IsIn y (given_by turn (part j)) → IsIn y sent_order
+  part-sent j y o = let t = in-given (part j) y o in given-in all_turns y t.0 (part-in j t.0 t.1).0 t.2
+
+  in-some-part : (a m : ℕ) (y : Contribution) → a + m ≤ node_count g → IsIn y (given_by turn (parts a m)) → (j : ℕ) × (j < node_count g) × (a ≤ j) × (j < a + m) × IsIn y (given_by turn (part j))
+  in-some-part a zero y le o = absurd o
+  in-some-part a (suc m) y le o =
+      ⊎_elim
+      (λ (w : IsIn y (given_by turn (part a))). (a, omega arith, omega arith, omega arith, w))
+      (λ (w : IsIn y (given_by turn (parts (suc a) m))). let t = in-some-part (suc a) m y (omega arith) w in (t.0, t.1, omega arith, omega arith, t.4))
+      (in-parts y (given_by turn (part a)) (given_by turn (parts (suc a) m)) (subst (IsIn y) (joined-both (part a) (parts (suc a) m) (λ x. (turn x).with_outermost)) o))
+
+  part-given : (a m j : ℕ) (y : Contribution) → a ≤ j → j < a + m → IsIn y (given_by turn (part j)) → IsIn y (given_by turn (parts a m))
+  part-given a zero j y le lt o = absurd (omega arith)
+  part-given a (suc m) j y le lt o =
+      subst (IsIn y) (sym (joined-both (part a) (parts (suc a) m) (λ x. (turn x).with_outermost)))
+      (⊎_elim
+      (λ (less : a < j). in-back y (given_by turn (part a)) (given_by turn (parts (suc a) m)) (part-given (suc a) m j y (omega arith) (omega arith) o))
+      (λ (more : j ≤ a). let same : j ≡ a = omega arith in in-front y (given_by turn (part a)) (given_by turn (parts (suc a) m)) (subst (λ z. IsIn y (given_by turn (part z))) same o))
+      (cases_lt a j))
+
+  messages-of : (j : ℕ) (x : ℕ × Step) → IsIn x (part j) → IsMessageOf loop loads kind key r j x (msg x)
+  messages-of j x o = let t = part-in j x o in message-of j x t.0 t.1
+
+  received-at : (j : ℕ) → j < node_count g → (y : Contribution) → IsIn y (given_by turn (part j)) → IsReceived c j all y
+  received-at j lt y o =
+      received c p fields base all loop i loads kind key test body globals (fields_at j) j r msg able incl fit (node-shows j lt) (part j) (messages-of j) y o
+
+  abbrev to_nodes : ℕ → List Contribution
+  to_nodes j = filter is_to_nodes (given_by turn (part j))
+
+  apart-at : (j : ℕ) → GivesApart (to_nodes j)
+  apart-at j = record {
+    one = λ x y slot o w e f. apart-sent.one x y slot (part-sent j x (IsIn-filter is_to_nodes x (given_by turn (part j)) o).0) (part-sent j y (IsIn-filter is_to_nodes y (given_by turn (part j)) w).0) e f;
+    one_total = λ x y o w e f. apart-sent.one_total x y (part-sent j x (IsIn-filter is_to_nodes x (given_by turn (part j)) o).0) (part-sent j y (IsIn-filter is_to_nodes y (given_by turn (part j)) w).0) e f;
+  }
+
+  -- the second step of a vertex
+  abbrev two_step : ℕ × List Value → After
+  two_step x = vertex_after p (receive_block c seg n i loads kind key test body) (context_at g globals x.0) (inbox (map msg all_turns) x.0) x.1
+
+  abbrev faults_at : ℕ → List Fault
+  faults_at j = faults_by turn (part j) ++ total_faults r (to_nodes j)
+
+  inbox-is : (j : ℕ) → inbox (map msg all_turns) j ≡ map msg (part j)
+  inbox-is j = filter-map msg (λ m. nat_eq m.to j) all_turns
+
+  receives-at : (j : ℕ) → j < node_count g → Receives c v fields j r (given_by turn (part j)) (faults_by turn (part j)) (two_step (j, fields_at j))
+  receives-at j lt =
+      subst (λ ms. Receives c v fields j r (given_by turn (part j)) (faults_by turn (part j)) (vertex_after p (receive_block c seg n i loads kind key test body) (context_at g globals j) ms (fields_at j))) (sym (inbox-is j))
+      (receiving-steps c p fields base all loop i loads kind key test body globals (fields_at j) j r (part j) msg able incl fit (node-shows j lt) (messages-of j) (apart-at j))
+
+  spots-of : (j : ℕ) → j < node_count g → (f : Fault) → IsIn f (faults_at j) → HasSpot (named f) all
+  spots-of j lt f o =
+      spots-at c p fields base all loop i loads kind key test body globals (fields_at j) j r msg able incl fit (node-shows j lt) (part j) (messages-of j) (apart-at j) f o
+
+  abbrev AllReceive : ℕ → List (List Value) → Type 0
+  AllReceive a [] = Unit {0}
+  AllReceive a (fs ∷ fss) = (a < node_count g) × Receives c v fields a r (given_by turn (part a)) (faults_by turn (part a)) (two_step (a, fs)) × AllReceive (suc a) fss
+
+  all-receive : (a : ℕ) (fss : List (List Value)) → a + length fss ≤ node_count g → ((j : ℕ) → slice_index_or s.fields (a + j) [] ≡ slice_index_or fss j []) → AllReceive a fss
+  all-receive a [] le e = tt
+  all-receive a (fs ∷ fss) le e =
+      let same : fields_at a ≡ fs = ap fields_at (let z : a ≡ a + 0 = omega arith in z) ∙ e 0 in
+      let lt : a < node_count g = omega arith in (
+        lt,
+        subst (λ x. Receives c v fields a r (given_by turn (part a)) (faults_by turn (part a)) (two_step (a, x))) same (receives-at a lt),
+        all-receive (suc a) fss (omega arith) (λ j. ap (λ z. slice_index_or s.fields z []) (let z : suc a + j ≡ a + suc j = omega arith in z) ∙ e (suc j)),
+      )
+
+  abbrev twos : ℕ → List (List Value) → List After
+  twos a fss = map two_step (enumerate_from a fss)
+
+  next-twos : (a : ℕ) (fss : List (List Value)) → twos (a + 1) fss ≡ twos (suc a) fss
+  next-twos a fss = ap (λ j. twos j fss) (add-one a)
+
+  abbrev faults_between : ℕ → ℕ → List Fault
+  faults_between a m = flat_map faults_at (numbers_from a m)
+
+  spots-between : (a m : ℕ) → a + m ≤ node_count g → (f : Fault) → IsIn f (faults_between a m) → HasSpot (named f) all
+  spots-between a zero le f o = absurd o
+  spots-between a (suc m) le f o =
+      ⊎_elim (λ (w : IsIn f (faults_at a)). spots-of a (omega arith) f w) (λ (w : IsIn f (faults_between (suc a) m)). spots-between (suc a) m (omega arith) f w) (in-parts f (faults_at a) (faults_between (suc a) m) o)
+
+  low : (f k : Fault) → HasSpot (named f) all → HasSpot (named k) all → lesser (Some (fault_of v f)) (Some (fault_of v k)) ≡ Some (fault_of v (F.lower f k))
+  low f k a b = lesser-lower v base all refl f k a b
+
+  two-faults : (a : ℕ) (fss : List (List Value)) → a + length fss ≤ node_count g → AllReceive a fss → least_right (map (λ x. x.fault) (twos a fss)) ≡ fault_or_none v (least (faults_between a (length fss)))
+  two-faults a [] le e = refl
+  two-faults a (fs ∷ fss) le e =
+      ap (λ l. lesser (two_step (a, fs)).fault (least_right (map (λ x. x.fault) l))) (next-twos a fss)
+      ∙ ap (λ o. lesser o (least_right (map (λ x. x.fault) (twos (suc a) fss)))) e.1.fault
+      ∙ ap (lesser (fault_or_none v (least (faults_at a)))) (two-faults (suc a) fss (omega arith) e.2)
+      ∙ least-two v all low (faults_at a) (faults_between (suc a) (length fss)) (λ f o. spots-of a e.0 f o) (λ f o. spots-between (suc a) (length fss) (omega arith) f o)
+
+  filter-both : {A : Type 0} (t : A → Bool) (xs ys : List A) → filter t (xs ++ ys) ≡ filter t xs ++ filter t ys
+  filter-both t [] ys = refl
+  filter-both t (x ∷ xs) ys = by (t x) (filter-both t xs ys) where
+    by : (b : Bool) → filter t (xs ++ ys) ≡ filter t xs ++ filter t ys → cond b (x ∷ filter t (xs ++ ys)) (filter t (xs ++ ys)) ≡ cond b (x ∷ filter t xs) (filter t xs) ++ filter t ys
+    by true e = ap (λ l. x ∷ l) e
+    by false e = e
+
+  parts-given : (t : Contribution → Bool) (a m : ℕ) → filter t (given_by turn (parts a (suc m))) ≡ filter t (given_by turn (part a)) ++ filter t (given_by turn (parts (suc a) m))
+  parts-given t a m =
+      ap (filter t) (joined-both (part a) (parts (suc a) m) (λ x. (turn x).with_outermost)) ∙ filter-both t (given_by turn (part a)) (given_by turn (parts (suc a) m))
+
+  two-puts : (a : ℕ) (fss : List (List Value)) → AllReceive a fss → flat_map (λ x. x.state.puts) (twos a fss) ≡ map (given c v) (filter is_to_scalars (given_by turn (parts a (length fss))))
+  two-puts a [] e = refl
+  two-puts a (fs ∷ fss) e =
+      ap (λ l. (two_step (a, fs)).state.puts ++ flat_map (λ x. x.state.puts) l) (next-twos a fss)
+      ∙ ap (λ l. l ++ flat_map (λ x. x.state.puts) (twos (suc a) fss)) e.1.puts
+      ∙ ap (λ l. map (given c v) (filter is_to_scalars (given_by turn (part a))) ++ l) (two-puts (suc a) fss e.2)
+      ∙ sym (map-both (given c v) (filter is_to_scalars (given_by turn (part a))) (filter is_to_scalars (given_by turn (parts (suc a) (length fss)))))
+      ∙ ap (map (given c v)) (sym (parts-given is_to_scalars a (length fss)))
+
+  two-sent : (a : ℕ) (fss : List (List Value)) → AllReceive a fss → flat_map (λ x. x.state.messages) (twos a fss) ≡ []
+  two-sent a [] e = refl
+  two-sent a (fs ∷ fss) e =
+      ap (λ l. (two_step (a, fs)).state.messages ++ flat_map (λ x. x.state.messages) l) (next-twos a fss)
+      ∙ ap (λ l. l ++ flat_map (λ x. x.state.messages) (twos (suc a) fss)) e.1.messages
+      ∙ two-sent (suc a) fss e.2
+
+  two-length : (a : ℕ) (fss : List (List Value)) → length (map (λ x. x.state.fields) (twos a fss)) ≡ length fss
+  two-length a [] = refl
+  two-length a (fs ∷ fss) = ap suc (two-length (a + 1) fss)
+
+  two-fields : (a : ℕ) (fss : List (List Value)) (j : ℕ) → j < length fss → slice_index_or (map (λ x. x.state.fields) (twos a fss)) j [] ≡ (two_step (a + j, slice_index_or fss j [])).state.fields
+  two-fields a [] j lt = absurd (omega arith)
+  two-fields a (fs ∷ fss) zero lt = ap (λ z. (two_step (z, fs)).state.fields) (let z : a ≡ a + 0 = omega arith in z)
+  two-fields a (fs ∷ fss) (suc j) lt =
+      two-fields (a + 1) fss j (omega arith) ∙ ap (λ z. (two_step (z, slice_index_or fss j [])).state.fields) (let z : (a + 1) + j ≡ a + suc j = omega arith in z)
+
+  -- the contributions to one node's properties
+  abbrev at_node : ℕ → List Slot → Bool
+  at_node j [] = false
+  at_node j (slots.Scalar x ∷ xs) = false
+  at_node j (slots.Node y k ∷ xs) = nat_eq k j
+
+  abbrev goes_to : ℕ → Contribution → Bool
+  goes_to j x = at_node j x.slots
+
+  abbrev goes_to_scalars : Contribution → Bool
+  goes_to_scalars x = is_to_scalars x
+
+  -- of what is received at a node, what goes to a node
+  goes-here : (j k : ℕ) (xs : List Slot) → are_of_scalars xs ≡ false → list_all (here_at c k) xs ≡ true → is_some_list xs ≡ true → at_node j xs ≡ nat_eq k j
+  goes-here j k [] e o w = absurd (both_ways false refl w)
+  goes-here j k (slots.Scalar x ∷ xs) e o w = absurd (both_ways false refl (sym e))
+  goes-here j k (slots.Node y z ∷ xs) e o w =
+      let t = both-true (nat_eq z k && c.is_kept y) (list_all (here_at c k) xs) o in ap (λ u. nat_eq u j) (eqb-true z k (both-true (nat_eq z k) (c.is_kept y) t.0).0)
+
+  goes-not : (j : ℕ) (xs : List Slot) → are_of_scalars xs ≡ true → at_node j xs ≡ false
+  goes-not j [] e = refl
+  goes-not j (slots.Scalar x ∷ xs) e = refl
+  goes-not j (slots.Node y z ∷ xs) e = absurd (both_ways false refl e)
+
+  goes-of : (j k : ℕ) (x : Contribution) → IsReceived c k all x → goes_to j x ≡ (if is_to_scalars x then false else nat_eq k j)
+  goes-of j k x o = by (is_to_scalars x) refl where
+    by : (b : Bool) → is_to_scalars x ≡ b → goes_to j x ≡ (if b then false else nat_eq k j)
+    by true e = goes-not j x.slots e
+    by false e = goes-here j k x.slots e (o.nodes e) o.not_empty
+
+  filter-all : (t u : Contribution → Bool) (xs : List Contribution) → ((x : Contribution) → IsIn x xs → t x ≡ u x) → filter t xs ≡ filter u xs
+  filter-all t u [] e = refl
+  filter-all t u (x ∷ xs) e = ap (λ b. cond b (x ∷ filter t xs) (filter t xs)) (e x (inl refl)) ∙ ap (λ l. cond (u x) (x ∷ l) l) (filter-all t u xs (λ y o. e y (inr o)))
+
+  filter-no : (xs : List Contribution) → filter (λ x. false) xs ≡ []
+  filter-no [] = refl
+  filter-no (x ∷ xs) = filter-no xs
+
+  part-goes : (j k : ℕ) → k < node_count g → filter (goes_to j) (given_by turn (part k)) ≡ (if nat_eq k j then to_nodes k else [])
+  part-goes j k lt =
+      filter-all (goes_to j) (λ x. if is_to_scalars x then false else nat_eq k j) (given_by turn (part k)) (λ x o. goes-of j k x (received-at k lt x o)) ∙ by (nat_eq k j) where
+        by : (b : Bool) → filter (λ x. if is_to_scalars x then false else b) (given_by turn (part k)) ≡ (if b then to_nodes k else [])
+        by true = filter-all (λ x. if is_to_scalars x then false else true) is_to_nodes (given_by turn (part k)) (λ x o. either (is_to_scalars x)) where
+          either : (b : Bool) → (if b then false else true) ≡ not b
+          either true = refl
+          either false = refl
+        by false = filter-all (λ x. if is_to_scalars x then false else false) (λ x. false) (given_by turn (part k)) (λ x o. none (is_to_scalars x)) ∙ filter-no (given_by turn (part k)) where
+          none : (b : Bool) → (if b then false else false) ≡ false
+          none true = refl
+          none false = refl
+
+  parts-none : (j a m : ℕ) → a + m ≤ node_count g → j < a → filter (goes_to j) (given_by turn (parts a m)) ≡ []
+  parts-none j a zero le lt = refl
+  parts-none j a (suc m) le lt =
+      parts-given (goes_to j) a m
+      ∙ ap (λ l. l ++ filter (goes_to j) (given_by turn (parts (suc a) m))) (part-goes j a (omega arith) ∙ ap (λ b. if b then to_nodes a else []) (ne_eqb a j (λ e. omega arith)))
+      ∙ parts-none j (suc a) m (omega arith) (omega arith)
+
+  parts-goes : (j a m : ℕ) → a + m ≤ node_count g → a ≤ j → j < a + m → filter (goes_to j) (given_by turn (parts a m)) ≡ to_nodes j
+  parts-goes j a zero le l lt = absurd (omega arith)
+  parts-goes j a (suc m) le l lt =
+      parts-given (goes_to j) a m
+      ∙ ap (λ xs. xs ++ filter (goes_to j) (given_by turn (parts (suc a) m))) (part-goes j a (omega arith))
+      ∙ ⊎_elim
+      (λ (less : a < j). ap (λ b. (if b then to_nodes a else []) ++ filter (goes_to j) (given_by turn (parts (suc a) m))) (ne_eqb a j (λ e. omega arith)) ∙ parts-goes j (suc a) m (omega arith) (omega arith) (omega arith))
+      (λ (more : j ≤ a).
+      let same : a ≡ j = omega arith in
+      ap (λ b. (if b then to_nodes a else []) ++ filter (goes_to j) (given_by turn (parts (suc a) m))) (eq-eqb a j same)
+      ∙ ap (λ xs. to_nodes a ++ xs) (parts-none j (suc a) m (omega arith) (omega arith))
+      ∙ append-nil (to_nodes a) ∙ ap to_nodes same)
+      (cases_lt a j)
+
+  node-region : (j : ℕ) → j < node_count g → filter (goes_to j) given_order ≡ to_nodes j
+  node-region j lt = parts-goes j 0 (node_count g) (omega arith) (omega arith) (omega arith)
+
+  -- where a contribution is received
+  where-received : (x : Contribution) → IsIn x given_order → (j : ℕ) × (j < node_count g) × IsReceived c j all x × IsIn x (given_by turn (part j))
+  where-received x o = let t = in-some-part 0 (node_count g) x (omega arith) o in (t.0, t.1, received-at t.0 t.1 x t.4, t.4)
+
+  abbrev scalar_part : List Contribution
+  scalar_part = filter is_to_scalars given_order
+
+  one-given : OneReduction given_order
+  one-given x y slot o w e f = apart-sent.one x y slot (back x o) (back y w) e f
+
+  -- the values of slots
+  value-at-node : (y j : ℕ) → j < node_count g → S.value_after r sent_order (slots.Node y j) ≡ S.value_after r (to_nodes j) (slots.Node y j)
+  value-at-node y j lt =
+      ap (λ st. st.node y j) (settled_store-same r apart-sent.one same-bag)
+      ∙ sym (value-filtered (goes_to j) r (slots.Node y j) given_order goes)
+      ∙ ap (λ cs. S.value_after r cs (slots.Node y j)) (node-region j lt) where
+        goes : (x : Contribution) → IsIn x given_order → has_slot (slots.Node y j) x.slots ≡ true → goes_to j x ≡ true
+        goes x o has =
+            let t = where-received x o in
+            by (is_to_scalars x) refl t.0 t.2 where
+              by : (b : Bool) → is_to_scalars x ≡ b → (k : ℕ) → IsReceived c k all x → goes_to j x ≡ true
+              by true e k q = absurd (both_ways (has_slot (slots.Node y j) x.slots) (not-here (here c) (slots.Node y j) x.slots (q.scalars e) refl) has)
+              by false e k q = other (here_at c k (slots.Node y j)) refl where
+                other : (b : Bool) → here_at c k (slots.Node y j) ≡ b → goes_to j x ≡ true
+                other true f = goes-of j k x q ∙ ap (λ z. if z then false else nat_eq k j) e ∙ eq-eqb k j (sym (eqb-true j k (both-true (nat_eq j k) (c.is_kept y) f).0))
+                other false f = absurd (both_ways (has_slot (slots.Node y j) x.slots) (not-here (here_at c k) (slots.Node y j) x.slots (q.nodes e) f) has)
+
+  value-of-scalar : (x : ℕ) → S.value_after r sent_order (slots.Scalar x) ≡ S.value_after r scalar_part (slots.Scalar x)
+  value-of-scalar x =
+      ap (λ st. st.scalar x) (settled_store-same r apart-sent.one same-bag)
+      ∙ sym (value-filtered is_to_scalars r (slots.Scalar x) given_order goes) where
+        goes : (y : Contribution) → IsIn y given_order → has_slot (slots.Scalar x) y.slots ≡ true → is_to_scalars y ≡ true
+        goes y o has = by (is_to_scalars y) refl (where-received y o) where
+          by : (b : Bool) → is_to_scalars y ≡ b → (j : ℕ) × (j < node_count g) × IsReceived c j all y × IsIn y (given_by turn (part j)) → b ≡ true
+          by true e t = refl
+          by false e t = absurd (both_ways (has_slot (slots.Scalar x) y.slots) (not-here (here_at c t.0) (slots.Scalar x) y.slots (t.2.nodes e) refl) has)
+
+  -- the totals of what is put
+  held-globals : AreHeld c r globals (here c)
+  held-globals = record { holds = holds; within = inside; apart = unlike } where
+    holds : (slot : Slot) → here c slot ≡ true → value_at globals (slot_at c slot) ≡ read r slot
+    holds (slots.Scalar x) o =
+        let t = both-true (nat_lt x (length c.declarations)) (is_global (variable_at c.declarations x)) o in
+        sym (ap (λ b. if b then value_at globals (c.global x) else zero_of (variable_at c.declarations x).vtype) t.1)
+        ∙ shown.scalars x (ltb-true x (length c.declarations) t.0) (global-no_register (variable_at c.declarations x) t.1) (global-no_graph (variable_at c.declarations x) t.1)
+    holds (slots.Node y k) o = absurd (both_ways false refl o)
+
+    inside : (slot : Slot) → here c slot ≡ true → slot_at c slot < length globals
+    inside (slots.Scalar x) o =
+        let t = both-true (nat_lt x (length c.declarations)) (is_global (variable_at c.declarations x)) o in gs.within x (ltb-true x (length c.declarations) t.0) t.1
+    inside (slots.Node y k) o = absurd (both_ways false refl o)
+
+    unlike : (a b : Slot) → here c a ≡ true → here c b ≡ true → slot_at c a ≡ slot_at c b → a ≡ b
+    unlike (slots.Scalar x) (slots.Scalar y) o o2 e =
+        let t = both-true (nat_lt x (length c.declarations)) (is_global (variable_at c.declarations x)) o in
+        let u = both-true (nat_lt y (length c.declarations)) (is_global (variable_at c.declarations y)) o2 in
+        ap slots.Scalar (gs.apart x y (ltb-true x (length c.declarations) t.0) (ltb-true y (length c.declarations) u.0) t.1 u.1 e)
+    unlike (slots.Scalar x) (slots.Node y k) o o2 e = absurd (both_ways false refl o2)
+    unlike (slots.Node y k) b o o2 e = absurd (both_ways false refl o)
+
+  scalar-given : (x : Contribution) → IsIn x scalar_part → IsIn x given_order × (is_to_scalars x ≡ true)
+  scalar-given x o = IsIn-filter is_to_scalars x given_order o
+
+  good-scalars : AreGiven scalar_part (here c) all
+  good-scalars = record {
+    one = λ x y slot o w e f. one-given x y slot (scalar-given x o).0 (scalar-given y w).0 e f;
+    here_all = λ x o. let t = scalar-given x o in (where-received x t.0).2.scalars t.1;
+    not_empty = λ x o. (where-received x (scalar-given x o).0).2.not_empty;
+    one_total = λ x y o w e f. apart-sent.one_total x y (back x (scalar-given x o).0) (back y (scalar-given y w).0) e f;
+    spotted = λ x o. (where-received x (scalar-given x o).0).2.spotted;
+  }
+
+  settles : SettlesAlike c v (length p.places) r globals (here c) scalar_part
+  settles = reductions-settle c v base (length p.places) all r globals (here c) scalar_part refl fit held-globals good-scalars
+
+  -- the second superstep
+  abbrev second : Stepped
+  second = superstep p g q2 first.globals first.nodes
+
+  every-two : AllReceive 0 s.fields
+  every-two = all-receive 0 s.fields (subst (λ m. 0 + m ≤ node_count g) (sym shown.all_nodes) (omega arith)) (λ j. ap fields_at (let z : 0 + j ≡ j = omega arith in z))
+
+  two-steps : all_steps p g (block_at p q2) first.globals first.nodes.sent first.nodes.fields ≡ twos 0 s.fields
+  two-steps =
+      ap (λ b. all_steps p g b first.globals first.nodes.sent first.nodes.fields) block2
+      ∙ ap (λ vs. all_steps p g (receive_block c seg n i loads kind key test body) vs first.nodes.sent first.nodes.fields) first-globals
+      ∙ ap (λ ms. all_steps p g (receive_block c seg n i loads kind key test body) globals ms first.nodes.fields) first-sent
+      ∙ ap (λ fss. all_steps p g (receive_block c seg n i loads kind key test body) globals (map msg all_turns) fss) first-fields
+
+  second-is : second ≡ stepped (length p.places) globals first.nodes (twos 0 s.fields)
+  second-is = ap (stepped (length p.places) first.globals first.nodes) two-steps ∙ ap (λ vs. stepped (length p.places) vs first.nodes (twos 0 s.fields)) first-globals
+
+  puts-are : flat_map (λ x. x.state.puts) (twos 0 s.fields) ≡ map (given c v) scalar_part
+  puts-are = two-puts 0 s.fields every-two ∙ ap (λ m. map (given c v) (filter is_to_scalars (given_by turn (parts 0 m)))) shown.all_nodes
+
+  globals-are : second.globals ≡ (settled (length p.places) (map (given c v) scalar_part) globals).values
+  globals-are = ap (λ t. t.globals) second-is ∙ ap (λ ps. (settled (length p.places) ps globals).values) puts-are
+
+  abbrev machine_faults : List Fault
+  machine_faults = faults_between 0 (node_count g) ++ total_faults r scalar_part
+
+  second-fault : second.fault ≡ fault_or_none v (least machine_faults)
+  second-fault =
+      ap (λ t. t.fault) second-is
+      ∙ ap (λ o. lesser o (settled (length p.places) (flat_map (λ x. x.state.puts) (twos 0 s.fields)) globals).fault)
+      (least_from-right None (map (λ x. x.fault) (twos 0 s.fields)) ∙ none-first (least_right (map (λ x. x.fault) (twos 0 s.fields)))
+      ∙ two-faults 0 s.fields (subst (λ m. 0 + m ≤ node_count g) (sym shown.all_nodes) (omega arith)) every-two ∙ ap (λ m. fault_or_none v (least (faults_between 0 m))) shown.all_nodes)
+      ∙ ap (λ ps. lesser (fault_or_none v (least (faults_between 0 (node_count g)))) (settled (length p.places) ps globals).fault) puts-are
+      ∙ ap (lesser (fault_or_none v (least (faults_between 0 (node_count g))))) settles.fault
+      ∙ least-two v all low (faults_between 0 (node_count g)) (total_faults r scalar_part) (λ f o. spots-between 0 (node_count g) (omega arith) f o)
+      (λ f o. total-spot c v base (length p.places) all r globals (here c) scalar_part refl fit held-globals good-scalars f o) where
+        none-first : (o : Option M.Fault) → lesser None o ≡ o
+        none-first o = refl
+
+  -- the faults of the loop
+  abbrev loop_faults : List Fault
+  loop_faults = faults_by turn all_turns ++ total_faults r given_order
+
+  target-of : (j : ℕ) → j < node_count g → (x : Contribution) → IsIn x (to_nodes j) → S.target_fault r given_order x.slots ≡ S.target_fault r (to_nodes j) x.slots
+  target-of j lt x o =
+      sym (fault-filtered (goes_to j) r x.slots given_order (λ y w e. ap (at_node j) (sym (slots_eq-true x.slots y.slots e)) ∙ goes)) ∙ ap (λ cs. S.target_fault r cs x.slots) (node-region j lt) where
+        goes : goes_to j x ≡ true
+        goes = (IsIn-filter (goes_to j) x given_order (subst (IsIn x) (sym (node-region j lt)) o)).1
+
+  target-of-scalars : (x : Contribution) → is_to_scalars x ≡ true → S.target_fault r given_order x.slots ≡ S.target_fault r scalar_part x.slots
+  target-of-scalars x e = sym (fault-filtered is_to_scalars r x.slots given_order (λ y w f. ap are_of_scalars (sym (slots_eq-true x.slots y.slots f)) ∙ e))
+
+  in-given-order : (j : ℕ) → j < node_count g → (x : Contribution) → IsIn x (to_nodes j) → IsIn x given_order
+  in-given-order j lt x o = (IsIn-filter (goes_to j) x given_order (subst (IsIn x) (sym (node-region j lt)) o)).0
+
+  in-between : (a m j : ℕ) (f : Fault) → a ≤ j → j < a + m → IsIn f (faults_at j) → IsIn f (faults_between a m)
+  in-between a zero j f le lt o = absurd (omega arith)
+  in-between a (suc m) j f le lt o =
+      ⊎_elim
+      (λ (less : a < j). in-back f (faults_at a) (faults_between (suc a) m) (in-between (suc a) m j f (omega arith) (omega arith) o))
+      (λ (more : j ≤ a). let same : j ≡ a = omega arith in in-front f (faults_at a) (faults_between (suc a) m) (subst (λ z. IsIn f (faults_at z)) same o))
+      (cases_lt a j)
+
+  some-between : (a m : ℕ) (f : Fault) → a + m ≤ node_count g → IsIn f (faults_between a m) → (j : ℕ) × (j < node_count g) × IsIn f (faults_at j)
+  some-between a zero f le o = absurd o
+  some-between a (suc m) f le o =
+      ⊎_elim (λ (w : IsIn f (faults_at a)). (a, omega arith, w)) (λ (w : IsIn f (faults_between (suc a) m)). some-between (suc a) m f (omega arith) w) (in-parts f (faults_at a) (faults_between (suc a) m) o)
+
+  to-loop : (f : Fault) → IsIn f machine_faults → IsIn f loop_faults
+  to-loop f o = ⊎_elim at_nodes at_globals (in-parts f (faults_between 0 (node_count g)) (total_faults r scalar_part) o) where
+    at_globals : IsIn f (total_faults r scalar_part) → IsIn f loop_faults
+    at_globals w =
+        let t = somes-in (λ (x : Contribution). S.target_fault r scalar_part x.slots) scalar_part f w in
+        let u = scalar-given t.0 t.1 in
+        in-back f (faults_by turn all_turns) (total_faults r given_order) (in-somes (λ (x : Contribution). S.target_fault r given_order x.slots) given_order t.0 f u.0 (target-of-scalars t.0 u.1 ∙ t.2))
+
+    at_nodes : IsIn f (faults_between 0 (node_count g)) → IsIn f loop_faults
+    at_nodes w =
+        let t = some-between 0 (node_count g) f (omega arith) w in
+        ⊎_elim
+        (λ (u : IsIn f (faults_by turn (part t.0))).
+        let x = somes-in (λ x. (turn x).fault) (part t.0) f u in
+        in-front f (faults_by turn all_turns) (total_faults r given_order) (in-somes (λ x. (turn x).fault) all_turns x.0 f (part-in t.0 x.0 x.1).0 x.2))
+        (λ (u : IsIn f (total_faults r (to_nodes t.0))).
+        let x = somes-in (λ (y : Contribution). S.target_fault r (to_nodes t.0) y.slots) (to_nodes t.0) f u in
+        in-back f (faults_by turn all_turns) (total_faults r given_order)
+        (in-somes (λ (y : Contribution). S.target_fault r given_order y.slots) given_order x.0 f (in-given-order t.0 t.1 x.0 x.1) (target-of t.0 t.1 x.0 x.1 ∙ x.2)))
+        (in-parts f (faults_by turn (part t.0)) (total_faults r (to_nodes t.0)) t.2)
+
+  to-machine : (f : Fault) → IsIn f loop_faults → IsIn f machine_faults
+  to-machine f o = ⊎_elim of_turn of_total (in-parts f (faults_by turn all_turns) (total_faults r given_order) o) where
+    of_turn : IsIn f (faults_by turn all_turns) → IsIn f machine_faults
+    of_turn w =
+        let x = somes-in (λ x. (turn x).fault) all_turns f w in
+        let j = x.0.1.node in
+        let lt = (turn-inside x.0 x.1).1 in
+        in-front f (faults_between 0 (node_count g)) (total_faults r scalar_part) (in-between 0 (node_count g) j f (omega arith) (omega arith)
+        (in-front f (faults_by turn (part j)) (total_faults r (to_nodes j)) (in-somes (λ x. (turn x).fault) (part j) x.0 f (filter-in (λ y. nat_eq (node_of y) j) all_turns x.0 x.1 (eq-eqb j j refl)) x.2)))
+
+    of_total : IsIn f (total_faults r given_order) → IsIn f machine_faults
+    of_total w =
+        let x = somes-in (λ (y : Contribution). S.target_fault r given_order y.slots) given_order f w in
+        by (is_to_scalars x.0) x.0 x.1 x.2 (where-received x.0 x.1) refl where
+          by : (b : Bool) (x : Contribution) → IsIn x given_order → S.target_fault r given_order x.slots ≡ Some f
+              → (j : ℕ) × (j < node_count g) × IsReceived c j all x × IsIn x (given_by turn (part j)) → is_to_scalars x ≡ b → IsIn f machine_faults
+          by true x u e t k =
+              in-back f (faults_between 0 (node_count g)) (total_faults r scalar_part)
+              (in-somes (λ (y : Contribution). S.target_fault r scalar_part y.slots) scalar_part x f (filter-in is_to_scalars given_order x u k) (sym (target-of-scalars x k) ∙ e))
+          by false x u e t k =
+              let at_j : IsIn x (to_nodes t.0) = filter-in is_to_nodes (given_by turn (part t.0)) x t.3 (ap not k) in
+              in-front f (faults_between 0 (node_count g)) (total_faults r scalar_part) (in-between 0 (node_count g) t.0 f (omega arith) (omega arith)
+              (in-back f (faults_by turn (part t.0)) (total_faults r (to_nodes t.0))
+              (in-somes (λ (y : Contribution). S.target_fault r (to_nodes t.0) y.slots) (to_nodes t.0) x f at_j (sym (target-of t.0 t.1 x at_j) ∙ e))))
+
+  abbrev meant_faults : List Fault
+  meant_faults = somes (map (λ x. x.fault) its) ++ total_faults r sent_order
+
+  faults-same : least meant_faults ≡ least machine_faults
+  faults-same =
+      least-append (somes (map (λ x. x.fault) its)) (total_faults r sent_order)
+      ∙ ap (λ o. lesser_of o (least (total_faults r sent_order))) (faults-from 0 (node_count g) (omega arith))
+      ∙ ap (lesser_of (least (faults_by turn all_turns))) (total_faults-same r apart-sent.one same-bag)
+      ∙ sym (least-append (faults_by turn all_turns) (total_faults r given_order))
+      ∙ least-members loop_faults machine_faults to-machine to-loop
+
+  second-fields : second.nodes.fields ≡ map (λ x. x.state.fields) (twos 0 s.fields)
+  second-fields = ap (λ t. t.nodes.fields) second-is
+
+  node-after : (j : ℕ) → j < node_count g → slice_index_or second.nodes.fields j [] ≡ (two_step (j, fields_at j)).state.fields
+  node-after j lt =
+      ap (λ fss. slice_index_or fss j []) second-fields
+      ∙ two-fields 0 s.fields j (subst (λ m. j < m) (sym shown.all_nodes) lt)
+      ∙ ap (λ z. (two_step (z, fields_at j)).state.fields) (let z : 0 + j ≡ j = omega arith in z)
+
+  -- the store that the loop leaves
+  abbrev left : Store
+  left = settled_store r sent_order
+
+  away : (x : ℕ) → here c (slots.Scalar x) ≡ false → left.scalar x ≡ r.scalar x
+  away x e = value-of-scalar x ∙ value-away r (slots.Scalar x) scalar_part (λ y o. let t = scalar-given y o in not-here (here c) (slots.Scalar x) y.slots ((where-received y t.0).2.scalars t.1) e)
+
+  and-false : (a b : Bool) → b ≡ false → a && b ≡ false
+  and-false true b e = e
+  and-false false b e = refl
+
+  register-no_global : (x : ℕ) → is_register (variable_at c.declarations x) ≡ true → is_global (variable_at c.declarations x) ≡ false
+  register-no_global x e = by (is_global (variable_at c.declarations x)) refl where
+    by : (b : Bool) → is_global (variable_at c.declarations x) ≡ b → b ≡ false
+    by true f = absurd (both_ways (is_register (variable_at c.declarations x)) (global-no_register (variable_at c.declarations x) f) e)
+    by false f = refl
+
+  leaves-store : least meant_faults ≡ None → Leaves c p.registers fields g globals left second
+  leaves-store fine = record {
+    fine = second-fault ∙ ap (fault_or_none v) (sym faults-same ∙ fine);
+    shown = record {
+      scalars = scalars;
+      locals = λ x lt e. shown.locals x lt e ∙ sym (away x (and-false (nat_lt x (length c.declarations)) (is_global (variable_at c.declarations x)) (register-no_global x e)));
+      properties = λ j lt y o. ap (λ fs. value_at fs (c.field y)) (node-after j lt) ∙ (receives-at j lt).properties y o ∙ sym (value-at-node y j lt);
+      widths = λ j lt. ap length (node-after j lt) ∙ (receives-at j lt).field_count;
+      all_nodes = ap length second-fields ∙ two-length 0 s.fields ∙ shown.all_nodes;
+      idle = ap (λ t. t.nodes.sent) second-is ∙ two-sent 0 s.fields every-two;
+    };
+    others = λ z none. ap (λ vs. value_at vs z) globals-are ∙ settles.others z (λ x o. none-has z none x.slots (let t = scalar-given x o in (where-received x t.0).2.scalars t.1));
+    count = ap length globals-are ∙ settles.count;
+  } where
+    scalars : (x : ℕ) → x < length c.declarations → is_register (variable_at c.declarations x) ≡ false → is Sorts.Graph (variable_at c.declarations x) ≡ false → phase_value c second.globals x ≡ left.scalar x
+    scalars x lt e f = by (is_global (variable_at c.declarations x)) refl where
+      by : (b : Bool) → is_global (variable_at c.declarations x) ≡ b → (if b then value_at second.globals (c.global x) else zero_of (variable_at c.declarations x).vtype) ≡ left.scalar x
+      by true o =
+          ap (λ vs. value_at vs (c.global x)) globals-are
+          ∙ settles.values (slots.Scalar x) (ap (λ b. b && is_global (variable_at c.declarations x)) (lt-ltb x (length c.declarations) lt) ∙ o)
+          ∙ sym (value-of-scalar x)
+      by false o =
+          sym (ap (λ b. if b then value_at globals (c.global x) else zero_of (variable_at c.declarations x).vtype) o)
+          ∙ shown.scalars x lt e f ∙ sym (away x (and-false (nat_lt x (length c.declarations)) (is_global (variable_at c.declarations x)) o))
+
+    none-has : (z : ℕ) → ((x : ℕ) → x < length c.declarations → is_global (variable_at c.declarations x) ≡ true → c.global x ≢ z) → (xs : List Slot) → list_all (here c) xs ≡ true → is_among z (map (slot_at c) xs) ≡ false
+    none-has z none [] o = refl
+    none-has z none (slots.Scalar x ∷ xs) o =
+        let t = both-true (here c (slots.Scalar x)) (list_all (here c) xs) o in
+        let u = both-true (nat_lt x (length c.declarations)) (is_global (variable_at c.declarations x)) t.0 in
+        ap (λ b. b || is_among z (map (slot_at c) xs)) (ne_eqb (c.global x) z (none x (ltb-true x (length c.declarations) u.0) u.1)) ∙ none-has z none xs t.1
+    none-has z none (slots.Node x k ∷ xs) o = absurd (both_ways false refl o)
+
+  -- the loop, on the first store
+  loop-is : parallel loop mask_key mask inner (nodes g) r ≡ unless_fault (least meant_faults) (Ok left)
+  loop-is =
+      ap (λ st. unless_fault (least (somes (map (λ x. x.fault) its) ++ total_faults st given_all)) (Ok (overlaid (settled_store st given_all) (joined (map (λ x. x.deferred) its))))) own-is
+      ∙ ap (λ cs. unless_fault (least (somes (map (λ x. x.fault) its) ++ total_faults r cs)) (Ok (overlaid (settled_store r cs) (joined (map (λ x. x.deferred) its))))) given-is
+      ∙ ap (λ ds. unless_fault (least meant_faults) (Ok (overlaid left ds))) (deferred-from 0 (node_count g) (omega arith)) where
+        given_all : List Contribution
+        given_all = given_in loop mask_key mask inner r
+
+  pub message-loop : (first.fault ≡ None) × (first.globals ≡ globals) × StepIs c v p.registers fields g globals (parallel loop mask_key mask inner (nodes g) r) second
+  message-loop = (first-fault, first-globals, subst (λ a. StepIs c v p.registers fields g globals a second) (sym loop-is) (by (least meant_faults) refl)) where
+    by : (o : Option Fault) → least meant_faults ≡ o → StepIs c v p.registers fields g globals (unless_fault o (Ok left)) second
+    by None e = leaves-store e
+    by (Some f) e = second-fault ∙ ap (fault_or_none v) (sym faults-same ∙ e)
+
+pub message-loops : MessageLoopsAreTwoSupersteps
+message-loops c p fields base q q2 kind all loop mask_key mask key place h test body loads globals s r sender able gs all_is fit block block2 shown edges in_graph within apart =
+    message-loop c p fields base q q2 kind all loop mask_key mask key place h test body loads globals s r sender able gs all_is fit block block2 shown edges in_graph within apart

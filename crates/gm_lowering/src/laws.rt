@@ -1,0 +1,124 @@
+//! Laws of the lowering, as contracts of calls that do nothing.
+
+ghost use Rattle.gm_lowering.specs.Masters.{PhaseTermsHaveValues};
+ghost use Rattle.gm_lowering.specs.HomeLoops.{HomeLoopsAreSupersteps, HomeLoopsHaveOneBlock};
+ghost use Rattle.gm_lowering.specs.HomeSteps.{HomeStepsAreIterations};
+ghost use Rattle.gm_lowering.specs.HomeTurns.{EachLinesAreTurns, RegistersBegin};
+ghost use Rattle.gm_lowering.specs.MessageLoops.{HandlersAreTurns};
+ghost use Rattle.gm_lowering.specs.OwnLoops.{OwnStepsAreIterations};
+ghost use Rattle.gm_lowering.specs.Phases.{OwnLoopsAreSupersteps};
+ghost use Rattle.gm_lowering.specs.Receiving.{ReceivingStepsAreTurns};
+ghost use Rattle.gm_lowering.specs.Sends.{SendBlocksSend};
+ghost use Rattle.gm_lowering.specs.Settles.{ReductionsSettle};
+ghost use Rattle.gm_lowering.specs.Shapes.{LayoutsAreApart, MessageLoopsHaveTwoBlocks, OwnLoopsHaveOneBlock};
+ghost use Rattle.gm_lowering.specs.Showing.{LiveHasItsValue, TermsHaveValues};
+ghost use Rattle.gm_lowering.specs.Shown.{IndicesShowPlaces};
+ghost use Rattle.gm_lowering.specs.Takings.{TakingHandlersTake};
+ghost use Rattle.gm_lowering.specs.TwoSupersteps.{MessageLoopsAreTwoSupersteps};
+
+/// The term of an expression has the expression's value, or its first fault at the index of its place, in every view of
+/// the machine that tells the expression's leaves where the environment finds them.
+pub fn terms_have_the_values_of_expressions()
+    ensures terms { TermsHaveValues }
+    ensures live { LiveHasItsValue }
+{}
+
+/// The step of a vertex with the block of an own loop is the loop's iteration at its node: it has the iteration's fault,
+/// or its fields hold what the iteration leaves there; and what it puts is what the iteration gives, also before a
+/// fault. The loop's reductions go to scalars of the procedure.
+pub fn own_steps_are_iterations()
+    ensures { OwnStepsAreIterations }
+{}
+
+/// What reductions leave when they are taken is the same on the machine, which takes them by the indices of their places,
+/// as in the program, which takes them by the numbers of their statements: the slots hold the same values, other slots
+/// keep theirs, and the least fault of the totals is the same.
+pub fn reductions_settle_alike()
+    ensures { ReductionsSettle }
+{}
+
+/// One superstep of all vertices with the block of an own loop is the loop, where its reductions go to scalars of the
+/// procedure: it has the loop's fault, the least of the operators' and totals', at the index of its place; or globals and
+/// nodes show the store that the loop leaves, no message waits, and the other globals keep their values.
+pub fn own_loops_are_supersteps()
+    ensures { OwnLoopsAreSupersteps }
+{}
+
+/// The run of the handler of a message that carries what the receiver reads of its sender is the inner loop's turn at the
+/// edge along which the message came: it has the turn's fault; and what it puts to scalars and folds to properties of the
+/// receiver is what the turn gives, also before a fault.
+pub fn handlers_are_turns()
+    ensures { HandlersAreTurns }
+{}
+
+/// The step of a vertex with the first block of a message loop sends a message with what the receiver reads along each of
+/// the node's edges, in order, if the node passes the loop's mask. It does nothing else and never faults.
+pub fn send_blocks_send()
+    ensures { SendBlocksSend }
+{}
+
+/// The step of a vertex with the second block of a message loop, with the messages of some turns that reach its node, takes
+/// what the turns give: its fields hold what the reductions to its node's properties leave, it has put what goes to scalars of
+/// the procedure, and its fault is the least of the turns' and of the totals at its node.
+pub fn receiving_steps_are_turns()
+    ensures { ReceivingStepsAreTurns }
+{}
+
+/// A message loop is two supersteps: the first has no fault and leaves the globals; the second has the loop's fault, the least
+/// of the operators' and totals', at the index of its place, or globals and nodes show the store that the loop leaves, no
+/// message waits, and the other globals keep their values. Its reductions go to scalars of the procedure and to properties
+/// of the inner iterator.
+pub fn message_loops_are_two_supersteps()
+    ensures { MessageLoopsAreTwoSupersteps }
+{}
+
+/// What the lowering gives has the shapes of which these laws speak: the numbers of each program's layout are in range and
+/// apart; registers begin with the first values of their locals; and an own loop and a message loop whose bodies send nothing
+/// have the blocks of the laws.
+pub fn shapes_are_those_of_the_laws()
+    ensures layouts { LayoutsAreApart }
+    ensures own { OwnLoopsHaveOneBlock }
+    ensures message { MessageLoopsHaveTwoBlocks }
+    ensures registers { RegistersBegin }
+{}
+
+/// The place at the index of a fault, among the places of its loop or statement, is the place that the fault shows, where
+/// faults that stand at one place in the order of faults show one.
+pub fn indices_show_places()
+    ensures { IndicesShowPlaces }
+{}
+
+/// Where globals and nodes show a store, an expression of the sequential phase has in the master list the value that it has
+/// there, or its first fault at the index of its place.
+pub fn phase_terms_have_values()
+    ensures { PhaseTermsHaveValues }
+{}
+
+/// The lines of an each at an edge are the inner loop's turn there, whatever the turns before left in the registers: they have
+/// the turn's fault; and what they put to scalars and fold to properties of the node is what the turn gives, also before a
+/// fault. The fields stay as they were.
+pub fn each_lines_are_turns()
+    ensures { EachLinesAreTurns }
+{}
+
+/// The step of a vertex with the block of a home loop is the loop's iteration at its node: its fault is the least of the
+/// mask's, the turns' and the totals at the node, or its fields hold what the inner loop leaves there; and what it puts is
+/// what the turns give, also before a fault. The inner loop's reductions go to scalars of the procedure and to properties of
+/// the node.
+pub fn home_steps_are_iterations()
+    ensures { HomeStepsAreIterations }
+{}
+
+/// One superstep of all vertices with the block of a home loop is the loop: it has the loop's fault, the least of the
+/// operators' and totals', at the index of its place; or globals and nodes show the store that the loop leaves, no message
+/// waits, and the other globals keep their values. It has this block where its body sends nothing.
+pub fn home_loops_are_supersteps()
+    ensures supersteps { HomeLoopsAreSupersteps }
+    ensures blocks { HomeLoopsHaveOneBlock }
+{}
+
+/// The handler of a reduction through a node variable folds the values of its message: it gives one contribution to the
+/// receiver's properties, with the key of the reduction's total, and does nothing else.
+pub fn taking_handlers_take()
+    ensures { TakingHandlersTake }
+{}

@@ -1,0 +1,111 @@
+-- What globals and nodes show of a state between the statements of a sequential phase.
+use Rattle.std.specs.Prelude.{◌≡◌, ◌<◌, ◌≤◌, ℕ, ◌+◌, nat_lt, Bool, true, false, ◌&&◌, ◌||◌, Option, Some, None, List, [], length, map, slice_index_or}
+use Rattle.gm_value.specs.declared.values.VType.{VType}
+use Rattle.gm_value.specs.declared.values.Value.{Value}
+use Rattle.gm_value.specs.Numbers.{zero_of}
+use Rattle.gm_model.specs.Graphs.{NumberedGraph, node_count, edge_count}
+use Rattle.gm_ast.specs.declared.tree.Sort.TheVariants as Sorts
+use Rattle.gm_ast.specs.declared.tree.Variable.{Variable}
+use Rattle.gm_ast.specs.Names.{is}
+use Rattle.gm_semantics.specs.Statements.{Run, State, variable_at}
+use Rattle.gm_semantics.specs.Stores.{Store}
+use Rattle.gm_typed_stores.specs.Tells.{TypeTable}
+use Rattle.gm_image.specs.Program.{Program}
+use Rattle.gm_machine.specs.Expressions.{value_at, edge_value_at}
+use Rattle.gm_machine.specs.Machine.{Nodes}
+use Rattle.gm_lowering.specs.Layouts.{Layout, is_global, is_register}
+use Rattle.gm_lowering.specs.Lowered.{Frame}
+use Rattle.gm_lowering.specs.Sites.{phase_value, HoldLocals, HoldProperties, IsApart}
+use Rattle.gm_lowering_master.specs.Runs.{Moment}
+
+-- what the master list keeps in globals: scalars of the procedure, its result, and the counters and flags of loops by how many such loops are around
+pub data Cell : Type 0 where
+  OfScalar : (x : ℕ) → Cell
+  OfResult : Cell
+  CounterOf : (depth : ℕ) → Cell
+  FlagOf : (depth : ℕ) → Cell
+
+-- the global of a cell
+abbrev pub cell_number : Layout → Cell → ℕ
+cell_number c (OfScalar x) = c.global x
+cell_number c OfResult = c.result
+cell_number c (CounterOf d) = c.counter d
+cell_number c (FlagOf d) = c.flag d
+
+-- whether a variable is a scalar of the procedure
+abbrev pub is_scalar : Layout → ℕ → Bool
+is_scalar c x = nat_lt x (length c.declarations) && is_global (variable_at c.declarations x)
+
+-- whether a cell is in use: a result where the procedure has one, and counters and flags of so many loops in each other
+abbrev pub is_cell : Layout → Bool → ℕ → Cell → Bool
+is_cell c returns depth (OfScalar x) = is_scalar c x
+is_cell c returns depth OfResult = returns
+is_cell c returns depth (CounterOf d) = nat_lt d depth
+is_cell c returns depth (FlagOf d) = nat_lt d depth
+
+-- whether a cell is none of the program's own variables
+abbrev pub is_hidden : Cell → Bool
+is_hidden (OfScalar x) = false
+is_hidden _ = true
+
+-- cells in use are in range and apart from each other
+pub record AreCells (c : Layout) (returns : Bool) (depth globals : ℕ) : Type 0 where
+  pub within : (a : Cell) → is_cell c returns depth a ≡ true → cell_number c a < globals
+  pub apart : (a b : Cell) → is_cell c returns depth a ≡ true → is_cell c returns depth b ≡ true → cell_number c a ≡ cell_number c b → a ≡ b
+
+-- what stays the same over a run: where things lie and where the run ends, the image, the run of the program, what its types are judged by, the type of the procedure's result and whether it has one, and how many loops with a counter or a flag may stand in each other
+pub record Setting : Type 0 where
+  pub frame : Frame
+  pub image : Program
+  pub run : Run
+  pub table : TypeTable
+  pub result : Option VType
+  pub returns : Bool
+  pub depth : ℕ
+
+-- a setting in which things lie apart, and a counter can count the nodes
+pub record IsSetting (s : Setting) : Type 0 where
+  pub cells : AreCells s.frame.layout s.returns s.depth (length s.image.globals)
+  pub rows : IsApart s.frame.layout (length s.image.registers) (length s.image.fields)
+  pub declarations : s.run.declarations ≡ s.frame.layout.declarations
+  pub few : node_count s.run.graph ≤ 2147483647
+
+-- the columns of the graph show edge properties
+abbrev pub ShowsEdges : Layout → NumberedGraph → Store → Type 0
+ShowsEdges c g r = (p e : ℕ) → p < length c.declarations → is Sorts.EdgeProperty (variable_at c.declarations p) ≡ true → e < edge_count g → edge_value_at g (c.column p) e ≡ r.edge p e
+
+-- whether a variable has a value of its own, as scalars and nodes have
+abbrev pub has_value : Variable → Bool
+has_value v = is Sorts.Scalar v || is Sorts.Iterator v
+
+-- globals and nodes show a store: scalars of the procedure are in globals, and properties in fields; what is declared in parallel loops has its first value, in registers too; and no message waits. What stands as a scalar in a property or in the graph is not shown
+pub record Shows (c : Layout) (registers : List VType) (fields : ℕ) (g : NumberedGraph) (globals : List Value) (s : Nodes) (r : Store) : Type 0 where
+  pub scalars : (x : ℕ) → x < length c.declarations → is_register (variable_at c.declarations x) ≡ false → has_value (variable_at c.declarations x) ≡ true
+      → phase_value c globals x ≡ r.scalar x
+  pub locals : HoldLocals c (map zero_of registers) r
+  pub properties : (k : ℕ) → k < node_count g → HoldProperties c (slice_index_or s.fields k []) k r
+  pub widths : (k : ℕ) → k < node_count g → length (slice_index_or s.fields k []) ≡ fields
+  pub all_nodes : length s.fields ≡ node_count g
+  pub idle : s.sent ≡ []
+
+-- globals and nodes show a store, and the graph its edge properties
+pub record Between (s : Setting) (globals : List Value) (nodes : Nodes) (r : Store) : Type 0 where
+  pub shown : Shows s.frame.layout s.image.registers (length s.image.fields) s.run.graph globals nodes r
+  pub edges : ShowsEdges s.frame.layout s.run.graph r
+  pub count : length globals ≡ length s.image.globals
+
+-- a moment of the machine's run is one of the program's: the store is shown, and as many turns were counted, and are left
+pub record IsAt (s : Setting) (m : Moment) (state : State) : Type 0 where
+  pub between : Between s m.control.globals m.nodes state.store
+  pub turns : m.control.turns ≡ state.turns
+  pub left : m.left + state.turns ≡ s.run.bound
+
+-- the result and the counters and flags of the loops around keep their values
+abbrev pub Kept : Setting → ℕ → List Value → List Value → Type 0
+Kept s depth old new =
+    (a : Cell) → is_hidden a ≡ true → is_cell s.frame.layout s.returns depth a ≡ true → value_at new (cell_number s.frame.layout a) ≡ value_at old (cell_number s.frame.layout a)
+
+-- the result is what was returned, where the procedure has one; without a value it is what it was
+abbrev pub HasResult : Setting → Option Value → List Value → List Value → Type 0
+HasResult s None old new = s.returns ≡ true → value_at new s.frame.layout.result ≡ value_at old s.frame.layout.result
+HasResult s (Some v) old new = (s.returns ≡ true) × (value_at new s.frame.layout.result ≡ v)

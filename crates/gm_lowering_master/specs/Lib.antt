@@ -1,0 +1,4 @@
+pub mod Runs
+pub mod Cells
+pub mod Follows
+pub mod Whole

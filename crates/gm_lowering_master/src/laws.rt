@@ -1,0 +1,40 @@
+//! Laws of the master list, as contracts of calls that do nothing.
+
+ghost use Rattle.gm_lowering_master.specs.Follows.{StatementsAreFollowed};
+ghost use Rattle.gm_lowering_master.specs.Runs.{LinesLead};
+ghost use Rattle.gm_lowering_master.specs.Whole.{FirstMomentsShow, LayoutsAreSettings, RunsAreFollowed};
+
+/// A run from a line of the master list goes where that line leads: on, to a superstep and then to the next line, to a
+/// line where a turn begins, if there is one left, or to its end.
+pub fn lines_lead()
+    ensures { LinesLead }
+{}
+
+/// The lines of a statement of a sequential phase do what the statement does, from each moment of a run that shows its
+/// state: the run goes on behind them in a moment that shows the state that the statement leaves, with as many turns
+/// counted and left; at the end of the master list where the procedure returns, with its result; or it has the outcome of
+/// the statement's fault, its place included, or of the cut. It is asked of each parallel loop in the statement that its
+/// supersteps are the loop, and of each reduction that is done at once that its lines do what it does.
+pub fn statements_are_followed()
+    ensures { StatementsAreFollowed }
+{}
+
+/// In the image of a program scalars, the result, counters and flags have globals of their own, locals have registers, and
+/// properties have fields; each is in range.
+pub fn layouts_are_settings()
+    ensures { LayoutsAreSettings }
+{}
+
+/// Before its first step the machine on the image of a program shows the program's first state: globals and fields hold the
+/// inputs, as far as there are arguments and columns for them, and first values, and so does the result.
+pub fn first_moments_show()
+    ensures { FirstMomentsShow }
+{}
+
+/// The machine on the image of a program has the program's outcome, with its turns, or its fault and place, or the cut: on
+/// every graph with the edge columns that the image declares, for all arguments and every bound, where each parallel loop
+/// goes and each reduction that is done at once. The program has types, and the nodes among arguments and in columns are
+/// nodes of the graph.
+pub fn runs_are_followed()
+    ensures { RunsAreFollowed }
+{}
