@@ -1,0 +1,7 @@
+pub mod Joining
+pub mod Trimmed
+pub mod Merged
+pub mod Laws
+pub mod Tests
+pub mod Bounds
+pub mod Earlier
