@@ -6,6 +6,8 @@ mod compounds;
 #[cfg(test)]
 mod conditions;
 #[cfg(test)]
+mod folds;
+#[cfg(test)]
 mod groups;
 #[cfg(test)]
 mod literals;

@@ -10,6 +10,7 @@ use gm_desugar::literals::literals_out;
 use gm_desugar::reads::reads_out;
 use gm_graph::{Graph, RawGraph, Shape, build};
 use gm_meaning::{evaluate, work_of};
+use gm_reductions::folds::folds_out;
 use gm_value::Value;
 use std::alloc::{AllocError, Global};
 use std::process::Abort;
@@ -76,7 +77,11 @@ fn after(alloc: Global, program: Work, passes: u32) -> Result<Work, NoMemory> {
     if passes == 4 {
         return Ok(program);
     }
-    reads_out(alloc, program)
+    let program = reads_out(alloc, program)?;
+    if passes == 5 {
+        return Ok(program);
+    }
+    folds_out(alloc, program)
 }
 
 // How a run ends, in words.
@@ -103,7 +108,7 @@ fn same_on(rt: &impl Abort, alloc: Global, body: &str, graph: &Graph) -> Result<
     )?;
     let before = ending_after(alloc, text.as_str(), graph, 0)?;
     assert!(rt; before.as_str() != "refused", "{body}");
-    for passes in 1..=5u32 {
+    for passes in 1..=6u32 {
         let ending = ending_after(alloc, text.as_str(), graph, passes)?;
         assert_eq!(rt; ending.as_str(), before.as_str(), "{body}");
     }
