@@ -1,8 +1,9 @@
 //! The program `gm`: the streams of the process and the files of the system, handed to the driver.
 #![tactic(auto)]
 
-use gm_base::{DiskFiles, NoMemory, OpenGate, ReadSource, Status, WriteSink};
+use gm_base::{NoMemory, OpenGate, Status};
 use gm_driver::gm;
+use gm_files::{DiskFiles, ReadSource, WriteSink};
 use gm_observe::{Counter, Observer, Table};
 use std::env;
 use std::io::ErrorKind;

@@ -2,7 +2,3 @@ pub mod Places
 pub mod Rules
 pub mod Statuses
 pub mod Merge
-pub mod Streams
-pub mod Memory
-pub mod Files
-pub mod Stops

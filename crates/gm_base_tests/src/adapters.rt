@@ -1,7 +1,8 @@
 //! The adapters of real streams, over a reader and a writer that fail once.
 
 use crate::compare::{same, same_debug};
-use gm_base::{Failed, ReadSource, WriteSink, read_all, write_all};
+use gm_base::Failed;
+use gm_files::{ReadSource, WriteSink, read_all, write_all};
 use std::alloc::{AllocError, Global};
 use std::cell::Cell;
 use std::io;

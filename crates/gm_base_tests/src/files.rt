@@ -1,5 +1,6 @@
 use crate::compare::{same, same_debug};
 use gm_base::*;
+use gm_files::*;
 use std::alloc::{AllocError, Global};
 use std::path::{Path, PathBuf};
 use std::process::Abort;

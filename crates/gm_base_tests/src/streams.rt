@@ -1,5 +1,6 @@
 use crate::compare::{same, same_bytes, same_debug, same_text};
 use gm_base::*;
+use gm_files::*;
 use std::alloc::Global;
 use std::process::Abort;
 use std::test::Fail;

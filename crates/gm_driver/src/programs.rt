@@ -5,7 +5,8 @@ ghost use Rattle.gm_driver.specs.Checks.{IsCheckReply};
 ghost use Rattle.gm_input.specs.Outside.{outside};
 
 use crate::answers::check_text;
-use gm_base::{Files, NoMemory, Source};
+use gm_base::NoMemory;
+use gm_files::{Files, Source};
 use gm_input::{Answer, read_named, unread};
 use std::alloc::Global;
 

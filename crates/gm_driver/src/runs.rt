@@ -9,7 +9,8 @@ ghost use Rattle.gm_driver.specs.Runs.{IsRunReply};
 
 use crate::answers::work_of_text;
 use crate::programs::MOST_PROGRAM;
-use gm_base::{Files, NoMemory, Source, Text};
+use gm_base::{NoMemory, Text};
+use gm_files::{Files, Source};
 use gm_input::{Answer, Halt, read_code, read_graph, settled};
 use gm_run::run_text;
 use gm_words::Options;

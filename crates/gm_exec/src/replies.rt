@@ -10,7 +10,8 @@ ghost use Rattle.gm_exec.specs.Runs.{IsUntold, audience};
 
 use crate::images::image_of;
 use crate::runs::run_text;
-use gm_base::{Files, Gate, NoMemory, Source, Text};
+use gm_base::{Gate, NoMemory, Text};
+use gm_files::{Files, Source};
 use gm_input::{Answer, Halt, read_code, read_graph, settled};
 use gm_observe::Observer;
 use gm_words::Options;

@@ -3,7 +3,7 @@
 ghost use Rattle.std.specs.Prelude.{◌<◌};
 
 use crate::compare::same_bytes;
-use gm_base::{MemSource, read_all};
+use gm_files::{MemSource, read_all};
 use gm_input::{FrontStop, read_front, read_rest};
 use std::alloc::{AllocError, Global};
 use std::test::Fail;

@@ -4,8 +4,9 @@ ghost use Rattle.std.specs.Prelude.{◌<◌, [], IfOk};
 ghost use Rattle.gm_words.specs.Jobs.{AllAssign, AreRight};
 
 use crate::texts::{parts_of, text_of, text_of_lines};
-use gm_base::{Items, MemFiles, MemSource, NoMemory, OpenGate, Status, Text};
+use gm_base::{Items, NoMemory, OpenGate, Status, Text};
 use gm_exec::exec;
+use gm_files::{MemFiles, MemSource};
 use gm_input::Answer;
 use gm_observe::{Counter, Note, Observer, Table};
 use gm_words::{Job, Options, read_words};

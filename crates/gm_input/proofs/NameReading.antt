@@ -3,8 +3,8 @@ use Rattle.std.proofs.Common.{◌≡◌, ◌≤◌, ◌<◌, ◌+◌, ℕ, List,
 use Rattle.std.specs.Prelude.{Some, None, IsSomeAnd}
 use Rattle.std.proofs.lemmas.List.{take-append-drop, take_all, take_at, drop_all}
 use Rattle.std.proofs.Math.Seq.{drop-append_seam}
-use Rattle.gm_base.specs.Files.{file_of, Continues, AddsPart}
-use Rattle.gm_base.specs.Streams.{AppendsFront}
+use Rattle.gm_files.specs.Files.{file_of, Continues, AddsPart}
+use Rattle.gm_files.specs.Streams.{AppendsFront}
 use Rattle.gm_input.specs.Names.{AreFileFront, TakesFirst}
 
 -- these bytes were read so far, where it is told

@@ -3,8 +3,8 @@ use Rattle.std.proofs.Common.{◌≡◌, ◌≢◌, ℕ, List, Option, take, ref
 use Rattle.std.specs.Prelude.{Result, Ok, Err, IfOk, IfErr, Some, None, IsSomeAnd}
 use Rattle.std.specs.Result.{IsErrAnd}
 use Rattle.std.proofs.lemmas.List.{take_all}
-use Rattle.gm_base.specs.Files.{file_of, Lacks}
-use Rattle.gm_base.specs.Streams.{Rises}
+use Rattle.gm_files.specs.Files.{file_of, Lacks}
+use Rattle.gm_files.specs.Streams.{Rises}
 use Rattle.gm_input.specs.declared.fronts.FrontStop.{FrontStop}
 use Rattle.gm_input.specs.declared.fronts.FrontStop.TheVariants as front
 use Rattle.gm_input.specs.declared.names.NameStop.{NameStop}

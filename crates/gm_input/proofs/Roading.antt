@@ -3,7 +3,7 @@ use Rattle.std.proofs.Common.{◌≡◌, ◌≤◌, ◌<◌, ◌+◌, ◌-◌, �
 use Rattle.std.specs.Prelude.{IsTrue, Some, None, option_map}
 use Rattle.std.proofs.lemmas.List.{length-take, length-drop, take_all, drop_all, drop-drop}
 use Rattle.gm_base.specs.declared.statuses.Status.{Status}
-use Rattle.gm_base.specs.Streams.{Rises}
+use Rattle.gm_files.specs.Streams.{Rises}
 use Rattle.gm_input.specs.Fronts.{GaveAtLeast, GaveAtMost, GaveRest, IsFront, ReachesGraph, ReadsBoth, ReadsProgram, Tells, ahead_of, exhausted, farthest, graph_start, piece}
 use Rattle.gm_input.specs.Names.{AreFront}
 use Rattle.gm_input.specs.Outside.{Outside, KeepsFiles, IsUnread, input_fault, file_fault, file_absent}

@@ -1,6 +1,6 @@
 -- What is read under a name: all of a text, or as many of its first bytes as are asked for.
 use Rattle.std.specs.Prelude.{◌≡◌, ◌≢◌, ◌≤◌, ℕ, List, take, drop, length, Option, Some, None, IsSomeAnd}
-use Rattle.gm_base.specs.Files.{file_of}
+use Rattle.gm_files.specs.Files.{file_of}
 use Rattle.gm_input.specs.declared.fronts.FrontStop.{FrontStop}
 use Rattle.gm_input.specs.declared.fronts.FrontStop.TheVariants as front
 use Rattle.gm_input.specs.declared.names.NameStop.{NameStop}

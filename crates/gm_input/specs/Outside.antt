@@ -1,9 +1,9 @@
 -- What stands outside the program, standard input and the files, and what a step reads of it.
 use Rattle.std.specs.Prelude.{◌≡◌, ◌≢◌, ℕ, List, Option, Some, None, drop}
-use Rattle.gm_base.specs.declared.streams.Source as source
-use Rattle.gm_base.specs.declared.named.Files as files
-use Rattle.gm_base.specs.Files.{file_of, Lacks}
-use Rattle.gm_base.specs.Streams.{Rises}
+use Rattle.gm_files.specs.declared.streams.Source as source
+use Rattle.gm_files.specs.declared.named.Files as files
+use Rattle.gm_files.specs.Files.{file_of, Lacks}
+use Rattle.gm_files.specs.Streams.{Rises}
 use Rattle.gm_input.specs.Texts.{standard_input, absent_text, read_fault_text}
 
 -- the outside: what standard input has left, where it tells it, and how many of its reads failed; the files with their

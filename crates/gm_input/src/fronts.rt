@@ -1,7 +1,7 @@
 //! Reading the program of an input that may have a graph behind it, and no more of the input than that asks for.
 
 ghost use Rattle.std.specs.Prelude.{◌≡◌, ◌≢◌, ◌≤◌, ◌<◌, ◌+◌, ◌++◌, ℕ, List, [], true, false, IsTrue, IfOk, Err, length, min, take, drop, vec_len};
-ghost use Rattle.gm_base.specs.Streams.{Rises};
+ghost use Rattle.gm_files.specs.Streams.{Rises};
 ghost use Rattle.gm_input.specs.Fronts.{Appends, GaveAtMost, GaveRest, IsFront, ReachesGraph, ReadsBehind, ahead_of, exhausted, farthest};
 ghost use Rattle.gm_input.specs.Names.{AreFront};
 ghost use Rattle.gm_input.specs.Lines.{AreRead, AreParted, held};
@@ -9,7 +9,8 @@ ghost use Rattle.gm_input.specs.Parts.{program_part, graph_part};
 ghost use Rattle.gm_input.specs.declared.fronts.FrontStop.TheVariants.{NoMemory};
 
 use crate::lines::{LineSoFar, Sought, seek};
-use gm_base::{Failed, Source};
+use gm_base::Failed;
+use gm_files::Source;
 use std::alloc::{AllocError, Global};
 
 // How many bytes are asked for at once.

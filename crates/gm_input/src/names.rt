@@ -1,15 +1,16 @@
 //! Reading what stands under a name, no further than is asked.
 
 ghost use Rattle.std.specs.Prelude.{◌≡◌, ◌≢◌, ◌≤◌, ◌<◌, ◌+◌, ◌↔◌, IfOk, IfErr, IsTrue, Err, length, vec_len};
-ghost use Rattle.gm_base.specs.Files.{AddsPart, Lacks};
-ghost use Rattle.gm_base.specs.Streams.{AppendsFront, Rises};
+ghost use Rattle.gm_files.specs.Files.{AddsPart, Lacks};
+ghost use Rattle.gm_files.specs.Streams.{AppendsFront, Rises};
 ghost use Rattle.gm_input.specs.Names.{AreFileFront, IsFrontOf, IsNameStop, TakesFirst, name_stop};
 ghost use Rattle.gm_input.specs.Outside.{outside};
 ghost use Rattle.gm_input.specs.Texts.{standard_input};
 ghost use Rattle.gm_input.specs.declared.names.NameStop.TheVariants.{NoMemory};
 
 use crate::fronts::FrontStop;
-use gm_base::{Failed, FileFault, Files, Source};
+use gm_base::Failed;
+use gm_files::{FileFault, Files, Source};
 use std::alloc::{AllocError, Global};
 
 // How many bytes are asked for at once.

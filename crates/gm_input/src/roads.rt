@@ -18,7 +18,8 @@ use crate::answers::{
 use crate::fronts::{Front, read_front, read_rest};
 use crate::halts::{Halt, answered};
 use crate::names::{NameStop, are_input, read_named};
-use gm_base::{Files, NoMemory, Source, Text};
+use gm_base::{NoMemory, Text};
+use gm_files::{Files, Source};
 use gm_graph::{Graph, Shape};
 use gm_loader::consume_graph;
 use gm_mtx::consume_mtx;

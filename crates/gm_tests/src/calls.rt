@@ -1,7 +1,8 @@
 //! The whole program over streams and files in memory, and tables of its answers.
 
-use gm_base::{Gate, MemFiles, MemSink, MemSource, NoMemory, OpenGate, Status};
+use gm_base::{Gate, NoMemory, OpenGate, Status};
 use gm_driver::gm;
+use gm_files::{MemFiles, MemSink, MemSource};
 use gm_observe::{Counter, Observer, Table};
 use std::alloc::Global;
 use std::process::Abort;

@@ -1,7 +1,8 @@
 //! The command `check`, over a source, files and a sink in memory.
 
 use crate::calls::{PLAIN, Streams, run_with};
-use gm_base::{MemFiles, Status};
+use gm_base::Status;
+use gm_files::MemFiles;
 use std::alloc::Global;
 use std::test::Fail;
 

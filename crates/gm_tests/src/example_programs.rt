@@ -2,7 +2,8 @@
 
 use crate::calls::{PLAIN, joined, run_with, two_texts};
 use crate::example_texts::{EXAMPLES, Example};
-use gm_base::{MemFiles, Status};
+use gm_base::Status;
+use gm_files::MemFiles;
 use std::alloc::Global;
 use std::test::Fail;
 

@@ -1,7 +1,8 @@
 //! Streams and files that fail in each of their calls in turn, and graphs that are cut anywhere.
 
 use crate::calls::{PLAIN, Streams, call, joined, no_files, run, run_with, status_of};
-use gm_base::{Failed, FileFault, Files, MemFiles, MemSink, MemSource, Source, Status};
+use gm_base::{Failed, Status};
+use gm_files::{FileFault, Files, MemFiles, MemSink, MemSource, Source};
 use std::alloc::Global;
 use std::process::Abort;
 use std::sync::Wait;

@@ -5,7 +5,8 @@ ghost use Rattle.std.specs.Prelude.{[]};
 use crate::calls::{
     BYTE_BY_BYTE, PLAIN, calls_hold, joined, no_files, run, status_of, watched_call,
 };
-use gm_base::{MemSink, MemSource, NoMemory, Status};
+use gm_base::{NoMemory, Status};
+use gm_files::{MemSink, MemSource};
 use gm_observe::{Note, Observer};
 use std::alloc::Global;
 use std::cell::Cell;

@@ -1,7 +1,7 @@
 //! How far standard input is read: what it has left after a call.
 
 use crate::calls::call;
-use gm_base::{MemFiles, MemSink, MemSource, read_all};
+use gm_files::{MemFiles, MemSink, MemSource, read_all};
 use std::alloc::Global;
 use std::sync::Wait;
 use std::test::Fail;

@@ -2,7 +2,8 @@
 
 use crate::calls::{PLAIN, gated_call, joined, no_files, run};
 use crate::image_rows::{BEST, MOST, TOTAL};
-use gm_base::{Gate, MemSink, MemSource, Status};
+use gm_base::{Gate, Status};
+use gm_files::{MemSink, MemSource};
 use gm_observe::Observer;
 use std::alloc::Global;
 use std::process::Abort;

@@ -1,5 +1,5 @@
 use Rattle.std.proofs.Common.{◌∙◌, refl, rules}
-use Rattle.gm_base.specs.Files.{AddsPart}
+use Rattle.gm_files.specs.Files.{AddsPart}
 use Rattle.gm_input.proofs.NameReading.{file_none, file_more}
 use Rattle.gm_input.proofs.names.read_file_front.Goals as goal
 

@@ -1,5 +1,5 @@
 use Rattle.std.proofs.Common.{◌≡◌, ◌+◌, ◌≤◌, ◌∙◌, length, refl, rules}
-use Rattle.gm_base.specs.Streams.{AppendsFront}
+use Rattle.gm_files.specs.Streams.{AppendsFront}
 use Rattle.gm_input.proofs.NameReading.{so_far_none, so_far_more, front_ended}
 use Rattle.gm_input.proofs.names.read_source_front.Goals as goal
 

@@ -1,0 +1,4 @@
+pub mod Streams
+pub mod Memory
+pub mod Files
+pub mod Stops
