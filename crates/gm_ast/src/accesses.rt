@@ -5,14 +5,14 @@ use gm_value::Reduce;
 
 /// What a reduction assignment does: its word, and the variables that it reduces to, in their order. Two
 /// reductions are one operation where these are equal.
-#[derive(Debug, Drop)]
+#[derive(Drop)]
 pub struct Operation {
     pub reduce: Reduce,
     pub targets: Items<u32>,
 }
 
 /// How a variable is accessed in a parallel loop. Own is what goes through the iterator of the outermost loop.
-#[derive(Debug, Drop)]
+#[derive(Drop)]
 pub enum AccessKind {
     /// A read through the outer iterator, or of a scalar.
     OwnRead,
@@ -35,7 +35,7 @@ pub enum AccessKind {
 /// An access to a variable: the place of its first token; the number of the loop in which it counts, from 1 in the
 /// order of the text; the number of the loop directly within the outermost that is around it, 0 where there is none;
 /// the variable, and how it is accessed.
-#[derive(Debug, Drop)]
+#[derive(Drop)]
 pub struct Access {
     pub place: Place,
     pub loop_id: u32,

@@ -11,7 +11,7 @@ use std::marker::Model;
 
 /// A program whose names and types break no rule: it is what a procedure without any violation stands for. Contracts
 /// see it as its tree.
-#[derive(Debug, Drop)]
+#[derive(Drop)]
 pub struct Typed {
     tree: Tree,
 }
@@ -61,7 +61,7 @@ impl Typed {
 
 /// A program that breaks no rule of types, races and canonical form, with the ways of its inner loops' reductions.
 /// Contracts see it as its tree.
-#[derive(Debug, Drop)]
+#[derive(Drop)]
 pub struct Checked {
     tree: Tree,
     ways: Vec<Way>,
@@ -121,7 +121,7 @@ impl Checked {
 }
 
 /// A checked program, or what passes have made of one. Contracts see it as its tree.
-#[derive(Debug, Drop)]
+#[derive(Drop)]
 pub struct Work {
     tree: Tree,
 }

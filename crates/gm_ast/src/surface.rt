@@ -4,7 +4,7 @@ use gm_base::Place;
 use gm_value::{Op2, Reduce, VType};
 
 /// A name as it is written: its bytes, and the place of the first.
-#[derive(Debug, Drop)]
+#[derive(Drop)]
 pub struct Name {
     pub text: Vec<u8>,
     pub place: Place,
@@ -29,7 +29,7 @@ pub enum Bearer {
 }
 
 /// A property type's own part: the place of its word, what bears it, and the graph that it names.
-#[derive(Debug, Drop)]
+#[derive(Drop)]
 pub struct PropertyLayer {
     pub place: Place,
     pub bearer: Bearer,
@@ -39,7 +39,7 @@ pub struct PropertyLayer {
 /// A type as it is written: the innermost word, with its place and the graph that it names, and the property types
 /// around it, the innermost first. More than one is spelled by no accepted program, but a text may nest as many as
 /// it has bytes for.
-#[derive(Debug, Drop)]
+#[derive(Drop)]
 pub struct SpelledType {
     pub place: Place,
     pub word: TypeWord,
@@ -88,7 +88,7 @@ pub enum ReductionWord {
 }
 
 /// What a loop or a reduction runs over, as it is written: `iterator: owner.range`.
-#[derive(Debug, Drop)]
+#[derive(Drop)]
 pub struct SpelledHead {
     pub iterator: Name,
     pub owner: Name,
@@ -97,7 +97,7 @@ pub struct SpelledHead {
 
 /// An expression. The place of an operation is its operator's, that of a cast its parenthesis's, and that of
 /// everything else its first token's.
-#[derive(Debug, Drop)]
+#[derive(Drop)]
 pub enum SpelledExpr {
     Number {
         place: Place,
@@ -161,7 +161,7 @@ pub enum SpelledExpr {
 }
 
 /// The left side of an assignment: a name, or a property of one.
-#[derive(Debug, Drop)]
+#[derive(Drop)]
 pub struct SpelledTarget {
     pub owner: Name,
     pub property: Option<Name>,
@@ -175,7 +175,7 @@ pub enum LoopWord {
 }
 
 /// Where the result of a call goes, with the place of the `=`.
-#[derive(Debug, Drop)]
+#[derive(Drop)]
 pub struct CallResult {
     pub target: SpelledTarget,
     pub equals: Place,
@@ -183,7 +183,7 @@ pub struct CallResult {
 
 /// A statement, with the place of its first token where a rule may name it, and that of its operator. `;` is a
 /// block of no statements.
-#[derive(Debug, Drop)]
+#[derive(Drop)]
 pub enum SpelledStmt {
     Block(Vec<SpelledStmt>),
     Declare {
@@ -277,14 +277,14 @@ pub enum SpelledStmt {
 }
 
 /// Parameters of one type.
-#[derive(Debug, Drop)]
+#[derive(Drop)]
 pub struct SpelledGroup {
     pub names: Vec<Name>,
     pub vtype: SpelledType,
 }
 
 /// A procedure as it is written.
-#[derive(Debug, Drop)]
+#[derive(Drop)]
 pub struct SpelledProcedure {
     pub name: Name,
     pub inputs: Vec<SpelledGroup>,

@@ -28,7 +28,7 @@ pub struct Variable {
 }
 
 /// A row of the table of declarations.
-#[derive(Debug, Drop)]
+#[derive(Drop)]
 pub struct Declaration {
     pub name: Items<u8>,
     pub variable: Variable,
@@ -113,7 +113,7 @@ pub enum Target {
 
 /// An expression. The place of a read is that of its first token, and that of an operation its operator's. An
 /// absent filter is the constant True.
-#[derive(Debug, Drop)]
+#[derive(Drop)]
 pub enum Expr {
     Const(Value),
     Var {
@@ -175,7 +175,7 @@ pub struct Search {
 
 /// A statement. Its key is that of its operators, and its place that of its first token, where a rule may name it.
 /// An absent filter is the constant True, and an absent branch an empty block.
-#[derive(Debug, Drop)]
+#[derive(Drop)]
 pub enum Stmt {
     Block(Vec<Stmt>),
     Declare {
@@ -274,7 +274,7 @@ pub enum Stmt {
 
 /// A procedure: its name; the table of declarations, of which the first are the inputs, the graph among them, and
 /// the next the outputs; the type of its result; how many statement numbers its keys have; and its body.
-#[derive(Debug, Drop)]
+#[derive(Drop)]
 pub struct Tree {
     pub name: Items<u8>,
     pub declarations: Vec<Declaration>,

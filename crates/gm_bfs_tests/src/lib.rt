@@ -9,3 +9,5 @@ mod levels;
 mod parts;
 #[cfg(test)]
 mod runs;
+#[cfg(test)]
+mod searches;

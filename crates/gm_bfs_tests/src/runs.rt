@@ -1,5 +1,6 @@
 //! A program run before and after its searches become loops.
 
+use crate::searches::asks_levels;
 use gm_ast::forms::Work;
 use gm_base::{Items, NoMemory};
 use gm_bfs::levelled::bfs_out;
@@ -109,13 +110,8 @@ fn end_same(
 }
 
 // Whether a program has no search and no range of levels any more.
-fn has_loops_alone(rt: &impl Abort, alloc: Global, body: &str, after: &Work) -> Result<(), Fail> {
-    let tree = after.tree();
-    let text = format!(in alloc; "{tree:?}")?;
-    for word in ["InBfs", "UpNbrs", "DownNbrs"] {
-        assert!(rt; !text.contains(word), "{word} in {body}");
-    }
-    Ok(())
+fn has_loops_alone(rt: &impl Abort, body: &str, after: &Work) {
+    assert!(rt; !asks_levels(&after.tree().body), "levels in {body}");
 }
 
 // Whether a body runs the same after the pass, on each graph, from each root and from none.
@@ -126,7 +122,7 @@ fn runs_same(rt: &impl Abort, alloc: Global, body: &str) -> Result<(), Fail> {
     match (before, after) {
         (Some(before), Some(after)) => {
             let after = bfs_out(alloc, after)?;
-            has_loops_alone(rt, alloc, body, &after)?;
+            has_loops_alone(rt, body, &after);
             for root in [None, Some(0), Some(2), Some(4)] {
                 end_same(
                     rt,

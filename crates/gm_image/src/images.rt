@@ -5,7 +5,7 @@ use gm_base::{Items, Place};
 use gm_value::{Reduce, VType};
 
 /// A vertex program: what it declares, its blocks of vertex lines and its master list.
-#[derive(Debug, Drop)]
+#[derive(Drop)]
 pub struct Image {
     /// The procedure's name.
     pub name: Items<u8>,
@@ -34,7 +34,7 @@ pub struct Image {
 }
 
 /// An input: its type, its name, and the global, the field or the column that starts with it.
-#[derive(Debug, Drop)]
+#[derive(Drop)]
 pub enum InputItem {
     /// An argument, which a global starts with.
     Scalar {
@@ -57,7 +57,7 @@ pub enum InputItem {
 }
 
 /// An output: its type, its name, and the global or the field that holds it.
-#[derive(Debug, Drop)]
+#[derive(Drop)]
 pub enum OutputItem {
     /// A value that a global holds.
     Scalar {
@@ -74,21 +74,21 @@ pub enum OutputItem {
 }
 
 /// A kind of messages: the reduction by which its messages may be combined, and the types of their values.
-#[derive(Debug, Drop)]
+#[derive(Drop)]
 pub struct Kind {
     pub combiner: Option<Reduce>,
     pub values: Items<VType>,
 }
 
 /// What a vertex does in a superstep: the handlers of its messages, and then the body.
-#[derive(Debug, Drop)]
+#[derive(Drop)]
 pub struct Block {
     pub handlers: Items<Handler>,
     pub body: Items<VertexLine>,
 }
 
 /// What a vertex does for each message of a kind.
-#[derive(Debug, Drop)]
+#[derive(Drop)]
 pub struct Handler {
     pub kind: u32,
     pub lines: Items<VertexLine>,

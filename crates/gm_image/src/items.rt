@@ -19,7 +19,7 @@ pub enum Holder {
 }
 
 /// An input or an output: what holds it, its type, its name, and the index of its global, field or column.
-#[derive(Clone, Copy, Debug)]
+#[derive(Clone, Copy)]
 pub struct Item<'a> {
     pub holder: Holder,
     pub vtype: VType,

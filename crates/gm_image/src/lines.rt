@@ -9,7 +9,7 @@ use gm_base::Items;
 use gm_value::{Reduce, Value};
 
 /// An expression. The number before the operands of an operation that may fault is the index of its place.
-#[derive(Debug, Drop)]
+#[derive(Drop)]
 pub enum Expr {
     /// `c T v`: a constant. The one of a node is NIL.
     Const(Value),
@@ -79,7 +79,7 @@ pub enum Expr {
 
 /// A line of a vertex program. A reduction names its place and its slots with their values: one slot, or two and
 /// more, which take the least or the greatest tuple.
-#[derive(Debug, Drop)]
+#[derive(Drop)]
 pub enum VertexLine {
     /// `set F a`: a field becomes a value.
     SetField(u32, Expr),
@@ -134,7 +134,7 @@ impl VertexLine {
 }
 
 /// A line of the master list.
-#[derive(Debug, Drop)]
+#[derive(Drop)]
 pub enum MasterLine {
     /// `set G a`: a global becomes a value.
     SetGlobal(u32, Expr),

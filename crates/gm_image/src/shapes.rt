@@ -12,7 +12,7 @@ use crate::lines::Expr;
 use gm_value::{Op1, Op2, Value};
 
 /// An expression without operands.
-#[derive(Clone, Copy, Debug)]
+#[derive(Clone, Copy)]
 pub enum Leaf {
     /// A constant. The one of a node is NIL.
     Const(Value),
@@ -41,7 +41,7 @@ pub enum Leaf {
 }
 
 /// An operation on one value. One that may fault has the index of its place.
-#[derive(Clone, Copy, Debug)]
+#[derive(Clone, Copy)]
 pub enum One {
     /// The node with an index.
     NodeAt,
@@ -52,7 +52,7 @@ pub enum One {
 }
 
 /// An operation on two values. One that may fault has the index of its place.
-#[derive(Clone, Copy, Debug)]
+#[derive(Clone, Copy)]
 pub enum Two {
     /// An operation on two values.
     Op(Op2, Option<u32>),
@@ -88,7 +88,7 @@ impl Two {
 }
 
 /// What an expression is at its root: a leaf, or an operation with its operands from left to right.
-#[derive(Clone, Copy, Debug)]
+#[derive(Clone, Copy)]
 pub enum Shape<'a> {
     /// No operands.
     Leaf(Leaf),

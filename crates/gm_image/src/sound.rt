@@ -11,7 +11,7 @@ use std::marker::Model;
 
 /// An image that keeps every rule, whose text has fewer than 4,294,967,296 lines, and whose numbers are in the ranges of
 /// their types. Contracts see the image.
-#[derive(Debug, Drop)]
+#[derive(Drop)]
 pub struct Sound {
     image: Image,
 }
