@@ -12,9 +12,10 @@ use gm_value::{VType, Value};
 use std::alloc::Global;
 use std::marker::Model;
 
-// The values of a column, by their type.
+/// The values of a column, as a row of plain numbers or truth values of its type. A row of node indices has the greatest
+/// number where the value is NIL.
 #[derive(Debug, Drop)]
-enum TypedCells {
+pub enum TypedCells {
     Ints(Vec<i32>),
     Longs(Vec<i64>),
     Flags(Vec<bool>),
@@ -64,6 +65,20 @@ impl Column {
             VType::Node => TypedCells::Nodes(Vec::new(alloc)),
         };
         Column { cells }
+    }
+
+    /// A column of a row of plain numbers. It takes no memory.
+    pub fn of(cells: TypedCells) -> Self
+        ensures { result ≡ typed_row cells }
+    {
+        Column { cells }
+    }
+
+    /// The values as a row of plain numbers, for loops over all of them.
+    pub fn cells(&self) -> &TypedCells
+        ensures { typed_row result.now ≡ self.now }
+    {
+        &self.cells
     }
 
     /// The type of the values. Each value is one of that type.
