@@ -5,13 +5,12 @@ use Rattle.gm_value.specs.declared.reductions.Reduce.{Reduce}
 use Rattle.gm_value.specs.declared.reductions.Reduce.TheVariants.{Sum, Product}
 use Rattle.gm_ast.specs.declared.tree.Declaration.{Declaration}
 use Rattle.gm_ast.specs.declared.tree.Head.{Head}
-use Rattle.gm_ast.specs.declared.tree.Key.{Key}
 use Rattle.gm_ast.specs.declared.tree.Target.{Target}
 use Rattle.gm_ast.specs.declared.tree.Target.TheVariants as T
 use Rattle.gm_ast.specs.Ways.{is_in}
 use Rattle.gm_ast.specs.Program.{Expr, Stmt, Skip, Then, Declare, DeclareEdge, Assign, Defer, Combine, Foreach, If, Program}
 use Rattle.gm_forms.specs.Forms.{depth_at, may, is_flat, is_flat_loop, no_loop, is_phase, has_a_way, goes_out}
-use Rattle.gm_forms.specs.Order.{cannot_fail, rest_in, lie_before, faults_of}
+use Rattle.gm_forms.specs.Order.{cannot_fail}
 use Rattle.gm_forms.specs.Sharing.{told_in, reads_in, sights_in, sights_of, with_reads, read_anywhere, written_by, variables_of, written, reduced, kept_in, all_one, disjoint}
 
 -- a mask: it cannot fault, and reads properties and degrees of the loop's own node alone
@@ -28,6 +27,13 @@ touched (Combine k total r ts es) = variables_of ts
 touched (If k c a b) = touched a ++ touched b
 touched (Foreach k at h test body) = touched body
 touched _ = []
+
+-- whether no inner loop of a body writes its own iterator, which so holds a node
+abbrev pub keeps_iterators : Stmt → Bool
+keeps_iterators (Then a b) = keeps_iterators a && keeps_iterators b
+keeps_iterators (If k c a b) = keeps_iterators a && keeps_iterators b
+keeps_iterators (Foreach k at h test body) = not (is_in (touched body) h.iterator)
+keeps_iterators _ = true
 
 -- ---- Sums and Products at random nodes
 
@@ -117,10 +123,10 @@ abbrev pub knows_no_locals : List Declaration → ℕ → ℕ → Expr → Expr 
 knows_no_locals ds n t mask test body =
     list_all (is_no_local ds (n ∷ t ∷ [])) (told_in mask ++ (with_reads (sights_in test) (sights_of ds n true body)).scalars) && spares_locals ds body
 
--- whether a mask stays over an inner loop, and may be asked in it: the body changes neither iterator nor what the mask reads, which is not the inner iterator, and the mask stands before the faults of the body under the key of the inner loop too
-abbrev pub mask_stays : ℕ → Expr → Key → Head → Stmt → Bool
-mask_stays n mask k h body =
-    disjoint (touched body) (n ∷ (h.iterator ∷ (read_anywhere (reads_in mask) ++ told_in mask))) && (not (is_in (told_in mask) h.iterator) && lie_before (rest_in mask k) (faults_of body))
+-- whether a mask stays over an inner loop, and may be asked in it: the body changes neither iterator nor what the mask reads, which is not the inner iterator
+abbrev pub mask_stays : ℕ → Expr → Head → Stmt → Bool
+mask_stays n mask h body =
+    disjoint (touched body) (n ∷ (h.iterator ∷ (read_anywhere (reads_in mask) ++ told_in mask))) && not (is_in (told_in mask) h.iterator)
 
 -- whether the locals that an inner body writes are no properties that the inner loop reads or reduces
 abbrev pub has_plain_locals : List Declaration → ℕ → Expr → Stmt → Bool
@@ -128,14 +134,14 @@ has_plain_locals ds n test body =
     disjoint (written ds n true body) (read_anywhere (reads_in test ++ (sights_of ds n true body).properties) ++ kept_in (reduced ds n true body))
 
 -- an inner loop that stands alone under a mask: besides, its reductions to one variable do the same to the same targets, and nothing can fault behind a Sum or Product through a node variable
-abbrev pub is_edge_loop : List Declaration → ℕ → Expr → Key → Head → Expr → Stmt → Bool
-is_edge_loop ds n mask k h test body =
-    knows_no_locals ds n h.iterator mask test body && (mask_stays n mask k h body && (has_plain_locals ds n test body
+abbrev pub is_edge_loop : List Declaration → ℕ → Expr → Head → Expr → Stmt → Bool
+is_edge_loop ds n mask h test body =
+    knows_no_locals ds n h.iterator mask test body && (mask_stays n mask h body && (has_plain_locals ds n test body
     && (all_one (reduced ds n true body) && adds_last (n ∷ h.iterator ∷ []) body)))
 
 -- a body that is one inner loop of a kind, along the edges of the loop's own node
 abbrev pub is_along_edges : (ℕ → Head → Expr → Stmt → Bool) → List Declaration → ℕ → Expr → Stmt → Bool
-is_along_edges kind ds n mask (Foreach k at h test body) = kind n h test body && is_edge_loop ds n mask k h test body
+is_along_edges kind ds n mask (Foreach k at h test body) = kind n h test body && is_edge_loop ds n mask h test body
 is_along_edges kind ds n mask _ = false
 
 -- a loop that is cut: own statements under any filter, or one inner loop under a mask

@@ -19,6 +19,7 @@ use Rattle.gm_semantics.specs.Expressions.{Answer, settled, plain, choice, evalu
 use Rattle.gm_semantics.specs.Iterations.{Loop, Mode, Iteration, view_in}
 use Rattle.gm_model.specs.Graphs.{node_count}
 use Rattle.gm_forms.specs.Forms.{depth_at, is_flat, is_outer_body}
+use Rattle.gm_forms.specs.Cut.{keeps_iterators}
 use Rattle.gm_forms.specs.Order.{lie_before, rest_in, hoisted_in, hoists_in_order, faults_in, in_order, faults_of, body_in_order, loop_in_order}
 use Rattle.gm_forms.specs.Sharing.{Read, Sights, with_reads, reads_in, told_in, sights_in, sights_of, read_elsewhere, read_anywhere, deferred, Reduced, reduced, pushed_in, owned_in, disjoint}
 use Rattle.gm_forms.specs.Fission.{left, changed, reduced_locals, pushed_properties, all_agree_with, reduces_whole, is_nil, can_cut}
@@ -111,7 +112,7 @@ module _ (ds : List Declaration) (n m : ℕ) (key : Key) (at : Place) (pushed : 
   pub record CutParts : Type 0 where
     pub outer : is_outer_body ds false n (Then a b) ≡ true
     pub nothing : is_nil (deferred (Then a b)) ≡ true
-    pub order : loop_in_order key mask (Then a b) ≡ true
+    pub order : loop_in_order (n ∷ []) key mask (Then a b) ≡ true
     pub agree : all_agree_with pushed all ≡ true
     pub pushes : list_all (is_in pushed) (pushed_properties n (Then a b)) ≡ true
     pub quiet : disjoint (pushed_in all ++ pushed) (read_anywhere seen.properties ++ (seen.scalars ++ left ds n (Then a b))) ≡ true
@@ -121,12 +122,13 @@ module _ (ds : List Declaration) (n m : ℕ) (key : Key) (at : Place) (pushed : 
     pub saved : not (is_in (changed ds n a) m) ≡ true
     pub locals : disjoint (changed ds n a) ((sights_of ds n false b).scalars ++ reduced_locals ds b) ≡ true
     pub whole : reduces_whole ds n pushed false (Then a b) ≡ true
+    pub keeps : keeps_iterators (Then a b) ≡ true
 
   pub cut-parts : can_cut ds n m key at pushed a b ≡ true → CutParts
   cut-parts h =
       let c1 = both-true (is_outer_body ds false n (Then a b)) _ h in
       let c2 = both-true (is_nil (deferred (Then a b))) _ c1.1 in
-      let c3 = both-true (loop_in_order key mask (Then a b)) _ c2.1 in
+      let c3 = both-true (loop_in_order (n ∷ []) key mask (Then a b)) _ c2.1 in
       let c4 = both-true (all_agree_with pushed all) _ c3.1 in
       let c5 = both-true (list_all (is_in pushed) (pushed_properties n (Then a b))) _ c4.1 in
       let c6 = both-true (disjoint (pushed_in all ++ pushed) (read_anywhere seen.properties ++ (seen.scalars ++ left ds n (Then a b)))) _ c5.1 in
@@ -135,11 +137,12 @@ module _ (ds : List Declaration) (n m : ℕ) (key : Key) (at : Place) (pushed : 
       let c9 = both-true (not (is_in (changed ds n (Then a b)) n)) _ c8.1 in
       let c10 = both-true (not (is_in (changed ds n a) m)) _ c9.1 in
       let c11 = both-true (disjoint (changed ds n a) ((sights_of ds n false b).scalars ++ reduced_locals ds b)) _ c10.1 in
-      record { outer = c1.0; nothing = c2.0; order = c3.0; agree = c4.0; pushes = c5.0; quiet = c6.0; away = c7.0; shallow = c8.0; iterator = c9.0; saved = c10.0; locals = c11.0; whole = c11.1 }
+      let c12 = both-true (reduces_whole ds n pushed false (Then a b)) (keeps_iterators (Then a b)) c11.1 in
+      record { outer = c1.0; nothing = c2.0; order = c3.0; agree = c4.0; pushes = c5.0; quiet = c6.0; away = c7.0; shallow = c8.0; iterator = c9.0; saved = c10.0; locals = c11.0; whole = c12.0; keeps = c12.1 }
 
   pub parts-cut : CutParts → can_cut ds n m key at pushed a b ≡ true
   parts-cut p =
-      and-true _ _ p.outer (and-true _ _ p.nothing (and-true _ _ p.order (and-true _ _ p.agree (and-true _ _ p.pushes (and-true _ _ p.quiet (and-true _ _ p.away (and-true _ _ p.shallow (and-true _ _ p.iterator (and-true _ _ p.saved (and-true _ _ p.locals p.whole))))))))))
+      and-true _ _ p.outer (and-true _ _ p.nothing (and-true _ _ p.order (and-true _ _ p.agree (and-true _ _ p.pushes (and-true _ _ p.quiet (and-true _ _ p.away (and-true _ _ p.shallow (and-true _ _ p.iterator (and-true _ _ p.saved (and-true _ _ p.locals (and-true _ _ p.whole p.keeps)))))))))))
 
 -- an If with one branch under such a condition is cut as its branch
 module _ (ds : List Declaration) (n m : ℕ) (key : Key) (at : Place) (pushed : List ℕ) (k : Key) (place : Place) (f g : ℕ → Value) (ks : List ℕ) (a b : Stmt) where
@@ -173,11 +176,11 @@ module _ (ds : List Declaration) (n m : ℕ) (key : Key) (at : Place) (pushed : 
   changed-first : changed ds n when_first ≡ changed ds n a
   changed-first = ap (λ l. l ++ owned_in (reduced ds n false a ++ [])) (append-nil (left ds n a)) ∙ ap (λ rs. left ds n a ++ owned_in rs) (append-nil (reduced ds n false a))
 
-  faults-of : (E : ℕ → Value) (s : Stmt) → faults_of (If k (chosen n place E ks) s Skip) ≡ faults_of s
+  faults-of : (E : ℕ → Value) (s : Stmt) → faults_of (n ∷ []) (If k (chosen n place E ks) s Skip) ≡ faults_of (n ∷ []) s
   faults-of E s =
-      ap (λ l. (l ++ rest_in (chosen n place E ks) k) ++ (faults_of s ++ [])) (chosen-hoisted n place E ks)
-      ∙ ap (λ l. l ++ (faults_of s ++ [])) (chosen-rest n place E ks k)
-      ∙ append-nil (faults_of s)
+      ap (λ l. (l ++ rest_in (chosen n place E ks) k) ++ (faults_of (n ∷ []) s ++ [])) (chosen-hoisted n place E ks)
+      ∙ ap (λ l. l ++ (faults_of (n ∷ []) s ++ [])) (chosen-rest n place E ks k)
+      ∙ append-nil (faults_of (n ∷ []) s)
 
   in-order : (E : ℕ → Value) → in_order (chosen n place E ks) k ≡ true
   in-order E =
@@ -192,12 +195,12 @@ module _ (ds : List Declaration) (n m : ℕ) (key : Key) (at : Place) (pushed : 
       none [] = refl
       none (z ∷ zs) = none zs
 
-  part-order : (E : ℕ → Value) (s : Stmt) → body_in_order s ≡ true → body_in_order (If k (chosen n place E ks) s Skip) ≡ true
+  part-order : (E : ℕ → Value) (s : Stmt) → body_in_order (n ∷ []) s ≡ true → body_in_order (n ∷ []) (If k (chosen n place E ks) s Skip) ≡ true
   part-order E s h =
       let c = chosen n place E ks in
-      and-true (in_order c k) _ (in-order E) (and-true (body_in_order s) _ h
-      (and-true (lie_before (faults_in c k) (faults_of s ++ [])) (lie_before (faults_of s) [])
-      (before-nothing (faults_in c k) (faults_of s ++ []) (ap (λ l. l ++ rest_in c k) (chosen-hoisted n place E ks) ∙ chosen-rest n place E ks k)) refl))
+      and-true (in_order c k) _ (in-order E) (and-true (body_in_order (n ∷ []) s) _ h
+      (and-true (lie_before (faults_in c k) (faults_of (n ∷ []) s ++ [])) (lie_before (faults_of (n ∷ []) s) [])
+      (before-nothing (faults_in c k) (faults_of (n ∷ []) s ++ []) (ap (λ l. l ++ rest_in c k) (chosen-hoisted n place E ks) ∙ chosen-rest n place E ks k)) refl))
 
   abbrev old : Sights
   old = seen ds n m key at pushed a b
@@ -250,18 +253,19 @@ module _ (ds : List Declaration) (n m : ℕ) (key : Key) (at : Place) (pushed : 
   more : CutParts ds n m key at pushed a b → CutParts ds n m key at pushed when_first when_second
   more p =
       let bodies = both-true (is_outer_body ds false n a) (is_outer_body ds false n b) p.outer in
-      let o1 = both-true (in_order (Property n m at) key) (body_in_order (Then a b) && lie_before (faults_in (Property n m at) key) (faults_of (Then a b))) p.order in
-      let o2 = both-true (body_in_order (Then a b)) (lie_before (faults_in (Property n m at) key) (faults_of (Then a b))) o1.1 in
-      let o3 = both-true (body_in_order a) (body_in_order b && lie_before (faults_of a) (faults_of b)) o2.0 in
-      let o4 = both-true (body_in_order b) (lie_before (faults_of a) (faults_of b)) o3.1 in
+      let o1 = both-true (in_order (Property n m at) key) (body_in_order (n ∷ []) (Then a b) && lie_before (faults_in (Property n m at) key) (faults_of (n ∷ []) (Then a b))) p.order in
+      let o2 = both-true (body_in_order (n ∷ []) (Then a b)) (lie_before (faults_in (Property n m at) key) (faults_of (n ∷ []) (Then a b))) o1.1 in
+      let o3 = both-true (body_in_order (n ∷ []) a) (body_in_order (n ∷ []) b && lie_before (faults_of (n ∷ []) a) (faults_of (n ∷ []) b)) o2.0 in
+      let o4 = both-true (body_in_order (n ∷ []) b) (lie_before (faults_of (n ∷ []) a) (faults_of (n ∷ []) b)) o3.1 in
       let w = both-true (reduces_whole ds n pushed false a) (reduces_whole ds n pushed false b) p.whole in
+      let z = both-true (keeps_iterators a) (keeps_iterators b) p.keeps in
       let off : IsIn n (changed ds n (Then a b)) → ⊥ = λ i. both_ways (is_in (changed ds n (Then a b)) n) (not-true (is_in (changed ds n (Then a b)) n) p.iterator) (finds (changed ds n (Then a b)) n i) in
       record {
         outer = and-true _ _ (and-true _ _ (chosen-flat n place f ks) (and-true _ _ bodies.0 refl)) (and-true _ _ (chosen-flat n place g ks) (and-true _ _ bodies.1 refl));
         nothing = ap is_nil (ends (deferred a) (deferred b)) ∙ p.nothing;
         order = and-true _ _ o1.0 (and-true _ _
-            (and-true _ _ (part-order f a o3.0) (and-true _ _ (part-order g b o4.0) (ap (λ l. lie_before l (faults_of when_second)) (faults-of f a) ∙ ap (lie_before (faults_of a)) (faults-of g b) ∙ o4.1)))
-            (ap (λ l. lie_before (faults_in (Property n m at) key) (l ++ faults_of when_second)) (faults-of f a) ∙ ap (λ l. lie_before (faults_in (Property n m at) key) (faults_of a ++ l)) (faults-of g b) ∙ o2.1));
+            (and-true _ _ (part-order f a o3.0) (and-true _ _ (part-order g b o4.0) (ap (λ l. lie_before l (faults_of (n ∷ []) when_second)) (faults-of f a) ∙ ap (lie_before (faults_of (n ∷ []) a)) (faults-of g b) ∙ o4.1)))
+            (ap (λ l. lie_before (faults_in (Property n m at) key) (l ++ faults_of (n ∷ []) when_second)) (faults-of f a) ∙ ap (λ l. lie_before (faults_in (Property n m at) key) (faults_of (n ∷ []) a ++ l)) (faults-of g b) ∙ o2.1));
         agree = ap (all_agree_with pushed) reduced-same ∙ p.agree;
         pushes = ap (list_all (is_in pushed)) (ends (pushed_properties n a) (pushed_properties n b)) ∙ p.pushes;
         quiet = apart-disjoint _ _ (λ y i j.
@@ -283,6 +287,7 @@ module _ (ds : List Declaration) (n m : ℕ) (key : Key) (at : Place) (pushed : 
             (λ r. disjoint-apart _ _ y p.locals i' (in-right y (sights_of ds n false b).scalars (reduced_locals ds b) (subst (IsIn y) (append-nil (reduced_locals ds b)) r)))
             (in-either y (sights_of ds n false when_second).scalars (reduced_locals ds when_second) j));
         whole = and-true _ _ (and-true _ _ w.0 refl) (and-true _ _ w.1 refl);
+        keeps = and-true _ _ (and-true _ _ z.0 refl) (and-true _ _ z.1 refl);
       }
 
   pub when-cut : can_cut ds n m key at pushed a b ≡ true → can_cut ds n m key at pushed when_first when_second ≡ true

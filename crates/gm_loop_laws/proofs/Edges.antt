@@ -8,6 +8,7 @@ use Rattle.gm_value.proofs.BagLaws.{SameBag-refl, SameBag-sym, SameBag-append_le
 use Rattle.gm_model.specs.Graphs.{NumberedGraph, Edge, Step, IsWithin, IsGraph, node_count, out_steps, in_steps}
 use Rattle.gm_semantics.specs.Faults.{joined}
 use Rattle.gm_semantics.specs.Levels.{numbers_from, nodes}
+use Rattle.gm_forms.proofs.Steps.{all-within}
 use Rattle.gm_loop_laws.proofs.Joins.{map-compose, map-each}
 
 each-all : {A B : Type 0} (F G : A → B) (xs : List A) → ((x : A) → F x ≡ G x) → map F xs ≡ map G xs
@@ -70,14 +71,6 @@ group-known {A} {B} key f (e ∷ es) k = by_test (nat_eq (key e) k) refl (group-
       map (f k) (cond b (e ∷ filter (λ e. nat_eq (key e) k) es) (filter (λ e. nat_eq (key e) k) es)) ≡ map (λ e. f (key e) e) (cond b (e ∷ filter (λ e. nat_eq (key e) k) es) (filter (λ e. nat_eq (key e) k) es))
   by_test true i h = ap (λ n. f n e ∷ map (f k) (filter (λ e. nat_eq (key e) k) es)) (sym (eqb-true (key e) k i)) ∙ ap (λ ys. f (key e) e ∷ ys) h
   by_test false i h = h
-
--- edges of a graph are between its nodes
-pub all-within : (m j : ℕ) (es : List Edge) → All (IsWithin m) es → (e : ℕ × Edge) → IsIn e (enumerate_from j es) → IsWithin m e.1
-all-within m j [] h e i = absurd i
-all-within m j (x ∷ es) h e i =
-    ⊎_elim
-    (λ (is : e ≡ (j, x)). let first : 0 < length (x ∷ es) = omega arith in subst (λ (z : ℕ × Edge). IsWithin m z.1) (sym is) (h 0 x first))
-    (λ r. all-within m (j + 1) es (λ k d less. let more : suc k < length (x ∷ es) = omega (arith, less) in h (suc k) d more) e r) i
 
 -- what each edge gives, gathered node by node along out-edges, is what it gives gathered along in-edges
 pub flipped-bag : {B : Type 0} (g : NumberedGraph) (f : ℕ → ℕ → ℕ → B) → IsGraph g →

@@ -253,6 +253,7 @@ pub record Lone (ds : List Declaration) (n : ℕ) (h : Head) (test : Expr) (body
   pub owner : h.owner ≡ n
   pub range : is_range false h.domain ≡ true
   pub test_flat : IsFlat test
+  pub test_reads : is_flat (n ∷ h.iterator ∷ []) true test ≡ true
   pub inner : is_inner_body ds (n ∷ h.iterator ∷ []) true body ≡ true
 
 pub lone : (ds : List Declaration) (n : ℕ) (k : Key) (here : Place) (h : Head) (test : Expr) (body : Stmt) → is_outer_body ds false n (Foreach k here h test body) ≡ true → Lone ds n h test body
@@ -266,6 +267,7 @@ lone ds n k here h test body o =
       owner = eqb-true h.owner n c.0;
       range = b.0;
       test_flat = flat (n ∷ h.iterator ∷ []) true test d.0;
+      test_reads = d.0;
       inner = d.1;
     }
 

@@ -280,7 +280,7 @@ module _ (ds : List Declaration) (loop : Loop) (depths : (y : ℕ) → loop.dept
     Free f = Unit {0}
 
     abbrev May : Stmt → ℕ → Type 0
-    May s e = MayDo Never (GivenBy x) Free n x s (Anywhere Never (GivenBy x) Free n x) (AtEdge e) (ends_late loop)
+    May s e = MayDo Never (GivenBy x) Free n x [] s (Anywhere Never (GivenBy x) Free n x) (AtEdge e) (ends_late loop)
 
     abbrev Among : List Reduced → Type 0
     Among rs = (r : Reduced) → IsIn r rs → IsIn r RD
@@ -328,11 +328,11 @@ module _ (ds : List Declaration) (loop : Loop) (depths : (y : ℕ) → loop.dept
 
     may-reduce : (e : ℕ) (k : Key) (total : TotalKey) (r : Reduce) (ts : List Target) (es : List Expr) → AreFlat es → are_alike ts ≡ true → (sp → list_all (λ t. not (is_outer_local ds t)) ts ≡ true) → list_all (is_in some) (elsewhere_of n ts) ≡ true →
         Off (written_at_once ds n true ts) → Among (all_reduced_by ds n true total.key.statement r ts) →
-        MayReduce Never (GivenBy x) Free n x (Anywhere Never (GivenBy x) Free n x) (ends_of_all (AtEdge e) (ends_late loop) ts) k total r ts es
+        MayReduce Never (GivenBy x) Free n x [] (Anywhere Never (GivenBy x) Free n x) (ends_of_all (AtEdge e) (ends_late loop) ts) k total r ts es
     may-reduce e k total r ts es fl a l p off among =
-        subst (λ f. MayReduce Never (GivenBy x) Free n x (Anywhere Never (GivenBy x) Free n x) f k total r ts es) (sym (late-ends loop n (λ p. true) pp e ts)) (by (list_all (is_once loop.depth) ts) refl)
+        subst (λ f. MayReduce Never (GivenBy x) Free n x [] (Anywhere Never (GivenBy x) Free n x) f k total r ts es) (sym (late-ends loop n (λ p. true) pp e ts)) (by (list_all (is_once loop.depth) ts) refl)
       where
-        by : (b : Bool) → list_all (is_once loop.depth) ts ≡ b → MayReduce Never (GivenBy x) Free n x (Anywhere Never (GivenBy x) Free n x) (ends_by b true) k total r ts es
+        by : (b : Bool) → list_all (is_once loop.depth) ts ≡ b → MayReduce Never (GivenBy x) Free n x [] (Anywhere Never (GivenBy x) Free n x) (ends_by b true) k total r ts es
         by true o =
             let at : are_at_once ds n true ts ≡ true = sym (once-same ts) ∙ o in
             ((λ node h. once-slots node ts o (λ y i. off y (subst (λ b. IsIn y (cond b (variables_of ts) [])) (sym at) i))), fl, λ f i. tt)

@@ -1,6 +1,6 @@
 -- The law of inner loops that are cut in two.
-use Rattle.std.proofs.Common.{◌≡◌, ◌≢◌, ℕ, Bool, true, false, cond, List, [], ◌∷◌, ◌++◌, map, refl, sym, ap, subst, ◌∙◌, append-nil, append_assoc, Option, Some, None, Result, Ok, Err, ⊎_elim, inr}
-use Rattle.std.specs.Prelude.{◌&&◌, ◌||◌, not, nat_eq}
+use Rattle.std.proofs.Common.{◌≡◌, ◌≢◌, ℕ, Bool, true, false, cond, List, [], ◌∷◌, ◌++◌, map, refl, sym, ap, subst, ◌∙◌, append-nil, append_assoc, Option, Some, None, Result, Ok, Err, ⊎_elim, inr, inl}
+use Rattle.std.specs.Prelude.{◌<◌, ◌&&◌, ◌||◌, not, nat_eq}
 use Rattle.std.specs.List.{list_any}
 use Rattle.std.proofs.lemmas.Bool.{cases_Bool, eq-eqb, both_ways}
 use Rattle.gm_base.specs.declared.places.Place.{Place}
@@ -9,8 +9,10 @@ use Rattle.gm_value.specs.declared.values.Value.{Value}
 use Rattle.gm_value.specs.Bag.{IsIn, SameBag}
 use Rattle.gm_value.proofs.BagLaws.{SameBag-append_left}
 use Rattle.gm_value.specs.Operations.{is_true}
-use Rattle.gm_model.specs.Graphs.{Step}
+use Rattle.gm_model.specs.Graphs.{Step, IsGraph, node_count}
 use Rattle.gm_ast.specs.declared.tree.Declaration.{Declaration}
+use Rattle.gm_ast.specs.declared.tree.Domain.{Domain}
+use Rattle.gm_ast.specs.declared.tree.Domain.TheVariants as D
 use Rattle.gm_ast.specs.declared.tree.Head.{Head}
 use Rattle.gm_ast.specs.declared.tree.Key.{Key}
 use Rattle.gm_ast.specs.Keys as K
@@ -24,7 +26,7 @@ use Rattle.gm_semantics.specs.Faults.{least, somes, joined, unless_fault, then_w
 use Rattle.gm_semantics.specs.Levels.{nodes}
 use Rattle.gm_semantics.specs.Expressions.{Answer, value}
 use Rattle.gm_semantics.specs.Contributions.{Contribution, settled_store, total_faults}
-use Rattle.gm_semantics.specs.Iterations.{Loop, Iteration, begun, unless_failed, with_ok, one_way, as_it_is, AtEdge, view_in, does}
+use Rattle.gm_semantics.specs.Iterations.{Loop, Iteration, begun, unless_failed, with_ok, one_way, as_it_is, Outermost, AtEdge, view_in, does}
 use Rattle.gm_semantics.specs.Loops.{parallel}
 use Rattle.gm_semantics.specs.Laws.{OneReduction}
 use Rattle.gm_semantics.proofs.LeastLaws.{least-same}
@@ -32,14 +34,17 @@ use Rattle.gm_semantics.proofs.Leasts.{least-of_first}
 use Rattle.gm_semantics.specs.Faults.{lesser}
 use Rattle.gm_semantics.proofs.ContributionLaws.{has_first, settled_store-same, total_faults-same}
 use Rattle.gm_semantics.proofs.TargetLaws.{value-away, read-settled}
-use Rattle.gm_forms.specs.Cut.{spares_locals}
-use Rattle.gm_forms.specs.Forms.{depth_at, is_range, is_inner_body, is_outer_body}
+use Rattle.gm_forms.specs.Cut.{touched, spares_locals}
+use Rattle.gm_forms.specs.Forms.{depth_at, is_range, is_flat, is_inner_body, is_outer_body}
 use Rattle.gm_forms.specs.Order.{lie_before, rest_in, hoisted_in, faults_in, faults_of}
 use Rattle.gm_forms.specs.Sharing.{Reduced, reduced, reduced_by, are_at_once, variables_of, disjoint}
-use Rattle.gm_forms.specs.Doing.{named, IsFlat, EachSlot, Anywhere, Did, Gave}
+use Rattle.gm_forms.specs.Doing.{named, IsFlat, EachSlot, Anywhere, Did, Gave, Sure}
 use Rattle.gm_forms.specs.Reading.{Agrees}
 use Rattle.gm_forms.proofs.Named.{both-true}
 use Rattle.gm_forms.proofs.Doings.{in-left, in-right, in-either, least-in, value-fails, does-did, each-in, gave-from, total_faults-of}
+use Rattle.gm_forms.proofs.Steps.{nodes-below, step-within}
+use Rattle.gm_forms.proofs.Held.{in-append, stays, edge-sure}
+use Rattle.gm_forms.proofs.CutTests.{not-true, Covers, turned, flat-beside}
 use Rattle.gm_forms.proofs.CutLaws.{lies-in}
 use Rattle.gm_forms.proofs.ReadingFrames.{read-write}
 use Rattle.gm_loop_laws.specs.Alone.{stands_alone}
@@ -196,12 +201,16 @@ module _ (ds : List Declaration) (some : List ℕ) (loop : Loop) (depths : (y : 
 -- one turn of all three
 module _ (ds : List Declaration) (some : List ℕ) (loop : Loop) (depths : (y : ℕ) → loop.depth y ≡ depth_at ds y) (m : ℕ) (key k : Key) (at : Place) (h : Head) (test : Expr) (a b : Stmt) (s u : Store) (apart : nat_eq h.iterator loop.outer ≡ false) (its : List ℕ)
     (own : is_in its loop.outer ≡ true) (inner-a : is_inner_body ds its true a ≡ true) (inner-b : is_inner_body ds its true b ≡ true) (off-b : never_writes loop.outer b ≡ true) (gone : List ℕ)
-    (agree : Agrees (Untouched gone) s u) (kept-n : IsIn loop.outer gone → ⊥) (reads : spares gone (Both (Property loop.outer m at) test) ≡ true) (knows-a : knows_none gone its (quiet ds loop.outer a) ≡ true) (knows-b : knows_none gone its b ≡ true) where
+    (agree : Agrees (Untouched gone) s u) (kept-n : IsIn loop.outer gone → ⊥) (reads : spares gone (Both (Property loop.outer m at) test) ≡ true) (knows-a : knows_none gone its (quiet ds loop.outer a) ≡ true) (knows-b : knows_none gone its b ≡ true)
+    (graph : IsGraph loop.graph) (keeps-q : is_in (touched (quiet ds loop.outer a)) h.iterator ≡ false) (keeps-b : is_in (touched b) h.iterator ≡ false) (sub : Covers its (h.iterator ∷ loop.outer ∷ [])) where
   abbrev n : ℕ
   n = loop.outer
 
+  abbrev around : List ℕ
+  around = h.iterator ∷ n ∷ []
+
   abbrev FS : List K.Fault
-  FS = faults_of b
+  FS = faults_of around b
 
   abbrev filter' : Expr
   filter' = Both (Property n m at) test
@@ -231,8 +240,8 @@ module _ (ds : List Declaration) (some : List ℕ) (loop : Loop) (depths : (y : 
   One p w r = Triple (λ f. IsIn (named f) FS) (λ c. IsIn (named (total_fault c.total)) FS) p w r
 
   -- where the filter passes
-  passes : (x y e : ℕ) → One (does a (AtEdge e) (ends_late loop) (begun (both-at s x y))) (does (Then a b) (AtEdge e) (ends_late loop) (begun (both-at s x y))) (does (Then (quiet ds n a) b) (AtEdge e) (ends_late loop) (begun (both-at u x y)))
-  passes x y e = record {
+  passes : (x y e : ℕ) → x < node_count loop.graph → y < node_count loop.graph → One (does a (AtEdge e) (ends_late loop) (begun (both-at s x y))) (does (Then a b) (AtEdge e) (ends_late loop) (begun (both-at s x y))) (does (Then (quiet ds n a) b) (AtEdge e) (ends_late loop) (begun (both-at u x y)))
+  passes x y e xb yb = record {
     failed = λ f d. let same = ap (λ z. unless_failed z A (does b (AtEdge e) (ends_late loop))) d in (ap (λ (it : Iteration). it.fault) same ∙ d, ap (λ (it : Iteration). it.with_outermost) same);
     fault = λ d. (behind d).0;
     gives = λ d. (behind d).1;
@@ -259,6 +268,9 @@ module _ (ds : List Declaration) (some : List ℕ) (loop : Loop) (depths : (y : 
       q-fine : A.fault ≡ None → Q.fault ≡ None
       q-fine d = (q-at d).follows.fault ∙ d
 
+      at-inner : (both-at u x y).scalar h.iterator ≡ At (Some y)
+      at-inner = ap (λ c. cond c (At (Some y)) ((write u (Scalar n) (At (Some x))).scalar h.iterator)) (eq-eqb h.iterator h.iterator refl)
+
       q-held : A.fault ≡ None → Q.store.scalar n ≡ At (Some x)
       q-held d = (q-at d).agree.at (Scalar n) kept-n ∙ (q-at d).follows.iterator
 
@@ -272,11 +284,12 @@ module _ (ds : List Declaration) (some : List ℕ) (loop : Loop) (depths : (y : 
       b-did : A.fault ≡ None → Did (Anywhere (OffTotal ds (ends_late loop) x FS) (TotalIn ds (ends_late loop) x FS) (FaultIn ds (ends_late loop) x FS) n x) (OffTotal ds (ends_late loop) x FS) (TotalIn ds (ends_late loop) x FS) (FaultIn ds (ends_late loop) x FS) n x Q (does b (AtEdge e) (ends_late loop) Q)
           × ((does b (AtEdge e) (ends_late loop) Q).store.scalar n ≡ At (Some x))
       b-did d =
-          does-did (OffTotal ds (ends_late loop) x FS) (TotalIn ds (ends_late loop) x FS) (FaultIn ds (ends_late loop) x FS) n x (λ c o. o.0) (λ c o. o.1) b _ (λ c o. anywhere c.slots) (AtEdge e) (ends_late loop) Q
-          (inner-faults ds (ends_late loop) x FS b e its inner-b (λ f i. i) off-b) (q-held d) (q-fine d)
+          does-did (OffTotal ds (ends_late loop) x FS) (TotalIn ds (ends_late loop) x FS) (FaultIn ds (ends_late loop) x FS) n x (λ c o. o.0) (λ c o. o.1) around b _ (λ c o. anywhere c.slots) (AtEdge e) (ends_late loop) Q
+          (inr (edge-sure loop.graph n h.iterator b e Q.store x y graph (q-held d) xb (stays h.iterator y (quiet ds n a) (ends_late loop) e (begun (both-at u x y)) keeps-q at-inner) yb keeps-b))
+          (inner-faults ds (ends_late loop) x FS b e its around sub inner-b (λ f i. i) off-b) (q-held d) (q-fine d)
 
-  one-turn : (x y e : ℕ) → One (turn-of a s x y e) (turn-of (Then a b) s x y e) (turn-of (Then (quiet ds n a) b) u x y e)
-  one-turn x y e =
+  one-turn : (x y e : ℕ) → x < node_count loop.graph → y < node_count loop.graph → One (turn-of a s x y e) (turn-of (Then a b) s x y e) (turn-of (Then (quiet ds n a) b) u x y e)
+  one-turn x y e xb yb =
       subst (λ z. One (turn-of a s x y e) (turn-of (Then a b) s x y e) (with_ok j z (λ v. one_way (is_true v) (does (Then (quiet ds n a) b) (AtEdge e) (ends_late loop)) as_it_is j))) (sym same) (by (value filter' (view_in loop (AtEdge e) i k)))
     where
       i : Iteration
@@ -298,7 +311,7 @@ module _ (ds : List Declaration) (some : List ℕ) (loop : Loop) (depths : (y : 
 
           way : (o : Bool) → One (one_way o (does a (AtEdge e) (ends_late loop)) as_it_is (begun (both-at s x y))) (one_way o (does (Then a b) (AtEdge e) (ends_late loop)) as_it_is (begun (both-at s x y))) (one_way o (does (Then (quiet ds n a) b) (AtEdge e) (ends_late loop)) as_it_is (begun (both-at u x y)))
           way false = record { failed = λ g d. let bad : None ≡ Some g = d in absurd (cc); fault = λ d. refl; gives = λ d. refl; late = λ d g c. let bad : None ≡ Some g = c in absurd (cc); total = λ d c i. absurd i }
-          way true = passes x y e
+          way true = passes x y e xb yb
 
 -- all of some turns
 abbrev AllIts : (Iteration → Type 0) → List Iteration → Type 0
@@ -368,15 +381,63 @@ nil-both : {A : Type 0} (xs ys : List A) → xs ++ ys ≡ [] → (xs ≡ []) × 
 nil-both [] ys e = (refl, e)
 nil-both (x ∷ xs) ys e = absurd (cc)
 
+-- steps along edges lead to nodes of the graph
+along-within : (loop : Loop) (s : Store) (k : Key) → IsGraph loop.graph → (d : Domain) (x : ℕ) (e : Step) → IsIn e (along d loop.graph x) → e.node < node_count loop.graph
+along-within loop s k is D.Nodes x e i = absurd i
+along-within loop s k is D.OutNbrs x e i = step-within (view_in loop Outermost (begun s) k) is D.OutNbrs (Some x) e i
+along-within loop s k is D.InNbrs x e i = step-within (view_in loop Outermost (begun s) k) is D.InNbrs (Some x) e i
+along-within loop s k is D.UpNbrs x e i = absurd i
+along-within loop s k is D.DownNbrs x e i = absurd i
+
+-- what a body that gives nothing touches
+or-none : (b c : Bool) → b || c ≡ false → (b ≡ false) × (c ≡ false)
+or-none true c h = absurd (both_ways true h refl)
+or-none false c h = (refl, h)
+
+none-append : (y : ℕ) (xs ys : List ℕ) → is_in xs y ≡ false → is_in ys y ≡ false → is_in (xs ++ ys) y ≡ false
+none-append y [] ys h g = g
+none-append y (x ∷ xs) ys h g = let r = or-none (nat_eq y x) (is_in xs y) h in ap (λ b. b || is_in (xs ++ ys) y) r.0 ∙ none-append y xs ys r.1 g
+
+quiet-touches : (ds : List Declaration) (n y : ℕ) (s : Stmt) → is_in (touched s) y ≡ false → is_in (touched (quiet ds n s)) y ≡ false
+quiet-touches ds n y Skip h = h
+quiet-touches ds n y (Then a b) h =
+    let r = in-append y (touched a) (touched b) h in none-append y (touched (quiet ds n a)) (touched (quiet ds n b)) (quiet-touches ds n y a r.0) (quiet-touches ds n y b r.1)
+quiet-touches ds n y (Declare k x e) h = h
+quiet-touches ds n y (DeclareEdge x z at) h = h
+quiet-touches ds n y (Assign k t e) h = h
+quiet-touches ds n y (Defer k t e) h = h
+quiet-touches ds n y (Combine k total r ts es) h = by (are_at_once ds n true ts)
+  where
+    by : (b : Bool) → is_in (touched (cond b (Combine k total r ts es) Skip)) y ≡ false
+    by true = h
+    by false = refl
+quiet-touches ds n y (Group k at g p e) h = h
+quiet-touches ds n y (Foreach k at head test body) h = h
+quiet-touches ds n y (For k at head test body) h = h
+quiet-touches ds n y (If k c a b) h =
+    let r = in-append y (touched a) (touched b) h in none-append y (touched (quiet ds n a)) (touched (quiet ds n b)) (quiet-touches ds n y a r.0) (quiet-touches ds n y b r.1)
+quiet-touches ds n y (While k at c body) h = h
+quiet-touches ds n y (Do k at body c) h = h
+quiet-touches ds n y (InBfs k at head c body) h = h
+quiet-touches ds n y (InBfsBoth k at head c body back_key d back) h = h
+quiet-touches ds n y (Return k at e) h = h
+
 -- the law, by its conditions
 module _ (ds : List Declaration) (some : List ℕ) (loop : Loop) (depths : (y : ℕ) → loop.depth y ≡ depth_at ds y) (known : (p : ℕ) → is_in some p ≡ true → loop.pushed p ≡ true)
     (m : ℕ) (key k : Key) (at here : Place) (h : Head) (test : Expr) (a b : Stmt) (s : Store) (apart : nat_eq h.iterator loop.outer ≡ false) (owner : h.owner ≡ loop.outer) (range : is_range false h.domain ≡ true)
     (flat-test : IsFlat test) (its : List ℕ) (own : is_in its loop.outer ≡ true) (inner-w : is_inner_body ds its true (Then a b) ≡ true) (inner-r : is_inner_body ds its true (Then (quiet ds loop.outer a) b) ≡ true)
     (alone-w : Stands ds some loop.outer (Then a b)) (alone-a : Stands ds some loop.outer a) (alone-r : Stands ds some loop.outer (Then (quiet ds loop.outer a) b))
     (spares-w : spares_locals ds (Then a b) ≡ true) (spares-r : spares_locals ds (Then (quiet ds loop.outer a) b) ≡ true) (off : never_writes loop.outer (Then a b) ≡ true)
-    (order : lie_before (faults_in (Both (Property loop.outer m at) test) k ++ faults_of a) (faults_of b) ≡ true) (others : disjoint (given_by ds loop.outer a) (given_by ds loop.outer b) ≡ true)
+    (order : lie_before (faults_in (Both (Property loop.outer m at) test) k ++ faults_of (h.iterator ∷ loop.outer ∷ []) a) (faults_of (h.iterator ∷ loop.outer ∷ []) b) ≡ true) (others : disjoint (given_by ds loop.outer a) (given_by ds loop.outer b) ≡ true)
     (out : IsIn loop.outer (given_by ds loop.outer a) → ⊥) (reads : spares (given_by ds loop.outer a) (Both (Property loop.outer m at) test) ≡ true)
-    (knows : knows_none (given_by ds loop.outer a) its (Then (quiet ds loop.outer a) b) ≡ true) where
+    (knows : knows_none (given_by ds loop.outer a) its (Then (quiet ds loop.outer a) b) ≡ true)
+    (graph : IsGraph loop.graph) (keeps : is_in (touched (Then a b)) h.iterator ≡ false) (sub : Covers its (h.iterator ∷ loop.outer ∷ [])) (test-reads : is_flat its true test ≡ true) where
+  abbrev js : List ℕ
+  js = h.iterator ∷ loop.outer ∷ []
+
+  keeps-parts : (is_in (touched a) h.iterator ≡ false) × (is_in (touched b) h.iterator ≡ false)
+  keeps-parts = in-append h.iterator (touched a) (touched b) keeps
+
   abbrev gone : List ℕ
   gone = given_by ds loop.outer a
 
@@ -416,10 +477,10 @@ module _ (ds : List Declaration) (some : List ℕ) (loop : Loop) (depths : (y : 
           bad (Node p l) g i = g i
 
   abbrev Second : Contribution → Type 0
-  Second c = IsIn (named (total_fault c.total)) (faults_of b) × IsIn c (given TR)
+  Second c = IsIn (named (total_fault c.total)) (faults_of js b) × IsIn c (given TR)
 
   abbrev LateFault : Fault → Type 0
-  LateFault f = IsIn (named f) (faults_of b)
+  LateFault f = IsIn (named f) (faults_of js b)
 
   abbrev tA : ℕ → Step → Iteration
   tA x e = turn ds some loop depths known m key k at here h test a s apart owner range flat-test its inner-a alone-a spares-a x e
@@ -430,38 +491,38 @@ module _ (ds : List Declaration) (some : List ℕ) (loop : Loop) (depths : (y : 
   abbrev tR : ℕ → Step → Iteration
   tR x e = turn ds some loop depths known m key k at here h test rest s1 apart owner range flat-test its inner-r alone-r spares-r x e
 
-  one : (x : ℕ) (e : Step) → ((c : Contribution) → IsIn c (tR x e).with_outermost → IsIn c (given TR)) → Triple LateFault Second (tA x e) (tW x e) (tR x e)
-  one x e into =
+  one : (x : ℕ) (e : Step) → x < node_count loop.graph → e.node < node_count loop.graph → ((c : Contribution) → IsIn c (tR x e).with_outermost → IsIn c (given TR)) → Triple LateFault Second (tA x e) (tW x e) (tR x e)
+  one x e xb eb into =
       let kn = both-true (knows_none gone its (quiet ds loop.outer a)) (knows_none gone its b) knows in
-      let t = one-turn ds some loop depths m key k at h test a b s s1 apart its own inner-a inner-b (both-true (never_writes loop.outer a) (never_writes loop.outer b) off).1 gone between out reads kn.0 kn.1 x e.node e.edge in
+      let t = one-turn ds some loop depths m key k at h test a b s s1 apart its own inner-a inner-b (both-true (never_writes loop.outer a) (never_writes loop.outer b) off).1 gone between out reads kn.0 kn.1 graph (quiet-touches ds loop.outer h.iterator a keeps-parts.0) keeps-parts.1 sub x e.node e.edge xb eb in
       record { failed = t.failed; fault = t.fault; gives = t.gives; late = t.late; total = λ d c i. (t.total d c i, into c i) }
 
-  of-steps : (x : ℕ) (l : List Step) → ((c : Contribution) → IsIn c (given (map (tR x) l)) → IsIn c (given TR)) → Triples LateFault Second (map (tA x) l) (map (tW x) l) (map (tR x) l)
-  of-steps x [] into = tt
-  of-steps x (e ∷ l) into =
-      (one x e (λ c i. into c (in-left c (tR x e).with_outermost (given (map (tR x) l)) i)), of-steps x l (λ c i. into c (in-right c (tR x e).with_outermost (given (map (tR x) l)) i)))
+  of-steps : (x : ℕ) → x < node_count loop.graph → (l : List Step) → ((e : Step) → IsIn e l → e.node < node_count loop.graph) → ((c : Contribution) → IsIn c (given (map (tR x) l)) → IsIn c (given TR)) → Triples LateFault Second (map (tA x) l) (map (tW x) l) (map (tR x) l)
+  of-steps x xb [] lb into = tt
+  of-steps x xb (e ∷ l) lb into =
+      (one x e xb (lb e (inl refl)) (λ c i. into c (in-left c (tR x e).with_outermost (given (map (tR x) l)) i)), of-steps x xb l (λ d i. lb d (inr i)) (λ c i. into c (in-right c (tR x e).with_outermost (given (map (tR x) l)) i)))
 
-  of-nodes : (zs : List ℕ) → ((c : Contribution) → IsIn c (given (joined (map (λ x. map (tR x) (along h.domain loop.graph x)) zs))) → IsIn c (given TR)) →
+  of-nodes : (zs : List ℕ) → ((z : ℕ) → IsIn z zs → IsIn z (nodes loop.graph)) → ((c : Contribution) → IsIn c (given (joined (map (λ x. map (tR x) (along h.domain loop.graph x)) zs))) → IsIn c (given TR)) →
       Triples LateFault Second (joined (map (λ x. map (tA x) (along h.domain loop.graph x)) zs)) (joined (map (λ x. map (tW x) (along h.domain loop.graph x)) zs)) (joined (map (λ x. map (tR x) (along h.domain loop.graph x)) zs))
-  of-nodes [] into = tt
-  of-nodes (z ∷ zs) into =
+  of-nodes [] zb into = tt
+  of-nodes (z ∷ zs) zb into =
       let l = along h.domain loop.graph z in
       triples-append LateFault Second (map (tA z) l) (map (tW z) l) (map (tR z) l) _ _ _
-      (of-steps z l (λ c i. into c (given-left c (map (tR z) l) (joined (map (λ x. map (tR x) (along h.domain loop.graph x)) zs)) i)))
-      (of-nodes zs (λ c i. into c (given-right c (map (tR z) l) (joined (map (λ x. map (tR x) (along h.domain loop.graph x)) zs)) i)))
+      (of-steps z (nodes-below loop.graph z (zb z (inl refl))) l (along-within loop s k graph h.domain z) (λ c i. into c (given-left c (map (tR z) l) (joined (map (λ x. map (tR x) (along h.domain loop.graph x)) zs)) i)))
+      (of-nodes zs (λ y i. zb y (inr i)) (λ c i. into c (given-right c (map (tR z) l) (joined (map (λ x. map (tR x) (along h.domain loop.graph x)) zs)) i)))
 
   parts : Parted LateFault Second TA TW TR
-  parts = parted LateFault Second TA TW TR (of-nodes (nodes loop.graph) (λ c i. i))
+  parts = parted LateFault Second TA TW TR (of-nodes (nodes loop.graph) (λ z i. i) (λ c i. i))
 
   -- the faults of the filter and of the first part
   abbrev early : List K.Fault
-  early = faults_in (Both (Property loop.outer m at) test) k ++ faults_of a
+  early = faults_in (Both (Property loop.outer m at) test) k ++ faults_of js a
 
   abbrev Early : Iteration → Type 0
   Early it = ((f : Fault) → it.fault ≡ Some f → IsIn (named f) early) × ((c : Contribution) → IsIn c it.with_outermost → IsIn (named (total_fault c.total)) early)
 
-  early-turn : (x : ℕ) (e : Step) → Early (tA x e)
-  early-turn x e = by (value filter'' (view_in loop (AtEdge e.edge) (begun (start x e.node)) k)) refl
+  early-turn : (x : ℕ) (e : Step) → x < node_count loop.graph → e.node < node_count loop.graph → Early (tA x e)
+  early-turn x e xb eb = by (value filter'' (view_in loop (AtEdge e.edge) (begun (start x e.node)) k)) refl
     where
       filter'' : Expr
       filter'' = Both (Property loop.outer m at) test
@@ -476,11 +537,16 @@ module _ (ds : List Declaration) (some : List ℕ) (loop : Loop) (depths : (y : 
       holds : (start x e.node).scalar loop.outer ≡ At (Some x)
       holds = ap (λ c. cond c (At (Some e.node)) ((write s (Scalar loop.outer) (At (Some x))).scalar loop.outer)) apart ∙ ap (λ c. cond c (At (Some x)) (s.scalar loop.outer)) (eq-eqb loop.outer loop.outer refl)
 
+      sure : Sure loop.outer js a (AtEdge e.edge) loop.graph (start x e.node)
+      sure =
+          edge-sure loop.graph loop.outer h.iterator a e.edge (start x e.node) x e.node graph holds xb
+          (ap (λ c. cond c (At (Some e.node)) ((write s (Scalar loop.outer) (At (Some x))).scalar h.iterator)) (eq-eqb h.iterator h.iterator refl)) eb keeps-parts.0
+
       way : (o : Bool) → Early (one_way o (does a (AtEdge e.edge) (ends_late loop)) as_it_is (begun (start x e.node)))
       way false = ((λ f d. let bad : None ≡ Some f = d in absurd (cc)), λ c i. absurd i)
       way true =
-          let d = (does-did (OffTotal ds (ends_late loop) x early) (TotalIn ds (ends_late loop) x early) (FaultIn ds (ends_late loop) x early) loop.outer x (λ c o. o.0) (λ c o. o.1) a _ (λ c o. anywhere c.slots) (AtEdge e.edge) (ends_late loop) (begun (start x e.node))
-          (inner-faults ds (ends_late loop) x early a e.edge its inner-a (λ f i. in-right f (faults_in filter'' k) (faults_of a) i) (both-true (never_writes loop.outer a) (never_writes loop.outer b) off).0) holds refl).0 in (
+          let d = (does-did (OffTotal ds (ends_late loop) x early) (TotalIn ds (ends_late loop) x early) (FaultIn ds (ends_late loop) x early) loop.outer x (λ c o. o.0) (λ c o. o.1) js a _ (λ c o. anywhere c.slots) (AtEdge e.edge) (ends_late loop) (begun (start x e.node)) (inr sure)
+          (inner-faults ds (ends_late loop) x early a e.edge its js sub inner-a (λ f i. in-right f (faults_in filter'' k) (faults_of js a) i) (both-true (never_writes loop.outer a) (never_writes loop.outer b) off).0) holds refl).0 in (
             (λ f c. ⊎_elim (λ (z : None ≡ Some f). absurd (cc)) (λ r. r) (d.fault f c)),
             λ c i. each-in (TotalIn ds (ends_late loop) x early) (does a (AtEdge e.edge) (ends_late loop) (begun (start x e.node))).with_outermost c (gave-from (TotalIn ds (ends_late loop) x early) _ d.outermost) i,
           )
@@ -490,17 +556,18 @@ module _ (ds : List Declaration) (some : List ℕ) (loop : Loop) (depths : (y : 
       by (Err g) q = (
         (λ f d.
             let same : g ≡ f = cc in
-            in-left (named f) (faults_in filter'' k) (faults_of a) (in-right (named f) (hoisted_in filter'') (rest_in filter'' k) (value-fails (view_in loop (AtEdge e.edge) (begun (start x e.node)) k) refl filter'' (tt, flat-test) f (q ∙ ap Err same)))),
+            in-left (named f) (faults_in filter'' k) (faults_of js a) (in-right (named f) (hoisted_in filter'') (rest_in filter'' k)
+            (subst (IsIn (named f)) (flat-beside its js true filter'' k sub (ap (λ o. o && is_flat its true test) own ∙ test-reads)) (value-fails (view_in loop (AtEdge e.edge) (begun (start x e.node)) k) refl js sure.held filter'' (tt, flat-test) f (q ∙ ap Err same))))),
         λ c i. absurd i,
       )
 
-  early-steps : (x : ℕ) (l : List Step) → AllIts Early (map (tA x) l)
-  early-steps x [] = tt
-  early-steps x (e ∷ l) = (early-turn x e, early-steps x l)
+  early-steps : (x : ℕ) → x < node_count loop.graph → (l : List Step) → ((e : Step) → IsIn e l → e.node < node_count loop.graph) → AllIts Early (map (tA x) l)
+  early-steps x xb [] lb = tt
+  early-steps x xb (e ∷ l) lb = (early-turn x e xb (lb e (inl refl)), early-steps x xb l (λ d i. lb d (inr i)))
 
-  early-nodes : (zs : List ℕ) → AllIts Early (joined (map (λ x. map (tA x) (along h.domain loop.graph x)) zs))
-  early-nodes [] = tt
-  early-nodes (z ∷ zs) = all-append Early (map (tA z) (along h.domain loop.graph z)) (joined (map (λ x. map (tA x) (along h.domain loop.graph x)) zs)) (early-steps z (along h.domain loop.graph z)) (early-nodes zs)
+  early-nodes : (zs : List ℕ) → ((z : ℕ) → IsIn z zs → IsIn z (nodes loop.graph)) → AllIts Early (joined (map (λ x. map (tA x) (along h.domain loop.graph x)) zs))
+  early-nodes [] zb = tt
+  early-nodes (z ∷ zs) zb = all-append Early (map (tA z) (along h.domain loop.graph z)) (joined (map (λ x. map (tA x) (along h.domain loop.graph x)) zs)) (early-steps z (nodes-below loop.graph z (zb z (inl refl))) (along h.domain loop.graph z) (along-within loop s k graph h.domain z)) (early-nodes zs (λ y i. zb y (inr i)))
 
   all-with : (Q S : Iteration → Type 0) (xs : List Iteration) → ((it : Iteration) → Q it → S it) → AllIts Q xs → AllIts S xs
   all-with Q S [] f p = tt
@@ -508,15 +575,15 @@ module _ (ds : List Declaration) (some : List ℕ) (loop : Loop) (depths : (y : 
 
   first-faults : (f : Fault) → IsIn f (fails TA ++ total_faults s (given TA)) → IsIn (named f) early
   first-faults f i =
-      ⊎_elim (λ l. fails-all (λ f. IsIn (named f) early) TA (all-with Early _ TA (λ it q. q.0) (early-nodes (nodes loop.graph))) f l)
-      (λ r. total_faults-of (λ f. IsIn (named f) early) (given TA) (λ c q. gives-all (λ c. IsIn (named (total_fault c.total)) early) TA (all-with Early _ TA (λ it q. q.1) (early-nodes (nodes loop.graph))) c q) s f r)
+      ⊎_elim (λ l. fails-all (λ f. IsIn (named f) early) TA (all-with Early _ TA (λ it q. q.0) (early-nodes (nodes loop.graph) (λ z i. i))) f l)
+      (λ r. total_faults-of (λ f. IsIn (named f) early) (given TA) (λ c q. gives-all (λ c. IsIn (named (total_fault c.total)) early) TA (all-with Early _ TA (λ it q. q.1) (early-nodes (nodes loop.graph) (λ z i. i))) c q) s f r)
       (in-either f (fails TA) (total_faults s (given TA)) i)
 
   abbrev M : List Contribution
   M = parts.gives
 
-  second-faults : (f : Fault) → IsIn f (parts.faults ++ total_faults s M) → IsIn (named f) (faults_of b)
-  second-faults f i = ⊎_elim (λ l. parts.late f l) (λ r. total_faults-of (λ f. IsIn (named f) (faults_of b)) M (λ c q. (parts.total c q).0) s f r) (in-either f parts.faults (total_faults s M) i)
+  second-faults : (f : Fault) → IsIn f (parts.faults ++ total_faults s M) → IsIn (named f) (faults_of js b)
+  second-faults f i = ⊎_elim (λ l. parts.late f l) (λ r. total_faults-of (λ f. IsIn (named f) (faults_of js b)) M (λ c q. (parts.total c q).0) s f r) (in-either f parts.faults (total_faults s M) i)
 
   -- both give to different slots
   no-slot : (c d : Contribution) (slot : Slot) → IsIn c (given TA) → IsIn d M → has_slot slot c.slots ≡ true → has_slot slot d.slots ≡ true → ⊥
@@ -567,7 +634,7 @@ module _ (ds : List Declaration) (some : List ℕ) (loop : Loop) (depths : (y : 
           ap (λ o. unless_fault o (Ok (settled_store s (given TW))))
           (whole-least ∙ least-same (swapped FA parts.faults XA (total_faults s M))
           ∙ least-of_first (FA ++ XA) (parts.faults ++ total_faults s M) f e
-          (all-after f (parts.faults ++ total_faults s M) (λ g i. fault-order f g (lies-in early (faults_of b) (named f) (named g) order (first-faults f (least-in (FA ++ XA) f e)) (second-faults g i)))))
+          (all-after f (parts.faults ++ total_faults s M) (λ g i. fault-order f g (lies-in early (faults_of js b) (named f) (named g) order (first-faults f (least-in (FA ++ XA) f e)) (second-faults g i)))))
           ∙ sym (ap (λ o. then_with (unless_fault o (Ok s1)) next) e)
       by None e =
           let nothing = nil-both FA XA (least-nothing (FA ++ XA) e) in
@@ -595,11 +662,13 @@ inner-loops-cut = λ ds some loop m key k at here h test a b s knows cut.
     let c6 = both-true (spares_locals ds (Then a b)) _ c5.1 in
     let c7 = both-true (spares_locals ds rest) _ c6.1 in
     let c8 = both-true (never_writes n (Then a b)) _ c7.1 in
-    let c9 = both-true (lie_before (faults_in (Both (Property n m at) test) k ++ faults_of a) (faults_of b)) _ c8.1 in
+    let c9 = both-true (lie_before (faults_in (Both (Property n m at) test) k ++ faults_of (h.iterator ∷ n ∷ []) a) (faults_of (h.iterator ∷ n ∷ []) b)) _ c8.1 in
     let c10 = both-true (disjoint (given_by ds n a) (given_by ds n b)) _ c9.1 in
     let c11 = both-true (not (is_in (given_by ds n a) n)) _ c10.1 in
-    let c12 = both-true (spares (given_by ds n a) (Both (Property n m at) test)) (knows_none (given_by ds n a) (n ∷ h.iterator ∷ []) rest) c11.1 in
+    let c12 = both-true (spares (given_by ds n a) (Both (Property n m at) test)) (knows_none (given_by ds n a) (n ∷ h.iterator ∷ []) rest && not (is_in (touched (Then a b)) h.iterator)) c11.1 in
+    let c13 = both-true (knows_none (given_by ds n a) (n ∷ h.iterator ∷ []) rest) (not (is_in (touched (Then a b)) h.iterator)) c12.1 in
     let w = lone ds n k here h test (Then a b) c1.0 in
     let r = lone ds n k here h test rest c2.0 in
     inner-cut ds some loop knows.depth (λ p e. knows.pushed_is p ∙ e) m key k at here h test a b s w.apart w.owner w.range w.test_flat (n ∷ h.iterator ∷ []) (ap (λ o. o || is_in (h.iterator ∷ []) n) (eq-eqb n n refl)) w.inner r.inner
-    (stands ds some n (Then a b) c3.0) (stands ds some n a c4.0) (stands ds some n rest c5.0) c6.0 c7.0 c8.0 c9.0 c10.0 (not-in (given_by ds n a) n c11.0) c12.0 c12.1
+    (stands ds some n (Then a b) c3.0) (stands ds some n a c4.0) (stands ds some n rest c5.0) c6.0 c7.0 c8.0 c9.0 c10.0 (not-in (given_by ds n a) n c11.0) c12.0 c13.0
+    knows.graph (not-true (is_in (touched (Then a b)) h.iterator) c13.1) (turned n h.iterator) w.test_reads

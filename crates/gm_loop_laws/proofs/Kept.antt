@@ -117,38 +117,38 @@ module _ (ds : List Declaration) (loop : Loop) (x : ℕ) (L : List ℕ) (out : I
     slots-both node (T.Scalar y at ∷ ts) w = ((lift (Scalar y) (w y (inl refl)), nat_eq-apart y n (off y (w y (inl refl)))), slots-both node ts (λ z i. w z (inr i)))
     slots-both node (T.Property y p at ∷ ts) w = ((lift (Node p (node y)) (w p (inl refl)), refl), slots-both node ts (λ z i. w z (inr i)))
 
-    may-reduce : (ends : Ends) (k : Key) (total : TotalKey) (r : Reduce) (ts : List Target) (es : List Expr) → Within (variables_of ts) → AreFlat es → MayReduce GivesOff Gives Any n x P ends k total r ts es
-    may-reduce AtOnce k total r ts es w fl = ((λ node e. slots-both node ts w), fl, λ f i. tt)
-    may-reduce WithInner k total r ts es w fl = ((λ node e vs. (slots-touch node ts w, slots-off node ts w)), fl, λ f i. tt)
-    may-reduce WithOutermost k total r ts es w fl = ((λ node e vs. slots-touch node ts w), fl, λ f i. tt)
+    may-reduce : (js : List ℕ) (ends : Ends) (k : Key) (total : TotalKey) (r : Reduce) (ts : List Target) (es : List Expr) → Within (variables_of ts) → AreFlat es → MayReduce GivesOff Gives Any n x js P ends k total r ts es
+    may-reduce js AtOnce k total r ts es w fl = ((λ node e. slots-both node ts w), fl, λ f i. tt)
+    may-reduce js WithInner k total r ts es w fl = ((λ node e vs. (slots-touch node ts w, slots-off node ts w)), fl, λ f i. tt)
+    may-reduce js WithOutermost k total r ts es w fl = ((λ node e vs. slots-touch node ts w), fl, λ f i. tt)
 
   abbrev Places : Slot → Type 0
   Places = Anywhere GivesOff Gives Any n x
 
-  inner-may : (s : Stmt) (e : ℕ) (its : List ℕ) → is_inner_body ds its true s ≡ true → Within (touched s) → MayDo GivesOff Gives Any n x s Places (AtEdge e) loop
-  inner-may Skip e its g w = tt
-  inner-may (Then a b) e its g w = let r = both-true _ _ g in (inner-may a e its r.0 (λ y i. w y (in-left y (touched a) (touched b) i)), inner-may b e its r.1 (λ y i. w y (in-right y (touched a) (touched b) i)))
-  inner-may (Declare k y None) e its g w = (tt, off y (w y (inl refl)), tt)
-  inner-may (Declare k y (Some v)) e its g w = let r = both-true _ _ g in (tt, off y (w y (inl refl)), (flat its true v r.1, λ f i. tt))
-  inner-may (DeclareEdge y z at) e its g w = tt
-  inner-may (Assign k (T.Scalar y at) v) e its g w = let r = both-true _ _ g in (tt, off y (w y (inl refl)), flat its true v r.1, λ f i. tt)
-  inner-may (Assign k (T.Property y q at) v) e its g w = absurd (both_ways false refl g)
-  inner-may (Defer k t v) e its g w = absurd (both_ways false refl g)
-  inner-may (Combine k total r ts es) e its g w = let q = both-true _ _ g in may-reduce Places (λ slot t. tt) (ends_of_all (AtEdge e) loop ts) k total r ts es w (all-flat its true es q.1)
-  inner-may (Group k at y q v) e its g w = absurd (both_ways false refl g)
-  inner-may (Foreach k at h test body) e its g w = absurd (both_ways false refl g)
-  inner-may (For k at h test body) e its g w = absurd (both_ways false refl g)
-  inner-may (If k c a b) e its g w =
+  inner-may : (s : Stmt) (e : ℕ) (its js : List ℕ) → is_inner_body ds its true s ≡ true → Within (touched s) → MayDo GivesOff Gives Any n x js s Places (AtEdge e) loop
+  inner-may Skip e its js g w = tt
+  inner-may (Then a b) e its js g w = let r = both-true _ _ g in (inner-may a e its js r.0 (λ y i. w y (in-left y (touched a) (touched b) i)), inner-may b e its js r.1 (λ y i. w y (in-right y (touched a) (touched b) i)))
+  inner-may (Declare k y None) e its js g w = (tt, off y (w y (inl refl)), tt)
+  inner-may (Declare k y (Some v)) e its js g w = let r = both-true _ _ g in (tt, off y (w y (inl refl)), (flat its true v r.1, λ f i. tt))
+  inner-may (DeclareEdge y z at) e its js g w = tt
+  inner-may (Assign k (T.Scalar y at) v) e its js g w = let r = both-true _ _ g in (tt, off y (w y (inl refl)), flat its true v r.1, λ f i. tt)
+  inner-may (Assign k (T.Property y q at) v) e its js g w = absurd (both_ways false refl g)
+  inner-may (Defer k t v) e its js g w = absurd (both_ways false refl g)
+  inner-may (Combine k total r ts es) e its js g w = let q = both-true _ _ g in may-reduce Places (λ slot t. tt) js (ends_of_all (AtEdge e) loop ts) k total r ts es w (all-flat its true es q.1)
+  inner-may (Group k at y q v) e its js g w = absurd (both_ways false refl g)
+  inner-may (Foreach k at h test body) e its js g w = absurd (both_ways false refl g)
+  inner-may (For k at h test body) e its js g w = absurd (both_ways false refl g)
+  inner-may (If k c a b) e its js g w =
       let r = both-true _ _ g in
       let s = both-true _ _ r.1 in
-      ((flat its true c r.0, λ f i. tt), inner-may a e its s.0 (λ y i. w y (in-left y (touched a) (touched b) i)), inner-may b e its s.1 (λ y i. w y (in-right y (touched a) (touched b) i)))
-  inner-may (While k at c body) e its g w = absurd (both_ways false refl g)
-  inner-may (Do k at body c) e its g w = absurd (both_ways false refl g)
-  inner-may (InBfs k at h test body) e its g w = absurd (both_ways false refl g)
-  inner-may (InBfsBoth k at h test body back_key back_test back) e its g w = absurd (both_ways false refl g)
-  inner-may (Return k at v) e its g w = absurd (both_ways false refl g)
+      ((flat its true c r.0, λ f i. tt), inner-may a e its js s.0 (λ y i. w y (in-left y (touched a) (touched b) i)), inner-may b e its js s.1 (λ y i. w y (in-right y (touched a) (touched b) i)))
+  inner-may (While k at c body) e its js g w = absurd (both_ways false refl g)
+  inner-may (Do k at body c) e its js g w = absurd (both_ways false refl g)
+  inner-may (InBfs k at h test body) e its js g w = absurd (both_ways false refl g)
+  inner-may (InBfsBoth k at h test body back_key back_test back) e its js g w = absurd (both_ways false refl g)
+  inner-may (Return k at v) e its js g w = absurd (both_ways false refl g)
 
-  pub outer-may : (s : Stmt) → is_outer_body ds false n s ≡ true → is_nil (deferred s) ≡ true → Within (touched s) → MayDo GivesOff Gives Any n x s Touch Outermost loop
+  pub outer-may : (s : Stmt) → is_outer_body ds false n s ≡ true → is_nil (deferred s) ≡ true → Within (touched s) → MayDo GivesOff Gives Any n x (n ∷ []) s Touch Outermost loop
   outer-may Skip g d w = tt
   outer-may (Then a b) g d w =
       let r = both-true _ _ g in
@@ -161,13 +161,13 @@ module _ (ds : List Declaration) (loop : Loop) (x : ℕ) (L : List ℕ) (out : I
   outer-may (Assign k (T.Property y q at) v) g d w = let r = both-true _ _ g in ((λ i a. w q (inl refl)), tt, flat (n ∷ []) false v r.1, λ f i. tt)
   outer-may (Defer k (T.Scalar y at) v) g d w = absurd (both_ways false refl g)
   outer-may (Defer k (T.Property y q at) v) g d w = absurd (both_ways false refl d)
-  outer-may (Combine k total r ts es) g d w = let q = both-true _ _ g in may-reduce Touch (λ slot t. t) (ends_of_all Outermost loop ts) k total r ts es w (all-flat (n ∷ []) false es q.1)
+  outer-may (Combine k total r ts es) g d w = let q = both-true _ _ g in may-reduce Touch (λ slot t. t) (n ∷ []) (ends_of_all Outermost loop ts) k total r ts es w (all-flat (n ∷ []) false es q.1)
   outer-may (Group k at y q v) g d w = absurd (both_ways false refl g)
   outer-may (Foreach k at h test body) g d w =
       let r = both-true _ _ g in
       let s = both-true _ _ r.1 in
       let head = both-true _ _ (both-true _ _ r.0).1 in
-      ((flat (n ∷ h.iterator ∷ []) true test s.0, λ f i. tt), (λ e. both_ways (nat_eq h.iterator n) (not-true (nat_eq h.iterator n) head.1) (eq-eqb h.iterator n e)), λ e. inner-may body e (n ∷ h.iterator ∷ []) s.1 w)
+      ((flat (n ∷ h.iterator ∷ []) true test s.0, λ f i. tt), (λ e. both_ways (nat_eq h.iterator n) (not-true (nat_eq h.iterator n) head.1) (eq-eqb h.iterator n e)), λ e. inner-may body e (n ∷ h.iterator ∷ []) (h.iterator ∷ n ∷ []) s.1 w)
   outer-may (For k at h test body) g d w = absurd (both_ways false refl g)
   outer-may (If k c a b) g d w =
       let r = both-true _ _ g in
@@ -183,7 +183,7 @@ module _ (ds : List Declaration) (loop : Loop) (x : ℕ) (L : List ℕ) (out : I
   -- what a body did to an iteration that holds the node
   pub body-did : (s : Stmt) (it : Iteration) → is_outer_body ds false n s ≡ true → is_nil (deferred s) ≡ true → Within (touched s) → it.store.scalar n ≡ At (Some x) → it.fault ≡ None →
       Did Touch GivesOff Gives Any n x it (does s Outermost loop it) × ((does s Outermost loop it).store.scalar n ≡ At (Some x))
-  body-did s it g d w holds fine = does-did GivesOff Gives Any n x (λ c o. o.1) (λ c o. tt) s Touch (λ c o. o.0) Outermost loop it (outer-may s g d w) holds fine
+  body-did s it g d w holds fine = does-did GivesOff Gives Any n x (λ c o. o.1) (λ c o. tt) (n ∷ []) s Touch (λ c o. o.0) Outermost loop it (inl (λ f. tt)) (outer-may s g d w) holds fine
 
 -- the slots that a body does not touch
 module _ (ds : List Declaration) (loop : Loop) (key : Key) (test : Expr) (body : Stmt) (flat-body : is_outer_body ds false loop.outer body ≡ true) (none : is_nil (deferred body) ≡ true) (out : IsIn loop.outer (touched body) → ⊥) where

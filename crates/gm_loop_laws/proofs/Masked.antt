@@ -1,5 +1,5 @@
 -- The loop of an inner loop that stands alone, under a filter that cannot fault, is what all its edges give.
-use Rattle.std.proofs.Common.{◌≡◌, ◌≢◌, ℕ, Bool, true, false, cond, List, [], ◌∷◌, ◌++◌, map, filter, refl, sym, ap, ◌∙◌, Some, Result, Ok, Err, ⊎_elim}
+use Rattle.std.proofs.Common.{◌≡◌, ◌≢◌, ℕ, Bool, true, false, cond, List, [], ◌∷◌, ◌++◌, map, filter, refl, sym, ap, ◌∙◌, Some, Result, Ok, Err, ⊎_elim, inl}
 use Rattle.std.specs.Prelude.{◌||◌, not, nat_eq}
 use Rattle.std.specs.List.{list_all, list_any}
 use Rattle.std.proofs.lemmas.Bool.{cases_Bool, eq-eqb, both_ways}
@@ -160,7 +160,7 @@ module _ (ds : List Declaration) (some : List ℕ) (loop : Loop) (depths : (y : 
       one : (b : Bool) → EachGiven (By x) (one_way b (does body (AtEdge e) (ends_late loop)) as_it_is (begun (at_both loop mask held key k h test body s saved apart x y))).with_outermost
       one true =
           gave-from (By x) _
-          (does-did (λ c. ⊥) (By x) (Free ds loop depths some loop.pushed known RD Spares x) n' x (λ c a. absurd a) (λ c a. absurd a) body _ (λ c a. absurd a) (AtEdge e) (ends_late loop) (begun (at_both loop mask held key k h test body s saved apart x y))
+          (does-did (λ c. ⊥) (By x) (Free ds loop depths some loop.pushed known RD Spares x) n' x (λ c a. absurd a) (λ c a. absurd a) [] body _ (λ c a. absurd a) (AtEdge e) (ends_late loop) (begun (at_both loop mask held key k h test body s saved apart x y)) (inl (λ f. tt))
           (body-may ds loop depths some loop.pushed known RD Spares x body e its inner-body off (λ r i. i) alone.pushes alone.alike (λ u. u)) (both-held loop mask held key k h test body s saved apart x y) refl).0.outermost
         where
           off : (y : ℕ) → IsIn y (written ds n' true body) → y ≢ n'

@@ -1,5 +1,5 @@
 -- How a body faults that leaves the iterator: as its text says.
-use Rattle.std.proofs.Common.{◌≡◌, ◌≢◌, ℕ, Bool, true, false, List, [], ◌∷◌, ◌++◌, refl, sym, ap, ◌∙◌, Some, None, ⊎_elim, inl, inr}
+use Rattle.std.proofs.Common.{◌≡◌, ◌≢◌, ℕ, Bool, true, false, List, [], ◌∷◌, ◌++◌, refl, sym, ap, subst, ◌∙◌, Some, None, ⊎_elim, inl, inr}
 use Rattle.std.specs.Prelude.{◌||◌, not, nat_eq}
 use Rattle.std.specs.List.{list_all}
 use Rattle.std.proofs.lemmas.Bool.{eq-eqb, both_ways}
@@ -22,13 +22,13 @@ use Rattle.gm_forms.specs.Forms.{is_flat, is_inner_body, is_outer_body}
 use Rattle.gm_forms.specs.Order.{rest_in, hoisted_in, faults_in, faults_in_all, target_faults, targets_faults, faults_of}
 use Rattle.gm_forms.specs.Sharing.{deferred}
 use Rattle.gm_forms.specs.Fission.{is_nil}
-use Rattle.gm_forms.specs.Doing.{named, Allowed, AreFlat, rest_in_all, EachSlot, slots_at, MayFail, OffAnd, MayReduce, Anywhere, MayDo}
+use Rattle.gm_forms.specs.Doing.{named, Allowed, faults_beside, all_beside, EachSlot, slots_at, MayFail, OffAnd, MayReduce, Anywhere, MayDo}
 use Rattle.gm_forms.proofs.Named.{both-true}
 use Rattle.gm_forms.proofs.Doings.{in-left, in-right, in-either}
-use Rattle.gm_forms.proofs.CutTests.{not-true}
+use Rattle.gm_forms.proofs.CutTests.{not-true, Covers, same-list, turned, flat-beside, FlatAll, flat-all}
 use Rattle.gm_forms.proofs.ReadingFrames.{nat_eq-apart}
 use Rattle.gm_loop_laws.specs.Saved.{is_other, never_writes}
-use Rattle.gm_loop_laws.proofs.Givens.{flat, all-flat}
+use Rattle.gm_loop_laws.proofs.Givens.{flat}
 
 pub nil-parts : (xs ys : List ℕ) → is_nil (xs ++ ys) ≡ true → (is_nil xs ≡ true) × (is_nil ys ≡ true)
 nil-parts [] ys h = (refl, h)
@@ -47,52 +47,49 @@ module _ (ds : List Declaration) (loop : Loop) (x : ℕ) (FS : List K.Fault) whe
   abbrev pub FaultIn : Fault → Type 0
   FaultIn f = IsIn (named f) FS
 
-  abbrev pub MayFault : Stmt → Mode → Type 0
-  MayFault s m = MayDo OffTotal TotalIn FaultIn n x s (Anywhere OffTotal TotalIn FaultIn n x) m loop
+  abbrev pub MayFault : List ℕ → Stmt → Mode → Type 0
+  MayFault js s m = MayDo OffTotal TotalIn FaultIn n x js s (Anywhere OffTotal TotalIn FaultIn n x) m loop
 
   abbrev Within : List K.Fault → Type 0
   Within fs = (f : K.Fault) → IsIn f fs → IsIn f FS
 
-  fails-of : (its : List ℕ) (edge : Bool) (e : Expr) (k : Key) → is_flat its edge e ≡ true → Within (faults_in e k) → MayFail OffTotal TotalIn FaultIn n x e k
-  fails-of its edge e k h w = (flat its edge e h, λ f i. w (named f) (in-right (named f) (hoisted_in e) (rest_in e k) i))
+  fails-of : (its js : List ℕ) (edge : Bool) (e : Expr) (k : Key) → Covers its js → is_flat its edge e ≡ true → Within (faults_in e k) → MayFail OffTotal TotalIn FaultIn n x js e k
+  fails-of its js edge e k sub h w = (flat its edge e h, λ f i. w (named f) (in-right (named f) (hoisted_in e) (rest_in e k) (subst (IsIn (named f)) (flat-beside its js edge e k sub h) i)))
 
-  rest-within : (e : Expr) (k : Key) (fs : List K.Fault) → Within (fs ++ faults_in e k) → Allowed FaultIn (fs ++ rest_in e k)
-  rest-within e k fs w f i = ⊎_elim (λ l. w (named f) (in-left (named f) fs (faults_in e k) l)) (λ r. w (named f) (in-right (named f) fs (faults_in e k) (in-right (named f) (hoisted_in e) (rest_in e k) r))) (in-either (named f) fs (rest_in e k) i)
+  rest-within : (its js : List ℕ) (edge : Bool) (e : Expr) (k : Key) (fs : List K.Fault) → Covers its js → is_flat its edge e ≡ true → Within (fs ++ faults_in e k) → Allowed FaultIn (fs ++ faults_beside js e k)
+  rest-within its js edge e k fs sub h w f i =
+      ⊎_elim (λ l. w (named f) (in-left (named f) fs (faults_in e k) l))
+      (λ r. w (named f) (in-right (named f) fs (faults_in e k) (in-right (named f) (hoisted_in e) (rest_in e k) (subst (IsIn (named f)) (flat-beside its js edge e k sub h) r)))) (in-either (named f) fs (faults_beside js e k) i)
 
-  abbrev of_all : Key → TotalKey → List Target → List Expr → List K.Fault
-  of_all k total ts es = targets_faults ts k ++ (faults_in_all es k ++ (record { key = k; place = total.place } ∷ K.total_fault total ∷ []))
+  abbrev of_all : List ℕ → Key → TotalKey → List Target → List Expr → List K.Fault
+  of_all js k total ts es = targets_faults js ts k ++ (faults_in_all es k ++ (record { key = k; place = total.place } ∷ K.total_fault total ∷ []))
 
-  rest-among : (k : Key) (es : List Expr) (f : K.Fault) → IsIn f (rest_in_all es k) → IsIn f (faults_in_all es k)
-  rest-among k [] f i = i
-  rest-among k (e ∷ es) f i =
-      ⊎_elim (λ l. in-left f (faults_in e k) (faults_in_all es k) (in-right f (hoisted_in e) (rest_in e k) l)) (λ r. in-right f (faults_in e k) (faults_in_all es k) (rest-among k es f r)) (in-either f (rest_in e k) (rest_in_all es k) i)
-
-  all-allowed : (k : Key) (total : TotalKey) (ts : List Target) (es : List Expr) → Within (of_all k total ts es) → Allowed FaultIn (targets_faults ts k ++ rest_in_all es k)
-  all-allowed k total ts es w f i =
+  all-allowed : (js : List ℕ) (k : Key) (total : TotalKey) (ts : List Target) (es : List Expr) → FlatAll js es k → Within (of_all js k total ts es) → Allowed FaultIn (targets_faults js ts k ++ all_beside js es k)
+  all-allowed js k total ts es fl w f i =
       let more : List K.Fault = record { key = k; place = total.place } ∷ K.total_fault total ∷ [] in
       ⊎_elim
-      (λ l. w (named f) (in-left (named f) (targets_faults ts k) _ l))
-      (λ r. w (named f) (in-right (named f) (targets_faults ts k) _ (in-left (named f) (faults_in_all es k) more (rest-among k es (named f) r))))
-      (in-either (named f) (targets_faults ts k) (rest_in_all es k) i)
+      (λ l. w (named f) (in-left (named f) (targets_faults js ts k) _ l))
+      (λ r. w (named f) (in-right (named f) (targets_faults js ts k) _ (in-left (named f) (faults_in_all es k) more (fl.1 (named f) r))))
+      (in-either (named f) (targets_faults js ts k) (all_beside js es k) i)
 
-  once-allowed : (k : Key) (total : TotalKey) (ts : List Target) (es : List Expr) → Within (of_all k total ts es) → Allowed FaultIn (targets_faults ts k ++ (rest_in_all es k ++ record { key = k; place = total.place } ∷ []))
-  once-allowed k total ts es w f i =
+  once-allowed : (js : List ℕ) (k : Key) (total : TotalKey) (ts : List Target) (es : List Expr) → FlatAll js es k → Within (of_all js k total ts es) → Allowed FaultIn (targets_faults js ts k ++ (all_beside js es k ++ record { key = k; place = total.place } ∷ []))
+  once-allowed js k total ts es fl w f i =
       let more : List K.Fault = record { key = k; place = total.place } ∷ K.total_fault total ∷ [] in
       let last : List K.Fault = record { key = k; place = total.place } ∷ [] in
       ⊎_elim
-      (λ l. w (named f) (in-left (named f) (targets_faults ts k) _ l))
+      (λ l. w (named f) (in-left (named f) (targets_faults js ts k) _ l))
       (λ r.
-      w (named f) (in-right (named f) (targets_faults ts k) _
-      (⊎_elim (λ l. in-left (named f) (faults_in_all es k) more (rest-among k es (named f) l)) (λ (m : IsIn (named f) last). in-right (named f) (faults_in_all es k) more (at-place m)) (in-either (named f) (rest_in_all es k) last r))))
-      (in-either (named f) (targets_faults ts k) (rest_in_all es k ++ last) i)
+      w (named f) (in-right (named f) (targets_faults js ts k) _
+      (⊎_elim (λ l. in-left (named f) (faults_in_all es k) more (fl.1 (named f) l)) (λ (m : IsIn (named f) last). in-right (named f) (faults_in_all es k) more (at-place m)) (in-either (named f) (all_beside js es k) last r))))
+      (in-either (named f) (targets_faults js ts k) (all_beside js es k ++ last) i)
     where
       at-place : IsIn (named f) (record { key = k; place = total.place } ∷ []) → IsIn (named f) (record { key = k; place = total.place } ∷ K.total_fault total ∷ [])
       at-place m = ⊎_elim (λ e. inl e) (λ n. absurd n) m
 
-  has-total : (k : Key) (total : TotalKey) (ts : List Target) (es : List Expr) → Within (of_all k total ts es) → IsIn (K.total_fault total) FS
-  has-total k total ts es w =
+  has-total : (js : List ℕ) (k : Key) (total : TotalKey) (ts : List Target) (es : List Expr) → Within (of_all js k total ts es) → IsIn (K.total_fault total) FS
+  has-total js k total ts es w =
       let more : List K.Fault = record { key = k; place = total.place } ∷ K.total_fault total ∷ [] in
-      w (K.total_fault total) (in-right (K.total_fault total) (targets_faults ts k) _ (in-right (K.total_fault total) (faults_in_all es k) more (inr (inl refl))))
+      w (K.total_fault total) (in-right (K.total_fault total) (targets_faults js ts k) _ (in-right (K.total_fault total) (faults_in_all es k) more (inr (inl refl))))
 
   slots-off : (node : ℕ → ℕ) (ts : List Target) → list_all (is_other n) ts ≡ true → EachSlot (OffAnd OffTotal TotalIn FaultIn n x (Anywhere OffTotal TotalIn FaultIn n x)) (slots_at node ts)
   slots-off node [] h = tt
@@ -107,10 +104,10 @@ module _ (ds : List Declaration) (loop : Loop) (x : ℕ) (FS : List K.Fault) whe
   has-off node (T.Scalar y at ∷ ts) h = let r = both-true _ _ h in ap (λ b. b || has_slot (Scalar n) (slots_at node ts)) (nat_eq-apart n y (λ e. apart y r.0 (sym e))) ∙ has-off node ts r.1
   has-off node (T.Property y p at ∷ ts) h = has-off node ts h
 
-  may-reduce : (ends : Ends) (k : Key) (total : TotalKey) (r : Reduce) (ts : List Target) (es : List Expr) → list_all (is_other n) ts ≡ true → AreFlat es → Within (of_all k total ts es) → MayReduce OffTotal TotalIn FaultIn n x (Anywhere OffTotal TotalIn FaultIn n x) ends k total r ts es
-  may-reduce AtOnce k total r ts es o fl w = ((λ node e. slots-off node ts o), fl, once-allowed k total ts es w)
-  may-reduce WithInner k total r ts es o fl w = ((λ node e vs. (has-off node ts o, has-total k total ts es w)), fl, all-allowed k total ts es w)
-  may-reduce WithOutermost k total r ts es o fl w = ((λ node e vs. has-total k total ts es w), fl, all-allowed k total ts es w)
+  may-reduce : (js : List ℕ) (ends : Ends) (k : Key) (total : TotalKey) (r : Reduce) (ts : List Target) (es : List Expr) → list_all (is_other n) ts ≡ true → FlatAll js es k → Within (of_all js k total ts es) → MayReduce OffTotal TotalIn FaultIn n x js (Anywhere OffTotal TotalIn FaultIn n x) ends k total r ts es
+  may-reduce js AtOnce k total r ts es o fl w = ((λ node e. slots-off node ts o), fl.0, once-allowed js k total ts es fl w)
+  may-reduce js WithInner k total r ts es o fl w = ((λ node e vs. (has-off node ts o, has-total js k total ts es w)), fl.0, all-allowed js k total ts es fl w)
+  may-reduce js WithOutermost k total r ts es o fl w = ((λ node e vs. has-total js k total ts es w), fl.0, all-allowed js k total ts es fl w)
 
   within-left : (fs gs : List K.Fault) → Within (fs ++ gs) → Within fs
   within-left fs gs w f i = w f (in-left f fs gs i)
@@ -119,61 +116,61 @@ module _ (ds : List Declaration) (loop : Loop) (x : ℕ) (FS : List K.Fault) whe
   within-right fs gs w f i = w f (in-right f fs gs i)
 
   -- an inner body
-  pub inner-faults : (s : Stmt) (e : ℕ) (its : List ℕ) → is_inner_body ds its true s ≡ true → Within (faults_of s) → never_writes n s ≡ true → MayFault s (AtEdge e)
-  inner-faults Skip e its g w o = tt
-  inner-faults (Then a b) e its g w o =
+  pub inner-faults : (s : Stmt) (e : ℕ) (its js : List ℕ) → Covers its js → is_inner_body ds its true s ≡ true → Within (faults_of js s) → never_writes n s ≡ true → MayFault js s (AtEdge e)
+  inner-faults Skip e its js sub g w o = tt
+  inner-faults (Then a b) e its js sub g w o =
       let r = both-true _ _ g in
       let q = both-true (never_writes n a) (never_writes n b) o in
-      (inner-faults a e its r.0 (within-left (faults_of a) (faults_of b) w) q.0, inner-faults b e its r.1 (within-right (faults_of a) (faults_of b) w) q.1)
-  inner-faults (Declare k y None) e its g w o = (tt, apart y o, tt)
-  inner-faults (Declare k y (Some v)) e its g w o = let r = both-true _ _ g in (tt, apart y o, fails-of its true v k r.1 w)
-  inner-faults (DeclareEdge y z at) e its g w o = tt
-  inner-faults (Assign k (T.Scalar y at) v) e its g w o = let r = both-true _ _ g in (tt, apart y o, flat its true v r.1, rest-within v k [] w)
-  inner-faults (Assign k (T.Property y q at) v) e its g w o = absurd (both_ways false refl g)
-  inner-faults (Defer k t v) e its g w o = absurd (both_ways false refl g)
-  inner-faults (Combine k total r ts es) e its g w o = let q = both-true _ _ g in may-reduce (ends_of_all (AtEdge e) loop ts) k total r ts es o (all-flat its true es q.1) w
-  inner-faults (Group k at y q v) e its g w o = absurd (both_ways false refl g)
-  inner-faults (Foreach k at h test body) e its g w o = absurd (both_ways false refl g)
-  inner-faults (For k at h test body) e its g w o = absurd (both_ways false refl g)
-  inner-faults (If k c a b) e its g w o =
+      (inner-faults a e its js sub r.0 (within-left (faults_of js a) (faults_of js b) w) q.0, inner-faults b e its js sub r.1 (within-right (faults_of js a) (faults_of js b) w) q.1)
+  inner-faults (Declare k y None) e its js sub g w o = (tt, apart y o, tt)
+  inner-faults (Declare k y (Some v)) e its js sub g w o = let r = both-true _ _ g in (tt, apart y o, fails-of its js true v k sub r.1 w)
+  inner-faults (DeclareEdge y z at) e its js sub g w o = tt
+  inner-faults (Assign k (T.Scalar y at) v) e its js sub g w o = let r = both-true _ _ g in (tt, apart y o, flat its true v r.1, rest-within its js true v k [] sub r.1 w)
+  inner-faults (Assign k (T.Property y q at) v) e its js sub g w o = absurd (both_ways false refl g)
+  inner-faults (Defer k t v) e its js sub g w o = absurd (both_ways false refl g)
+  inner-faults (Combine k total r ts es) e its js sub g w o = let q = both-true _ _ g in may-reduce js (ends_of_all (AtEdge e) loop ts) k total r ts es o (flat-all its js true es k sub q.1) w
+  inner-faults (Group k at y q v) e its js sub g w o = absurd (both_ways false refl g)
+  inner-faults (Foreach k at h test body) e its js sub g w o = absurd (both_ways false refl g)
+  inner-faults (For k at h test body) e its js sub g w o = absurd (both_ways false refl g)
+  inner-faults (If k c a b) e its js sub g w o =
       let r = both-true _ _ g in
       let s = both-true _ _ r.1 in
       let q = both-true (never_writes n a) (never_writes n b) o in
-      let both = within-right (faults_in c k) (faults_of a ++ faults_of b) w in (
-        fails-of its true c k r.0 (within-left (faults_in c k) (faults_of a ++ faults_of b) w),
-        inner-faults a e its s.0 (within-left (faults_of a) (faults_of b) both) q.0,
-        inner-faults b e its s.1 (within-right (faults_of a) (faults_of b) both) q.1,
+      let both = within-right (faults_in c k) (faults_of js a ++ faults_of js b) w in (
+        fails-of its js true c k sub r.0 (within-left (faults_in c k) (faults_of js a ++ faults_of js b) w),
+        inner-faults a e its js sub s.0 (within-left (faults_of js a) (faults_of js b) both) q.0,
+        inner-faults b e its js sub s.1 (within-right (faults_of js a) (faults_of js b) both) q.1,
       )
-  inner-faults (While k at c body) e its g w o = absurd (both_ways false refl g)
-  inner-faults (Do k at body c) e its g w o = absurd (both_ways false refl g)
-  inner-faults (InBfs k at h test body) e its g w o = absurd (both_ways false refl g)
-  inner-faults (InBfsBoth k at h test body back_key back_test back) e its g w o = absurd (both_ways false refl g)
-  inner-faults (Return k at v) e its g w o = absurd (both_ways false refl g)
+  inner-faults (While k at c body) e its js sub g w o = absurd (both_ways false refl g)
+  inner-faults (Do k at body c) e its js sub g w o = absurd (both_ways false refl g)
+  inner-faults (InBfs k at h test body) e its js sub g w o = absurd (both_ways false refl g)
+  inner-faults (InBfsBoth k at h test body back_key back_test back) e its js sub g w o = absurd (both_ways false refl g)
+  inner-faults (Return k at v) e its js sub g w o = absurd (both_ways false refl g)
 
   -- and an outer one that defers nothing
-  pub outer-faults : (s : Stmt) → is_outer_body ds false n s ≡ true → is_nil (deferred s) ≡ true → Within (faults_of s) → never_writes n s ≡ true → MayFault s Outermost
+  pub outer-faults : (s : Stmt) → is_outer_body ds false n s ≡ true → is_nil (deferred s) ≡ true → Within (faults_of (n ∷ []) s) → never_writes n s ≡ true → MayFault (n ∷ []) s Outermost
   outer-faults Skip g d w o = tt
   outer-faults (Then a b) g d w o =
       let r = both-true _ _ g in
       let q = both-true (never_writes n a) (never_writes n b) o in
       let p = nil-parts (deferred a) (deferred b) d in
-      (outer-faults a r.0 p.0 (within-left (faults_of a) (faults_of b) w) q.0, outer-faults b r.1 p.1 (within-right (faults_of a) (faults_of b) w) q.1)
+      (outer-faults a r.0 p.0 (within-left (faults_of (n ∷ []) a) (faults_of (n ∷ []) b) w) q.0, outer-faults b r.1 p.1 (within-right (faults_of (n ∷ []) a) (faults_of (n ∷ []) b) w) q.1)
   outer-faults (Declare k y None) g d w o = (tt, apart y o, tt)
-  outer-faults (Declare k y (Some v)) g d w o = let r = both-true _ _ g in (tt, apart y o, fails-of (n ∷ []) false v k r.1 w)
+  outer-faults (Declare k y (Some v)) g d w o = let r = both-true _ _ g in (tt, apart y o, fails-of (n ∷ []) (n ∷ []) false v k (same-list (n ∷ [])) r.1 w)
   outer-faults (DeclareEdge y z at) g d w o = tt
-  outer-faults (Assign k (T.Scalar y at) v) g d w o = let r = both-true _ _ g in (tt, apart y o, flat (n ∷ []) false v r.1, rest-within v k [] w)
-  outer-faults (Assign k (T.Property y q at) v) g d w o = let r = both-true _ _ g in ((λ j a. tt), tt, flat (n ∷ []) false v r.1, rest-within v k (target_faults (T.Property y q at) k) w)
+  outer-faults (Assign k (T.Scalar y at) v) g d w o = let r = both-true _ _ g in (tt, apart y o, flat (n ∷ []) false v r.1, rest-within (n ∷ []) (n ∷ []) false v k [] (same-list (n ∷ [])) r.1 w)
+  outer-faults (Assign k (T.Property y q at) v) g d w o = let r = both-true _ _ g in ((λ j a. tt), tt, flat (n ∷ []) false v r.1, rest-within (n ∷ []) (n ∷ []) false v k (target_faults (n ∷ []) (T.Property y q at) k) (same-list (n ∷ [])) r.1 w)
   outer-faults (Defer k (T.Scalar y at) v) g d w o = absurd (both_ways false refl g)
   outer-faults (Defer k (T.Property y q at) v) g d w o = absurd (both_ways false refl d)
-  outer-faults (Combine k total r ts es) g d w o = let q = both-true _ _ g in may-reduce (ends_of_all Outermost loop ts) k total r ts es o (all-flat (n ∷ []) false es q.1) w
+  outer-faults (Combine k total r ts es) g d w o = let q = both-true _ _ g in may-reduce (n ∷ []) (ends_of_all Outermost loop ts) k total r ts es o (flat-all (n ∷ []) (n ∷ []) false es k (same-list (n ∷ [])) q.1) w
   outer-faults (Group k at y q v) g d w o = absurd (both_ways false refl g)
   outer-faults (Foreach k at h test body) g d w o =
       let r = both-true _ _ g in
       let s = both-true _ _ r.1 in
       let q = both-true (not (nat_eq h.iterator n)) (never_writes n body) o in (
-        fails-of (n ∷ h.iterator ∷ []) true test k s.0 (within-left (faults_in test k) (faults_of body) (λ f i. w f (inr i))),
+        fails-of (n ∷ h.iterator ∷ []) (h.iterator ∷ n ∷ []) true test k (turned n h.iterator) s.0 (within-left (faults_in test k) (faults_of (h.iterator ∷ n ∷ []) body) (λ f i. w f (inr i))),
         apart h.iterator q.0,
-        λ e. inner-faults body e (n ∷ h.iterator ∷ []) s.1 (within-right (faults_in test k) (faults_of body) (λ f i. w f (inr i))) q.1,
+        λ e. inner-faults body e (n ∷ h.iterator ∷ []) (h.iterator ∷ n ∷ []) (turned n h.iterator) s.1 (within-right (faults_in test k) (faults_of (h.iterator ∷ n ∷ []) body) (λ f i. w f (inr i))) q.1,
       )
   outer-faults (For k at h test body) g d w o = absurd (both_ways false refl g)
   outer-faults (If k c a b) g d w o =
@@ -181,10 +178,10 @@ module _ (ds : List Declaration) (loop : Loop) (x : ℕ) (FS : List K.Fault) whe
       let s = both-true _ _ r.1 in
       let q = both-true (never_writes n a) (never_writes n b) o in
       let p = nil-parts (deferred a) (deferred b) d in
-      let both = within-right (faults_in c k) (faults_of a ++ faults_of b) w in (
-        fails-of (n ∷ []) false c k r.0 (within-left (faults_in c k) (faults_of a ++ faults_of b) w),
-        outer-faults a s.0 p.0 (within-left (faults_of a) (faults_of b) both) q.0,
-        outer-faults b s.1 p.1 (within-right (faults_of a) (faults_of b) both) q.1,
+      let both = within-right (faults_in c k) (faults_of (n ∷ []) a ++ faults_of (n ∷ []) b) w in (
+        fails-of (n ∷ []) (n ∷ []) false c k (same-list (n ∷ [])) r.0 (within-left (faults_in c k) (faults_of (n ∷ []) a ++ faults_of (n ∷ []) b) w),
+        outer-faults a s.0 p.0 (within-left (faults_of (n ∷ []) a) (faults_of (n ∷ []) b) both) q.0,
+        outer-faults b s.1 p.1 (within-right (faults_of (n ∷ []) a) (faults_of (n ∷ []) b) both) q.1,
       )
   outer-faults (While k at c body) g d w o = absurd (both_ways false refl g)
   outer-faults (Do k at body c) g d w o = absurd (both_ways false refl g)

@@ -56,7 +56,7 @@ module _ (j : ℕ) (ds : List Declaration) (pushed : List ℕ) (loop : Loop) (m 
       looped loop key (Property loop.outer m at) s u ≡ looped (record loop { pushed = λ p. pushes s loop.outer p }) key (Property loop.outer m at) s u
   lone-loop (Foreach k here h inner body) o l u =
       let r = both-true (stands_alone ds pushed loop.outer body) (stands_alone ds (pushed_properties loop.outer body) loop.outer body) l in
-      sym (ends-anywhere ds pushed (pushed_properties loop.outer body) loop (λ p. pushes body loop.outer p) m key k at here h inner body u knows (record { depth = knows.depth; pushed_is = λ p. pushed-listed loop.outer p body }) o r.0 r.1)
+      sym (ends-anywhere ds pushed (pushed_properties loop.outer body) loop (λ p. pushes body loop.outer p) m key k at here h inner body u knows (record { graph = knows.graph; depth = knows.depth; pushed_is = λ p. pushed-listed loop.outer p body }) o r.0 r.1)
   lone-loop Skip o l u = absurd (both_ways false refl l)
   lone-loop (Then c d) o l u = absurd (both_ways false refl l)
   lone-loop (Declare k x e) o l u = absurd (both_ways false refl l)
@@ -194,9 +194,9 @@ module _ (run : Run) (key : Key) (place : Place) (h : Head) (whole : Stmt) where
 
 -- the law of pieces
 pub pieces-hold : PiecesInTurn
-pieces-hold = λ j run m key at place here h whole mask body s t fresh reads names test alike.
+pieces-hold = λ j run m key at place here h whole mask body s t graph fresh reads names test alike.
     let loop = loop_of run no_levels h.iterator body in
     subst (AlikeCourses j (sequential (Foreach key place h mask body) run s)) (sym (pieces-in-sequence run key place h body (pieces_of whole here mask body) t.turns t.store))
     (courses-alike j s t (looped loop key mask body s.store) (changes loop key (pieces_of whole here mask body) t.store)
-    (parts whole here j run.declarations (pushed_properties h.iterator body) loop m key at (record { depth = λ x. refl; pushed_is = λ p. pushed-listed h.iterator p body }) fresh body mask reads names test s.store t.store alike.store)
+    (parts whole here j run.declarations (pushed_properties h.iterator body) loop m key at (record { graph = graph; depth = λ x. refl; pushed_is = λ p. pushed-listed h.iterator p body }) fresh body mask reads names test s.store t.store alike.store)
     alike.turns)

@@ -9,7 +9,7 @@ use Rattle.gm_value.specs.declared.values.Value.TheVariants.{At}
 use Rattle.gm_value.specs.Bag.{IsIn, SameBag, same_nil, same_cons, same_trans}
 use Rattle.gm_value.proofs.BagLaws.{SameBag-sym, SameBag-middle}
 use Rattle.gm_value.specs.Operations.{is_true}
-use Rattle.gm_model.specs.Graphs.{node_count}
+use Rattle.gm_model.specs.Graphs.{IsGraph, node_count}
 use Rattle.gm_ast.specs.declared.tree.Declaration.{Declaration}
 use Rattle.gm_ast.specs.declared.tree.Key.{Key}
 use Rattle.gm_ast.specs.declared.tree.Target.TheVariants as T
@@ -32,12 +32,15 @@ use Rattle.gm_semantics.proofs.ExpressionFrames.{agree-write, evaluated-frame}
 use Rattle.gm_semantics.proofs.StatementFrames.{parallel-alike}
 use Rattle.gm_semantics.proofs.LeastLaws.{least-same}
 use Rattle.gm_semantics.proofs.Leasts.{AllAfter, least-of_first}
+use Rattle.gm_forms.specs.Cut.{keeps_iterators}
 use Rattle.gm_forms.specs.Forms.{is_flat, is_outer_body}
 use Rattle.gm_forms.specs.Order.{lie_before, rest_in, hoisted_in, faults_in, faults_of}
 use Rattle.gm_forms.specs.Sharing.{deferred}
 use Rattle.gm_forms.specs.Fission.{is_nil}
 use Rattle.gm_forms.specs.Doing.{named, IsFlat, EachGiven, EachSlot, Anywhere}
 use Rattle.gm_forms.proofs.Named.{both-true}
+use Rattle.gm_forms.proofs.Held.{outer-sure}
+use Rattle.gm_forms.proofs.CutTests.{same-list, flat-beside}
 use Rattle.gm_forms.proofs.Doings.{in-right, in-either, least-in, value-fails, does-did, each-in, gave-from, total_faults-of}
 use Rattle.gm_forms.proofs.CutLaws.{lies-in}
 use Rattle.gm_forms.proofs.Cuts.{left_at-in, placed}
@@ -124,7 +127,7 @@ two-faults F A B (k ∷ ks) h =
         (subst (λ z. SameBag (somes (z ∷ map F ks)) (somes (a ∷ map A ks) ++ somes (map B ks))) (sym y) (before a s))
 
 module _ (j : ℕ) (ds : List Declaration) (loop : Loop) (m : ℕ) (key : Key) (at : Place) (test : Expr) (body : Stmt) (t : Store) (fresh : j ≤ m) (reads : ReadsBelow j test) (flat-test : IsFlat test)
-    (flat-body : is_outer_body ds false loop.outer body ≡ true) (none : is_nil (deferred body) ≡ true) (order : lie_before (faults_in test key) (faults_of body) ≡ true) (off : never_writes loop.outer body ≡ true) where
+    (flat-body : is_outer_body ds false loop.outer body ≡ true) (none : is_nil (deferred body) ≡ true) (order : lie_before (faults_in test key) (faults_of (loop.outer ∷ []) body) ≡ true) (off : never_writes loop.outer body ≡ true) (keeps : keeps_iterators body ≡ true) (graph : IsGraph loop.graph) (reads-own : is_flat (loop.outer ∷ []) false test ≡ true) where
   abbrev n : ℕ
   n = loop.outer
 
@@ -247,7 +250,7 @@ module _ (j : ℕ) (ds : List Declaration) (loop : Loop) (m : ℕ) (key : Key) (
     run x = iteration loop key test body t x
 
     abbrev FS : List K.Fault
-    FS = faults_of body
+    FS = faults_of (n ∷ []) body
 
     abbrev went : ℕ → Value → Iteration
     went x v = one_way (is_true v) (does body Outermost loop) as_it_is (begun (start t x))
@@ -265,13 +268,13 @@ module _ (j : ℕ) (ds : List Declaration) (loop : Loop) (m : ℕ) (key : Key) (
         by (Err f) = inr (refl, refl)
 
     -- what the body does
-    went-did : (x : ℕ) (v : Value) → ((f : Fault) → (went x v).fault ≡ Some f → FaultIn ds loop x FS f) × EachGiven (TotalIn ds loop x FS) (went x v).with_outermost
-    went-did x v = by (is_true v)
+    went-did : (x : ℕ) → IsIn x ks → (v : Value) → ((f : Fault) → (went x v).fault ≡ Some f → FaultIn ds loop x FS f) × EachGiven (TotalIn ds loop x FS) (went x v).with_outermost
+    went-did x among v = by (is_true v)
       where
         by : (b : Bool) → ((f : Fault) → (one_way b (does body Outermost loop) as_it_is (begun (start t x))).fault ≡ Some f → FaultIn ds loop x FS f) × EachGiven (TotalIn ds loop x FS) (one_way b (does body Outermost loop) as_it_is (begun (start t x))).with_outermost
         by false = ((λ f e. absurd (cc)), tt)
         by true =
-            let d = (does-did (OffTotal ds loop x FS) (TotalIn ds loop x FS) (FaultIn ds loop x FS) n x (λ c o. o.0) (λ c o. o.1) body _ (λ c o. anywhere c.slots) Outermost loop (begun (start t x))
+            let d = (does-did (OffTotal ds loop x FS) (TotalIn ds loop x FS) (FaultIn ds loop x FS) n x (λ c o. o.0) (λ c o. o.1) (n ∷ []) body _ (λ c o. anywhere c.slots) Outermost loop (begun (start t x)) (inr (outer-sure loop.graph n body (start t x) x graph (held t x) (nodes-below loop.graph x among) keeps))
             (outer-faults ds loop x FS body flat-body none (λ f i. i) off) (held t x) refl).0 in
             ((λ f e. ⊎_elim (λ (z : None ≡ Some f). absurd (cc)) (λ r. r) (d.fault f e)), gave-from (TotalIn ds loop x FS) _ d.outermost)
           where
@@ -288,27 +291,29 @@ module _ (j : ℕ) (ds : List Declaration) (loop : Loop) (m : ℕ) (key : Key) (
     total-in : (c : Contribution) → IsIn c contributions → IsIn (named (total_fault c.total)) FS
     total-in c i =
         let r = in-joined c (λ x. (run x).with_outermost) ks (subst (λ l. IsIn c (joined l)) (map-compose (λ it. it.with_outermost) run ks) i) in
-        by r.0 (answer t r.0) r.2
+        by r.0 r.1 (answer t r.0) r.2
       where
-        by : (x : ℕ) (r : Result Value Fault) → IsIn c (with_ok (begun (start t x)) r (went x)).with_outermost → IsIn (named (total_fault c.total)) FS
-        by x (Ok v) k = each-in (TotalIn ds loop x FS) (went x v).with_outermost c (went-did x v).1 k
-        by x (Err f) k = absurd k
+        by : (x : ℕ) → IsIn x ks → (r : Result Value Fault) → IsIn c (with_ok (begun (start t x)) r (went x)).with_outermost → IsIn (named (total_fault c.total)) FS
+        by x among (Ok v) k = each-in (TotalIn ds loop x FS) (went x v).with_outermost c (went-did x among v).1 k
+        by x among (Err f) k = absurd k
 
     late-in : (g : Fault) → IsIn g (somes (map (λ x. body_fault x (answer t x)) ks) ++ total_faults own contributions) → IsIn (named g) FS
     late-in g i =
         ⊎_elim
-        (λ (l : IsIn g (somes (map (λ x. body_fault x (answer t x)) ks))). let r = some-in (λ x. body_fault x (answer t x)) ks g l in by r.0 (answer t r.0) r.2)
+        (λ (l : IsIn g (somes (map (λ x. body_fault x (answer t x)) ks))). let r = some-in (λ x. body_fault x (answer t x)) ks g l in by r.0 r.1 (answer t r.0) r.2)
         (λ r. total_faults-of (λ f. IsIn (named f) FS) contributions total-in own g r)
         (in-either g (somes (map (λ x. body_fault x (answer t x)) ks)) (total_faults own contributions) i)
       where
-        by : (x : ℕ) (r : Result Value Fault) → body_fault x r ≡ Some g → IsIn (named g) FS
-        by x (Ok v) k = (went-did x v).0 g k
-        by x (Err f) k = absurd (cc)
+        by : (x : ℕ) → IsIn x ks → (r : Result Value Fault) → body_fault x r ≡ Some g → IsIn (named g) FS
+        by x among (Ok v) k = (went-did x among v).0 g k
+        by x among (Err f) k = absurd (cc)
 
     early-in : IsIn (named e) (faults_in test key)
     early-in =
         let r = some-in tested ks e (least-in (somes (map tested ks)) e fails) in
-        in-right (named e) (hoisted_in test) (rest_in test key) (value-fails (seen t r.0) refl test flat-test e (by (answer t r.0) r.2))
+        let sure = outer-sure loop.graph n body (start t r.0) r.0 graph (held t r.0) (nodes-below loop.graph r.0 r.1) keeps in
+        in-right (named e) (hoisted_in test) (rest_in test key)
+        (subst (IsIn (named e)) (flat-beside (n ∷ []) (n ∷ []) false test key (same-list (n ∷ [])) reads-own) (value-fails (seen t r.0) refl (n ∷ []) sure.held test flat-test e (by (answer t r.0) r.2)))
       where
         by : (r : Result Value Fault) → fault_of r ≡ Some e → r ≡ Err e
         by (Ok v) k = absurd (cc)
@@ -327,32 +332,35 @@ module _ (j : ℕ) (ds : List Declaration) (loop : Loop) (m : ℕ) (key : Key) (
 
 -- the law of saved filters
 pub saving-holds : SavingFresh
-saving-holds = λ j ds loop m key at test body s t fresh reads names test_saves agree.
+saving-holds = λ j ds loop m key at test body s t graph fresh reads names test_saves agree.
     let n = loop.outer in
-    let a = both-true (is_flat (n ∷ []) false test) (is_outer_body ds false n body && (is_nil (deferred body) && (lie_before (faults_in test key) (faults_of body) && never_writes n body))) test_saves in
-    let b = both-true (is_outer_body ds false n body) (is_nil (deferred body) && (lie_before (faults_in test key) (faults_of body) && never_writes n body)) a.1 in
-    let c = both-true (is_nil (deferred body)) (lie_before (faults_in test key) (faults_of body) && never_writes n body) b.1 in
-    let d = both-true (lie_before (faults_in test key) (faults_of body)) (never_writes n body) c.1 in
-    saves-same j ds loop m key at test body s t fresh reads names (flat (n ∷ []) false test a.0) b.0 c.0 d.0 d.1 agree
+    let last = never_writes n body && keeps_iterators body in
+    let lies = lie_before (faults_in test key) (faults_of (n ∷ []) body) in
+    let a = both-true (is_flat (n ∷ []) false test) (is_outer_body ds false n body && (is_nil (deferred body) && (lies && last))) test_saves in
+    let b = both-true (is_outer_body ds false n body) (is_nil (deferred body) && (lies && last)) a.1 in
+    let c = both-true (is_nil (deferred body)) (lies && last) b.1 in
+    let d = both-true lies last c.1 in
+    let e = both-true (never_writes n body) (keeps_iterators body) d.1 in
+    saves-same j ds loop m key at test body s t fresh reads names (flat (n ∷ []) false test a.0) b.0 c.0 d.0 e.0 e.1 graph a.0 agree
   where
     saves-same : (j : ℕ) (ds : List Declaration) (loop : Loop) (m : ℕ) (key : Key) (at : Place) (test : Expr) (body : Stmt) (s t : Store) (fresh : j ≤ m) (reads : ReadsBelow j test) (names : NamesBelow j body) (flat-test : IsFlat test)
-        (flat-body : is_outer_body ds false loop.outer body ≡ true) (none : is_nil (deferred body) ≡ true) (order : lie_before (faults_in test key) (faults_of body) ≡ true) (off : never_writes loop.outer body ≡ true) → Agree j s t →
+        (flat-body : is_outer_body ds false loop.outer body ≡ true) (none : is_nil (deferred body) ≡ true) (order : lie_before (faults_in test key) (faults_of (loop.outer ∷ []) body) ≡ true) (off : never_writes loop.outer body ≡ true) (keeps : keeps_iterators body ≡ true) (graph : IsGraph loop.graph) (reads-own : is_flat (loop.outer ∷ []) false test ≡ true) → Agree j s t →
         AlikeStores j (parallel loop key test body (nodes loop.graph) s)
         (then_with (parallel loop key always (Assign key (T.Property loop.outer m at) test) (nodes loop.graph) t) (parallel loop key (Property loop.outer m at) body (nodes loop.graph)))
-    saves-same j ds loop m key at test body s t fresh reads names flat-test flat-body none order off agree =
+    saves-same j ds loop m key at test body s t fresh reads names flat-test flat-body none order off keeps graph reads-own agree =
         subst (λ r. AlikeStores j (parallel loop key test body (nodes loop.graph) s) (then_with r (parallel loop key (Property loop.outer m at) body (nodes loop.graph))))
-        (sym (saving j ds loop m key at test body t fresh reads flat-test flat-body none order off))
-        (by (least (somes (map (tested j ds loop m key at test body t fresh reads flat-test flat-body none order off) (nodes loop.graph)))) refl)
+        (sym (saving j ds loop m key at test body t fresh reads flat-test flat-body none order off keeps graph reads-own))
+        (by (least (somes (map (tested j ds loop m key at test body t fresh reads flat-test flat-body none order off keeps graph reads-own) (nodes loop.graph)))) refl)
       where
-        by : (o : Option Fault) → least (somes (map (tested j ds loop m key at test body t fresh reads flat-test flat-body none order off) (nodes loop.graph))) ≡ o →
-            AlikeStores j (parallel loop key test body (nodes loop.graph) s) (then_with (unless_fault o (Ok (kept j ds loop m key at test body t fresh reads flat-test flat-body none order off))) (parallel loop key (Property loop.outer m at) body (nodes loop.graph)))
+        by : (o : Option Fault) → least (somes (map (tested j ds loop m key at test body t fresh reads flat-test flat-body none order off keeps graph reads-own) (nodes loop.graph))) ≡ o →
+            AlikeStores j (parallel loop key test body (nodes loop.graph) s) (then_with (unless_fault o (Ok (kept j ds loop m key at test body t fresh reads flat-test flat-body none order off keeps graph reads-own))) (parallel loop key (Property loop.outer m at) body (nodes loop.graph)))
         by (Some e) is =
-            subst (AlikeStores j (parallel loop key test body (nodes loop.graph) s)) (failed j ds loop m key at test body t fresh reads flat-test flat-body none order off e is)
+            subst (AlikeStores j (parallel loop key test body (nodes loop.graph) s)) (failed j ds loop m key at test body t fresh reads flat-test flat-body none order off keeps graph reads-own e is)
             (parallel-alike j loop key test body (nodes loop.graph) s t reads names agree)
         by None is =
-            subst (AlikeStores j (parallel loop key test body (nodes loop.graph) s)) (sym (masked j ds loop m key at test body t fresh reads flat-test flat-body none order off is))
-            (parallel-alike j loop key test body (nodes loop.graph) s (kept j ds loop m key at test body t fresh reads flat-test flat-body none order off) reads names
-            (both-agree agree (kept-agrees j ds loop m key at test body t fresh reads flat-test flat-body none order off)))
+            subst (AlikeStores j (parallel loop key test body (nodes loop.graph) s)) (sym (masked j ds loop m key at test body t fresh reads flat-test flat-body none order off keeps graph reads-own is))
+            (parallel-alike j loop key test body (nodes loop.graph) s (kept j ds loop m key at test body t fresh reads flat-test flat-body none order off keeps graph reads-own) reads names
+            (both-agree agree (kept-agrees j ds loop m key at test body t fresh reads flat-test flat-body none order off keeps graph reads-own)))
           where
-            both-agree : Agree j s t → Agree j t (kept j ds loop m key at test body t fresh reads flat-test flat-body none order off) → Agree j s (kept j ds loop m key at test body t fresh reads flat-test flat-body none order off)
+            both-agree : Agree j s t → Agree j t (kept j ds loop m key at test body t fresh reads flat-test flat-body none order off keeps graph reads-own) → Agree j s (kept j ds loop m key at test body t fresh reads flat-test flat-body none order off keeps graph reads-own)
             both-agree a b = record { scalar = λ x l. b.scalar x l ∙ a.scalar x l; node = λ p y l. b.node p y l ∙ a.node p y l; edge = λ p e l. b.edge p e l ∙ a.edge p e l }

@@ -26,52 +26,8 @@ use Rattle.gm_forms.proofs.CutTests.{found, not-true}
 use Rattle.gm_forms.proofs.ReadingFrames.{read-write, does-follows}
 use Rattle.gm_loop_laws.specs.Masks.{is_certain, spares}
 use Rattle.gm_loop_laws.specs.Slices.{is_gone, is_idle, spares_target, knows_none}
-use Rattle.gm_loop_laws.proofs.Edges.{all-within}
-use Rattle.gm_loop_laws.proofs.Alone.{nodes-below}
 use Rattle.gm_loop_laws.proofs.Kept.{Untouched}
 use Rattle.gm_loop_laws.proofs.Masks.{Holds, certain-by, not-in}
-
--- members of a map and of a filter
-in-map : {A B : Type 0} (f : A → B) (y : B) (xs : List A) → IsIn y (map f xs) → (x : A) × IsIn x xs × (y ≡ f x)
-in-map f y [] i = absurd i
-in-map {A} {B} f y (x ∷ xs) i =
-    ⊎_elim
-    (λ (e : y ≡ f x). let r : (z : A) × IsIn z (x ∷ xs) × (y ≡ f z) = (x, inl refl, e) in r)
-    (λ j. let r = in-map f y xs j in (r.0, inr r.1, r.2)) i
-
-in-filter : {A : Type 0} (p : A → Bool) (y : A) (xs : List A) → IsIn y (filter p xs) → IsIn y xs
-in-filter p y [] i = absurd i
-in-filter p y (x ∷ xs) i = by (p x) (in-filter p y xs) i
-  where
-    by : (b : Bool) → (IsIn y (filter p xs) → IsIn y xs) → IsIn y (cond b (x ∷ filter p xs) (filter p xs)) → IsIn y (x ∷ xs)
-    by true h i = ⊎_elim (λ (e : y ≡ x). inl e) (λ r. inr (h r)) i
-    by false h i = inr (h i)
-
--- steps lead to nodes of the graph
-out-within : (g : NumberedGraph) → IsGraph g → (n : ℕ) (e : Step) → IsIn e (out_steps g n) → e.node < node_count g
-out-within g is n e i =
-    let r = in-map (λ (d : ℕ × Edge). let s : Step = record { node = d.1.to; edge = d.0 } in s) e (filter (λ (d : ℕ × Edge). nat_eq d.1.from n) (enumerate_from 0 g.edges)) i in
-    let w = all-within (node_count g) 0 g.edges is.within r.0 (in-filter (λ (d : ℕ × Edge). nat_eq d.1.from n) r.0 (enumerate_from 0 g.edges) r.1) in
-    subst (λ (s : Step). s.node < node_count g) (sym r.2) w.to_node
-
-in-within : (g : NumberedGraph) → IsGraph g → (n : ℕ) (e : Step) → IsIn e (in_steps g n) → e.node < node_count g
-in-within g is n e i =
-    let r = in-map (λ (d : ℕ × Edge). let s : Step = record { node = d.1.from; edge = d.0 } in s) e (filter (λ (d : ℕ × Edge). nat_eq d.1.to n) (enumerate_from 0 g.edges)) i in
-    let w = all-within (node_count g) 0 g.edges is.within r.0 (in-filter (λ (d : ℕ × Edge). nat_eq d.1.to n) r.0 (enumerate_from 0 g.edges) r.1) in
-    subst (λ (s : Step). s.node < node_count g) (sym r.2) w.from_node
-
-pub step-within : (w : View) → IsGraph w.graph → (d : Domain) (o : Option ℕ) (e : Step) → IsIn e (steps_of w d o) → e.node < node_count w.graph
-step-within w is D.Nodes o e i =
-    let r = in-map (λ (n : ℕ). let s : Step = record { node = n; edge = 0 } in s) e (nodes w.graph) i in
-    subst (λ (s : Step). s.node < node_count w.graph) (sym r.2) (nodes-below w.graph r.0 r.1)
-step-within w is D.OutNbrs None e i = absurd i
-step-within w is D.OutNbrs (Some n) e i = out-within w.graph is n e i
-step-within w is D.InNbrs None e i = absurd i
-step-within w is D.InNbrs (Some n) e i = in-within w.graph is n e i
-step-within w is D.UpNbrs None e i = absurd i
-step-within w is D.UpNbrs (Some n) e i = in-within w.graph is n e (in-filter _ e (in_steps w.graph n) i)
-step-within w is D.DownNbrs None e i = absurd i
-step-within w is D.DownNbrs (Some n) e i = out-within w.graph is n e (in-filter _ e (out_steps w.graph n) i)
 
 module _ (gone : List ℕ) where
   -- all slots but those of the locals

@@ -38,7 +38,8 @@ use Rattle.gm_loop_laws.proofs.Joins.{map-each}
 use Rattle.gm_loop_laws.proofs.Settling.{target-of, target-alone, value-store}
 use Rattle.gm_loop_laws.proofs.Alone.{nodes-below}
 use Rattle.gm_loop_laws.proofs.Masks.{not-in}
-use Rattle.gm_loop_laws.proofs.Slices.{step-within, Kept, kept-lift, reads-kept, Alike, kept-does, idle-does}
+use Rattle.gm_forms.proofs.Steps.{step-within}
+use Rattle.gm_loop_laws.proofs.Slices.{Kept, kept-lift, reads-kept, Alike, kept-does, idle-does}
 
 module _ (gone : List ℕ) (loop : Loop) (graph : IsGraph loop.graph) where
   abbrev Same : List ℕ → Iteration → Iteration → Type 0

@@ -9,7 +9,7 @@ use Rattle.gm_ast.specs.Ways.{is_in}
 use Rattle.gm_semantics.specs.Stores.{Store}
 use Rattle.gm_semantics.specs.Iterations.{Loop}
 use Rattle.gm_semantics.specs.Frames.{ReadsBelow, NamesBelow}
-use Rattle.gm_forms.specs.Cut.{spares_locals}
+use Rattle.gm_forms.specs.Cut.{spares_locals, keeps_iterators}
 use Rattle.gm_forms.specs.Forms.{is_outer_body}
 use Rattle.gm_forms.specs.Order.{lie_before, faults_in, faults_of}
 use Rattle.gm_forms.specs.Sharing.{are_at_once, variables_of, disjoint}
@@ -34,7 +34,7 @@ given_by ds n (If k c a b) = given_by ds n a ++ given_by ds n b
 given_by ds n (Foreach k at h test body) = given_by ds n body
 given_by ds n _ = []
 
--- whether an inner loop that is a whole body may be cut between two parts of its own: it stands alone, as both loops will; the faults of the filter and of the first part come before those of the second; both give to different variables, and what the first one gives is read by neither, nor by the filter
+-- whether an inner loop that is a whole body may be cut between two parts of its own: it stands alone, as both loops will; the faults of the filter and of the first part come before those of the second; both give to different variables, and what the first one gives is read by neither, nor by the filter; and the inner iterator is kept
 abbrev pub may_cut_inner : List Declaration → List ℕ → ℕ → ℕ → Place → Key → Place → Head → Expr → Stmt → Stmt → Bool
 may_cut_inner ds some n m at k here h test a b =
     let given = given_by ds n a in
@@ -43,9 +43,9 @@ may_cut_inner ds some n m at k here h test a b =
     is_outer_body ds false n (Foreach k here h test (Then a b)) && (is_outer_body ds false n (Foreach k here h test rest)
     && (stands_alone ds some n (Then a b) && (stands_alone ds some n a && (stands_alone ds some n rest
     && (spares_locals ds (Then a b) && (spares_locals ds rest && (never_writes n (Then a b)
-    && (lie_before (faults_in filters k ++ faults_of a) (faults_of b)
+    && (lie_before (faults_in filters k ++ faults_of (h.iterator ∷ n ∷ []) a) (faults_of (h.iterator ∷ n ∷ []) b)
     && (disjoint given (given_by ds n b) && (not (is_in given n)
-    && (spares given filters && knows_none given (n ∷ h.iterator ∷ []) rest)))))))))))
+    && (spares given filters && (knows_none given (n ∷ h.iterator ∷ []) rest && keeps_iterators (Foreach k here h test (Then a b))))))))))))))
 
 -- such a loop is the loop of the first part, and then that of the second one, which evaluates the first one again and gives nothing of it
 abbrev pub InnerLoopsCut : Type 0

@@ -2,6 +2,7 @@
 use Rattle.std.specs.Prelude.{◌≡◌, ◌≤◌, ℕ, Bool, true, false, ◌&&◌, ◌||◌, if◌then◌else◌, List, [], ◌∷◌, ◌++◌, map}
 use Rattle.gm_base.specs.declared.places.Place.{Place}
 use Rattle.gm_value.specs.declared.operations.Op1.TheVariants.{Not}
+use Rattle.gm_model.specs.Graphs.{IsGraph}
 use Rattle.gm_ast.specs.declared.tree.Declaration.{Declaration}
 use Rattle.gm_ast.specs.declared.tree.Key.{Key}
 use Rattle.gm_ast.specs.declared.tree.Head.{Head}
@@ -61,6 +62,6 @@ module _ (whole : Stmt → Bool) (place : Place) where
 abbrev pub PiecesInTurn : Type 0
 PiecesInTurn = (j : ℕ) (run : Run) (m : ℕ) (key : Key) (at place here : Place) (h : Head) (whole : Stmt → Bool) (mask : Expr) (body : Stmt) (s t : State) →
     let n = h.iterator in
-    j ≤ m → ReadsBelow j mask → NamesBelow j body →
+    IsGraph run.graph → j ≤ m → ReadsBelow j mask → NamesBelow j body →
     may_part whole here run.declarations n m key at (pushed_properties n body) mask body ≡ true → AlikeStates j s t →
     AlikeCourses j (sequential (Foreach key place h mask body) run s) (sequential (sequence (map (λ p. Foreach key place h p.mask p.part) (pieces_of whole here mask body))) run t)

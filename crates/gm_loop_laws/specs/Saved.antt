@@ -2,6 +2,7 @@
 use Rattle.std.specs.Prelude.{◌≡◌, ◌≤◌, ℕ, nat_eq, Bool, true, false, ◌&&◌, not, List, [], ◌∷◌}
 use Rattle.std.specs.List.{list_all}
 use Rattle.gm_base.specs.declared.places.Place.{Place}
+use Rattle.gm_model.specs.Graphs.{IsGraph}
 use Rattle.gm_ast.specs.declared.tree.Declaration.{Declaration}
 use Rattle.gm_ast.specs.declared.tree.Key.{Key}
 use Rattle.gm_ast.specs.declared.tree.Target.{Target}
@@ -13,6 +14,7 @@ use Rattle.gm_semantics.specs.Levels.{nodes}
 use Rattle.gm_semantics.specs.Iterations.{Loop}
 use Rattle.gm_semantics.specs.Loops.{parallel}
 use Rattle.gm_semantics.specs.Frames.{Agree, ReadsBelow, NamesBelow, AlikeStores}
+use Rattle.gm_forms.specs.Cut.{keeps_iterators}
 use Rattle.gm_forms.specs.Forms.{is_flat, is_outer_body}
 use Rattle.gm_forms.specs.Order.{lie_before, faults_in, faults_of}
 use Rattle.gm_forms.specs.Sharing.{deferred}
@@ -33,16 +35,16 @@ never_writes y (If k c a b) = never_writes y a && never_writes y b
 never_writes y (Foreach k at h test body) = not (nat_eq h.iterator y) && never_writes y body
 never_writes y _ = true
 
--- whether a filter may be saved: its faults come before those of the body, which leaves the iterator, and defers nothing; both are without reductions in expressions
+-- whether a filter may be saved: its faults come before those of the body, which leaves the iterator and the inner ones, and defers nothing; both are without reductions in expressions
 abbrev pub saves : List Declaration → ℕ → Key → Expr → Stmt → Bool
 saves ds n key test body =
     is_flat (n ∷ []) false test
-    && (is_outer_body ds false n body && (is_nil (deferred body) && (lie_before (faults_in test key) (faults_of body) && never_writes n body)))
+    && (is_outer_body ds false n body && (is_nil (deferred body) && (lie_before (faults_in test key) (faults_of (n ∷ []) body) && (never_writes n body && keeps_iterators body))))
 
 -- a filter is saved at every node in a property that neither it nor the body names. All that these name is left the same
 abbrev pub SavingFresh : Type 0
 SavingFresh = (j : ℕ) (ds : List Declaration) (loop : Loop) (m : ℕ) (key : Key) (at : Place) (test : Expr) (body : Stmt) (s t : Store) →
     let n = loop.outer in
-    j ≤ m → ReadsBelow j test → NamesBelow j body → saves ds n key test body ≡ true → Agree j s t →
+    IsGraph loop.graph → j ≤ m → ReadsBelow j test → NamesBelow j body → saves ds n key test body ≡ true → Agree j s t →
     AlikeStores j (parallel loop key test body (nodes loop.graph) s)
     (then_with (parallel loop key always (Assign key (T.Property n m at) test) (nodes loop.graph) t) (parallel loop key (Property n m at) body (nodes loop.graph)))

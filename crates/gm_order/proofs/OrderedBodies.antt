@@ -1,6 +1,6 @@
 -- Faults in the bodies of parallel loops of a text stand in order.
 use Rattle.std.proofs.Common.{◌≡◌, ◌+◌, ◌<◌, ◌≤◌, ℕ, pos, Bool, true, false, List, [], ◌∷◌, ◌++◌, map, refl, sym, ap, subst, ◌∙◌, arith, Option, Some, None}
-use Rattle.std.specs.Prelude.{nat_eq, nat_lt, is_none, Ok}
+use Rattle.std.specs.Prelude.{nat_eq, nat_lt, not, is_none, Ok}
 use Rattle.std.specs.Cmp.Derive.{both_true}
 use Rattle.std.proofs.lemmas.Bool.{false≢true, lt-ltb, or_left}
 use Rattle.gm_base.specs.declared.places.Place.{Place}
@@ -34,7 +34,8 @@ use Rattle.gm_ast.specs.Kinds.{Part, fitted}
 use Rattle.gm_ast.specs.Typing.{typed, start_of, ranged, head_with}
 use Rattle.gm_ast.specs.Statements.{group_target, in_group, goal, fits_goal, reduces, first_wanted, total_at, fits_each, all_answers, combined, one_of, incremented, typed_all, goals_together, reduced, names_graph, grouped, assigned, deferred, assignment, returned, at_iterator, type_broken, sort_of, vtype_of, variable_of, declared_all, plain_declarations, declarations_as, edge_declared, edge_owner, declared_value, declared_typed, declared_with, following, loop_of, test, graph_searched, rooted, search_of, searched, checked}
 use Rattle.gm_forms.proofs.Named.{both-true}
-use Rattle.gm_forms.specs.Order.{lie_before, rest_in, hoisted_in, hoists_in_order, faults_in, in_order, faults_in_all, hoisted_in_all, all_in_order, fault_of, are_numbered, cannot_fail, target_faults, targets_faults, faults_of, leads, body_in_order, loop_in_order, begins, search_in_order}
+use Rattle.gm_ast.specs.Ways.{is_in}
+use Rattle.gm_forms.specs.Order.{lie_before, rest_in, hoisted_in, hoists_in_order, faults_in, in_order, faults_in_all, hoisted_in_all, all_in_order, fault_of, fault_if, are_numbered, cannot_fail, target_faults, targets_faults, faults_of, leads, body_in_order, loop_in_order, begins, search_in_order}
 use Rattle.gm_ready.proofs.Judging.{IfPart, if-by, if-both, if-good, if-then, append-empty}
 use Rattle.gm_order.specs.Places.{ascend, places_of_each, places_in, places_of_target, place_of_option, places_of}
 use Rattle.gm_order.proofs.Parts.{anything, if-with, if-judged}
@@ -63,10 +64,10 @@ numbered-in lo hi lt [] h = refl
 numbered-in lo hi lt (f ∷ fs) h = let l = h.0.0 in both_true (lt-ltb 0 f.key.statement (omega (arith, lt, l))) (numbered-in lo hi lt fs h.1)
 
 abbrev pub InBody : ℕ → ℕ → Stmt → Type 0
-InBody lo hi s = Each (In lo hi) (faults_of s) × ((w : Around) → is_parallel w.loops ≡ true → forms_broken s w ≡ [] → body_in_order s ≡ true)
+InBody lo hi s = (its : List ℕ) → Each (In lo hi) (faults_of its s) × ((w : Around) → is_parallel w.loops ≡ true → forms_broken s w ≡ [] → body_in_order its s ≡ true)
 
 wider-body : (lo hi a b : ℕ) (s : Stmt) → a ≤ lo → hi ≤ b → InBody lo hi s → InBody a b s
-wider-body lo hi a b s l h k = (wider-in lo hi a b (faults_of s) l h k.0, k.1)
+wider-body lo hi a b s l h k its = (wider-in lo hi a b (faults_of its s) l h (k its).0, (k its).1)
 
 -- ---- an expression of a statement
 
@@ -87,13 +88,17 @@ module _ (n : ℕ) (k : Key) (key : k ≡ operators n) where
   abbrev Under : Fault → Type 0
   Under f = f.key ≡ k
 
-  target-under : (t : Target) → Each Under (target_faults t k)
-  target-under (T.Scalar x at) = tt
-  target-under (T.Property x p at) = (refl, tt)
+  target-under : (its : List ℕ) (t : Target) → Each Under (target_faults its t k)
+  target-under its (T.Scalar x at) = tt
+  target-under its (T.Property x p at) = by (is_in its x)
+    where
+      by : (b : Bool) → Each Under (fault_if (not b) k at)
+      by true = tt
+      by false = (refl, tt)
 
-  targets-under : (ts : List Target) → Each Under (targets_faults ts k)
-  targets-under [] = tt
-  targets-under (t ∷ ts) = each-append Under (target_faults t k) (targets_faults ts k) (target-under t) (targets-under ts)
+  targets-under : (its : List ℕ) (ts : List Target) → Each Under (targets_faults its ts k)
+  targets-under its [] = tt
+  targets-under its (t ∷ ts) = each-append Under (target_faults its t k) (targets_faults its ts k) (target-under its t) (targets-under its ts)
 
   under-in : (hi : ℕ) (xs : List Fault) → n < hi → Each Under xs → Each (In n hi) xs
   under-in hi xs lt h = each-map Under (In n hi) xs (λ f e. let s : f.key.statement ≡ n = ap (λ (j : Key). j.statement) e ∙ statement in (omega (arith, s), omega (arith, s, lt))) h
@@ -102,28 +107,28 @@ module _ (n : ℕ) (k : Key) (key : k ≡ operators n) where
   hoisted-under ps xs ys h g = lie (At (inner n) ps) Under xs ys h g
       (λ a b x y. subst (λ i. fault_lt (record { key = i; place = a.place }) b ≡ true) (sym x.0) (subst (λ i. fault_lt (record { key = inner n; place = a.place }) (record { key = i; place = b.place }) ≡ true) (sym y) (inner-before a.place b.place)))
 
-  targeted : (hi : ℕ) (ps : List Place) (t : Target) (e : Expr) → n < hi → InParallel n ps e → Each (In n hi) (target_faults t k ++ faults_in e k)
-  targeted hi ps t e lt h = each-append (In n hi) (target_faults t k) (faults_in e k) (under-in hi (target_faults t k) lt (target-under t)) (expr-faults hi ps e lt h)
+  targeted : (its : List ℕ) (hi : ℕ) (ps : List Place) (t : Target) (e : Expr) → n < hi → InParallel n ps e → Each (In n hi) (target_faults its t k ++ faults_in e k)
+  targeted its hi ps t e lt h = each-append (In n hi) (target_faults its t k) (faults_in e k) (under-in hi (target_faults its t k) lt (target-under its t)) (expr-faults hi ps e lt h)
 
   assign-body : (hi : ℕ) (ps : List Place) (t : Target) (e : Expr) → n < hi → InParallel n ps e → InBody n hi (P.Assign k t e)
-  assign-body hi ps t e lt h = (
-    targeted hi ps t e lt h,
+  assign-body hi ps t e lt h its = (
+    targeted its hi ps t e lt h,
     λ w p r.
         let s = append-empty (assignment_broken w t) (reads_broken e w) r in
-        both_true (expr-order ps e h (h.2 w p s.1)) (hoisted-under ps (hoisted_in e) (target_faults t k) h.0 (target-under t)),
+        both_true (expr-order ps e h (h.2 w p s.1)) (hoisted-under ps (hoisted_in e) (target_faults its t k) h.0 (target-under its t)),
   )
 
   defer-body : (hi : ℕ) (ps : List Place) (t : Target) (e : Expr) → n < hi → InParallel n ps e → InBody n hi (P.Defer k t e)
-  defer-body hi ps t e lt h = (
-    targeted hi ps t e lt h,
+  defer-body hi ps t e lt h its = (
+    targeted its hi ps t e lt h,
     λ w p r.
         let s = append-empty (parallel_only w.loops (target_place t)) (not_inner w.loops (target_place t) ++ reads_broken e w) r in
         let u = append-empty (not_inner w.loops (target_place t)) (reads_broken e w) s.1 in
-        both_true (expr-order ps e h (h.2 w p u.1)) (hoisted-under ps (hoisted_in e) (target_faults t k) h.0 (target-under t)),
+        both_true (expr-order ps e h (h.2 w p u.1)) (hoisted-under ps (hoisted_in e) (target_faults its t k) h.0 (target-under its t)),
   )
 
   declare-body : (hi : ℕ) (ps : List Place) (x : ℕ) (e : Expr) → n < hi → InParallel n ps e → InBody n hi (P.Declare k x (Some e))
-  declare-body hi ps x e lt h = (expr-faults hi ps e lt h, λ w p r. expr-order ps e h (h.2 w p r))
+  declare-body hi ps x e lt h its = (expr-faults hi ps e lt h, λ w p r. expr-order ps e h (h.2 w p r))
 
   -- ---- several expressions
 
@@ -156,24 +161,24 @@ module _ (n : ℕ) (k : Key) (key : k ≡ operators n) where
   Later f = KeyBefore (inner n) f.key × (f.key.statement ≡ n)
 
   combine-body : (hi : ℕ) (at : Place) (op : Reduce) (ts : List Target) (es : List Expr) → n < hi → AllIn es → InBody n hi (P.Combine k (total_at k at) op ts es)
-  combine-body hi at op ts es lt h =
+  combine-body hi at op ts es lt h its =
       let total = total_at k at in
       let own : List Fault = record { key = k; place = total.place } ∷ (total_fault total ∷ []) in
       let own-later : Each Later own = ((inner-before, statement), ((stage-before (inner n) total.key (sym statement) refl, statement), tt)) in
-      let ends : Each Later (targets_faults ts k ++ own) = each-append Later (targets_faults ts k) own (each-map Under Later (targets_faults ts k) (λ f e. (subst (KeyBefore (inner n)) (sym e) inner-before, ap (λ (j : Key). j.statement) e ∙ statement)) (targets-under ts)) own-later in (
-        each-append (In n hi) (targets_faults ts k) (faults_in_all es k ++ own) (under-in hi (targets_faults ts k) lt (targets-under ts))
+      let ends : Each Later (targets_faults its ts k ++ own) = each-append Later (targets_faults its ts k) own (each-map Under Later (targets_faults its ts k) (λ f e. (subst (KeyBefore (inner n)) (sym e) inner-before, ap (λ (j : Key). j.statement) e ∙ statement)) (targets-under its ts)) own-later in (
+        each-append (In n hi) (targets_faults its ts k) (faults_in_all es k ++ own) (under-in hi (targets_faults its ts k) lt (targets-under its ts))
             (each-append (In n hi) (faults_in_all es k) own (all-faults hi es lt h) (each-map Later (In n hi) own (λ f l. let s = l.1 in (omega (arith, s), omega (arith, s, lt))) own-later)),
-        λ w p r. both_true (all-order es h w p r) (lie Hoisted Later (hoisted_in_all es) (targets_faults ts k ++ own) (all-hoisted es h) ends
+        λ w p r. both_true (all-order es h w p r) (lie Hoisted Later (hoisted_in_all es) (targets_faults its ts k ++ own) (all-hoisted es h) ends
             (λ x y e l. subst (λ i. fault_lt (record { key = i; place = x.place }) y ≡ true) (sym e) (l.0 x.place y.place))),
       )
 
 -- ---- statements without expressions
 
 plain-body : (lo hi : ℕ) (k : Key) (ns : List ℕ) → InBody lo hi (plain_declarations k ns)
-plain-body lo hi k [] = (tt, λ w p r. refl)
-plain-body lo hi k (m ∷ ns) =
-    let rest = plain-body lo hi k ns in
-    (rest.0, λ w p r. both_true (rest.1 w p r) (nothing-before [] (faults_of (plain_declarations k ns)) refl))
+plain-body lo hi k [] its = (tt, λ w p r. refl)
+plain-body lo hi k (m ∷ ns) its =
+    let rest = plain-body lo hi k ns its in
+    (rest.0, λ w p r. both_true (rest.1 w p r) (nothing-before [] (faults_of its (plain_declarations k ns)) refl))
 
 declarations-body : (lo hi : ℕ) (s : Sort) (k : Key) (xs : List SurfaceName) (ns : List ℕ) → IfPart (InBody lo hi) (ok_of (declarations_as s k xs ns))
 declarations-body lo hi Sorts.Edge k xs ns = tt
@@ -186,46 +191,46 @@ declarations-body lo hi Sorts.EdgeProperty k xs ns = plain-body lo hi k ns
 -- ---- statements of statements
 
 then-body : (lo mid top hi : ℕ) (a b : Stmt) → mid ≤ top → lo ≤ top → mid ≤ hi → InBody lo mid a → InBody top hi b → InBody lo hi (P.Then a b)
-then-body lo mid top hi a b le down up x y = (
-  each-append (In lo hi) (faults_of a) (faults_of b) (wider-in lo mid lo hi (faults_of a) (omega arith) up x.0) (wider-in top hi lo hi (faults_of b) down (omega arith) y.0),
+then-body lo mid top hi a b le down up x y its = (
+  each-append (In lo hi) (faults_of its a) (faults_of its b) (wider-in lo mid lo hi (faults_of its a) (omega arith) up (x its).0) (wider-in top hi lo hi (faults_of its b) down (omega arith) (y its).0),
   λ w p r.
       let s = append-empty (forms_broken a w) (forms_broken b w) r in
-      both_true (x.1 w p s.0) (both_true (y.1 w p s.1) (in-apart lo mid top hi (faults_of a) (faults_of b) le x.0 y.0)),
+      both_true ((x its).1 w p s.0) (both_true ((y its).1 w p s.1) (in-apart lo mid top hi (faults_of its a) (faults_of its b) le (x its).0 (y its).0)),
 )
 
-pub loop-order : (n : ℕ) (k : Key) → k ≡ operators n → (ps : List Place) (c : Expr) (body : Stmt) (lo hi : ℕ) → n < lo → InParallel n ps c → InBody lo hi body → (v u : Around) → is_parallel v.loops ≡ true → is_parallel u.loops ≡ true
-    → reads_broken c v ≡ [] → forms_broken body u ≡ [] → loop_in_order k c body ≡ true
-loop-order n k key ps c body lo hi lt x y v u pv pu rc rb =
-    both_true (expr-order n k key ps c x (x.2 v pv rc)) (both_true (y.1 u pu rb)
-    (in-apart n (n + 1) lo hi (faults_in c k) (faults_of body) (omega (arith, lt)) (expr-faults n k key (n + 1) ps c (omega arith) x) y.0))
+pub loop-order : (its : List ℕ) (n : ℕ) (k : Key) → k ≡ operators n → (ps : List Place) (c : Expr) (body : Stmt) (lo hi : ℕ) → n < lo → InParallel n ps c → InBody lo hi body → (v u : Around) → is_parallel v.loops ≡ true → is_parallel u.loops ≡ true
+    → reads_broken c v ≡ [] → forms_broken body u ≡ [] → loop_in_order its k c body ≡ true
+loop-order its n k key ps c body lo hi lt x y v u pv pu rc rb =
+    both_true (expr-order n k key ps c x (x.2 v pv rc)) (both_true ((y its).1 u pu rb)
+    (in-apart n (n + 1) lo hi (faults_in c k) (faults_of its body) (omega (arith, lt)) (expr-faults n k key (n + 1) ps c (omega arith) x) (y its).0))
 
-module _ (n : ℕ) (k : Key) (key : k ≡ operators n) (at : Place) (body : Stmt) (lo hi : ℕ) (lt : n < lo) (y : InBody lo hi body) where
+module _ (its : List ℕ) (n : ℕ) (k : Key) (key : k ≡ operators n) (at : Place) (body : Stmt) (lo hi : ℕ) (lt : n < lo) (y : InBody lo hi body) where
   start : Each (In n (n + 1)) (fault_of k at ∷ [])
   start = let e = statement n k key in ((omega (arith, e), omega (arith, e)), tt)
 
-  pub leads-order : leads k at body ≡ true
-  leads-order = in-apart n (n + 1) lo hi (fault_of k at ∷ []) (faults_of body) (omega (arith, lt)) start y.0
+  pub leads-order : leads its k at body ≡ true
+  leads-order = in-apart n (n + 1) lo hi (fault_of k at ∷ []) (faults_of its body) (omega (arith, lt)) start (y its).0
 
-  pub begins-order : (ps : List Place) (c : Expr) → InParallel n ps c → 0 < n → begins k at c body ≡ true
+  pub begins-order : (ps : List Place) (c : Expr) → InParallel n ps c → 0 < n → begins its k at c body ≡ true
   begins-order ps c x positive =
       let e = statement n k key in
-      both_true leads-order (both_true (numbered-in n (n + 1 + hi) positive (hoisted_in c ++ faults_of body)
-      (each-append (In n (n + 1 + hi)) (hoisted_in c) (faults_of body) (under n (n + 1 + hi) (inner n) ps (hoisted_in c) refl (omega arith) x.0) (wider-in lo hi n (n + 1 + hi) (faults_of body) (omega (arith, lt)) (omega arith) y.0)))
+      both_true leads-order (both_true (numbered-in n (n + 1 + hi) positive (hoisted_in c ++ faults_of its body)
+      (each-append (In n (n + 1 + hi)) (hoisted_in c) (faults_of its body) (under n (n + 1 + hi) (inner n) ps (hoisted_in c) refl (omega arith) x.0) (wider-in lo hi n (n + 1 + hi) (faults_of its body) (omega (arith, lt)) (omega arith) (y its).0)))
       (or_left (nat_lt 0 k.statement) (cannot_fail c) (lt-ltb 0 k.statement (omega (arith, e, positive)))))
 
-  pub search-order : (ps : List Place) (c : Expr) → InParallel n ps c → 0 < n → loop_in_order k c body ≡ true → search_in_order k at c body ≡ true
+  pub search-order : (ps : List Place) (c : Expr) → InParallel n ps c → 0 < n → loop_in_order its k c body ≡ true → search_in_order its k at c body ≡ true
   search-order ps c x positive h = both_true (numbered-in n (n + 1) positive (fault_of k at ∷ []) start) (both_true (begins-order ps c x positive) h)
 
 if-body : (n : ℕ) (k : Key) → k ≡ operators n → (ps : List Place) (c : Expr) (a b : Stmt) (lo mid top hi : ℕ) → n < lo → mid ≤ top → lo ≤ top → mid ≤ hi → n < hi → InParallel n ps c → InBody lo mid a → InBody top hi b → InBody n hi (P.If k c a b)
-if-body n k key ps c a b lo mid top hi lt le down up high x y z =
-    let branches : Each (In lo hi) (faults_of a ++ faults_of b) = each-append (In lo hi) (faults_of a) (faults_of b) (wider-in lo mid lo hi (faults_of a) (omega arith) up y.0) (wider-in top hi lo hi (faults_of b) down (omega arith) z.0) in (
-      each-append (In n hi) (faults_in c k) (faults_of a ++ faults_of b) (expr-faults n k key hi ps c high x) (wider-in lo hi n hi (faults_of a ++ faults_of b) (omega (arith, lt)) (omega arith) branches),
+if-body n k key ps c a b lo mid top hi lt le down up high x y z its =
+    let branches : Each (In lo hi) (faults_of its a ++ faults_of its b) = each-append (In lo hi) (faults_of its a) (faults_of its b) (wider-in lo mid lo hi (faults_of its a) (omega arith) up (y its).0) (wider-in top hi lo hi (faults_of its b) down (omega arith) (z its).0) in (
+      each-append (In n hi) (faults_in c k) (faults_of its a ++ faults_of its b) (expr-faults n k key hi ps c high x) (wider-in lo hi n hi (faults_of its a ++ faults_of its b) (omega (arith, lt)) (omega arith) branches),
       λ w p r.
           let s = append-empty (reads_broken c w) (forms_broken a w ++ forms_broken b w) r in
           let u = append-empty (forms_broken a w) (forms_broken b w) s.1 in
-          both_true (expr-order n k key ps c x (x.2 w p s.0)) (both_true (y.1 w p u.0) (both_true (z.1 w p u.1) (both_true
-          (in-apart n (n + 1) lo hi (faults_in c k) (faults_of a ++ faults_of b) (omega (arith, lt)) (expr-faults n k key (n + 1) ps c (omega arith) x) branches)
-          (in-apart lo mid top hi (faults_of a) (faults_of b) le y.0 z.0)))),
+          both_true (expr-order n k key ps c x (x.2 w p s.0)) (both_true ((y its).1 w p u.0) (both_true ((z its).1 w p u.1) (both_true
+          (in-apart n (n + 1) lo hi (faults_in c k) (faults_of its a ++ faults_of its b) (omega (arith, lt)) (expr-faults n k key (n + 1) ps c (omega arith) x) branches)
+          (in-apart lo mid top hi (faults_of its a) (faults_of its b) le (y its).0 (z its).0)))),
     )
 
 parallel-within : (ls : List C.Loop) (l : C.Loop) → is_parallel (ls ++ (l ∷ [])) ≡ true
@@ -233,8 +238,8 @@ parallel-within [] l = refl
 parallel-within (m ∷ ls) l = refl
 
 foreach-body : (n : ℕ) (k : Key) → k ≡ operators n → (at : Place) (h : Head) (ps : List Place) (c : Expr) (body : Stmt) (lo hi : ℕ) → n < lo → n < hi → InParallel n ps c → InBody lo hi body → InBody n hi (P.Foreach k at h c body)
-foreach-body n k key at h ps c body lo hi lt high x y = (
-  (let e = statement n k key in (omega (arith, e), omega (arith, e, high)), each-append (In n hi) (faults_in c k) (faults_of body) (expr-faults n k key hi ps c high x) (wider-in lo hi n hi (faults_of body) (omega (arith, lt)) (omega arith) y.0)),
+foreach-body n k key at h ps c body lo hi lt high x y its = (
+  (let e = statement n k key in (omega (arith, e), omega (arith, e, high)), each-append (In n hi) (faults_in c k) (faults_of (h.iterator ∷ its) body) (expr-faults n k key hi ps c high x) (wider-in lo hi n hi (faults_of (h.iterator ∷ its) body) (omega (arith, lt)) (omega arith) (y (h.iterator ∷ its)).0)),
   λ w p r.
       let v = within w C.Body h.iterator in
       let here = parallel-within w.loops (record { code = C.Body; iterator = h.iterator }) in
@@ -242,7 +247,7 @@ foreach-body n k key at h ps c body lo hi lt high x y = (
       let u = append-empty (range_broken w.loops h) (reads_broken c v ++ (forms_broken body v ++ C.ways_broken w.loops h c body)) s.1 in
       let q = append-empty (reads_broken c v) (forms_broken body v ++ C.ways_broken w.loops h c body) u.1 in
       let e = append-empty (forms_broken body v) (C.ways_broken w.loops h c body) q.1 in
-      both_true (leads-order n k key h.place body lo hi lt y) (loop-order n k key ps c body lo hi lt x y v v here here q.0 e.0),
+      both_true (leads-order (h.iterator ∷ its) n k key h.place body lo hi lt y) (loop-order (h.iterator ∷ its) n k key ps c body lo hi lt x y v v here here q.0 e.0),
 )
 
 -- ---- what typing makes of statements
@@ -290,7 +295,7 @@ module _ (n : ℕ) (env : Env) (st : Stands n env) (hi : ℕ) (lt : n < hi) (e :
   grouped-body x p at =
       let parts = both (group_target x p) (in_group (typed e)) env in
       if-by (λ ps. Unit {0}) (InBody n hi) parts.part (λ ps. then_answer (fitted ps.0.1.1 T9 at ps.1) (P.Group env.key x.place ps.0.0 ps.0.1.0)) (anything parts.part)
-      (λ ps _. if-then (λ a. Unit {0}) (InBody n hi) (fitted ps.0.1.1 T9 at ps.1) (P.Group env.key x.place ps.0.0 ps.0.1.0) (anything (ok_of (fitted ps.0.1.1 T9 at ps.1))) (λ a _. (tt, λ w p r. refl)))
+      (λ ps _. if-then (λ a. Unit {0}) (InBody n hi) (fitted ps.0.1.1 T9 at ps.1) (P.Group env.key x.place ps.0.0 ps.0.1.0) (anything (ok_of (fitted ps.0.1.1 T9 at ps.1))) (λ a _. (λ its. (tt, λ w p r. refl))))
 
   assignment-body : (o : Option SurfaceName) (t : SurfaceTarget) (at : Place) → IfPart (InBody n hi) (assignment o t at e env).part
   assignment-body None t at = assigned-body t at
@@ -308,7 +313,7 @@ module _ (n : ℕ) (env : Env) (st : Stands n env) (hi : ℕ) (lt : n < hi) (e :
   with-body : (o : Option SurfaceName) (t : SurfaceType) (x : SurfaceName) (at : Place) → IfPart (InBody n hi) (declared_with o t x at e env).part
   with-body (Some y) t x at =
       let parts = both (declared_typed t x) (edge_owner y) env in
-      if-by (λ p. Unit {0}) (InBody n hi) parts.part (λ p. Ok (P.DeclareEdge p.0 p.1.index y.place)) (anything parts.part) (λ p _. (tt, λ w q r. refl))
+      if-by (λ p. Unit {0}) (InBody n hi) parts.part (λ p. Ok (P.DeclareEdge p.0 p.1.index y.place)) (anything parts.part) (λ p _. (λ its. (tt, λ w q r. refl)))
   with-body None t x at =
       if-by (λ p. Unit {0} × Part-kept p.1) (InBody n hi) (both (declared_typed t x) (typed e) env).part (declared_value env.key x at (vtype_of t) (sort_of t))
       (beside-kept (declared_typed t x env)) (λ p k. value-body (sort_of t) x at (vtype_of t) p k.1)
@@ -367,11 +372,11 @@ numbered-stands : (env : Env) → nat_eq env.depth 0 ≡ false → Stands env.nu
 numbered-stands env d = (refl, omega arith, d)
 
 -- a statement that no body may hold has no faults there
-nothing-in : (lo hi : ℕ) (s : Stmt) → faults_of s ≡ [] → body_in_order s ≡ true → InBody lo hi s
-nothing-in lo hi s e o = (subst (Each (In lo hi)) (sym e) tt, λ w p r. o)
+nothing-in : (lo hi : ℕ) (s : Stmt) → ((its : List ℕ) → faults_of its s ≡ []) → ((its : List ℕ) → body_in_order its s ≡ true) → InBody lo hi s
+nothing-in lo hi s e o its = (subst (Each (In lo hi)) (sym (e its)) tt, λ w p r. o its)
 
 pub body-ordered : (rest : Bool) (s : SurfaceStmt) → ascend (places_of s) ≡ true → shaped rest s ≡ true → (n : ℕ) (env : Env) → Stands n env → IfPart (InBody (low rest n env) (env.number + (checked s env).numbers)) (checked s env).part
-body-ordered rest S.Skip up sh n env st = (tt, λ w p r. refl)
+body-ordered rest S.Skip up sh n env st = λ its. (tt, λ w p r. refl)
 body-ordered rest (S.Then a b) up sh n env st =
     let ps = places_of a in
     let qs = places_of b in
@@ -425,7 +430,7 @@ body-ordered false (S.Increment t at) up sh n env st =
 body-ordered false (S.Call r f es xs) up sh n env st = tt
 body-ordered false (S.Loop at Loop.For head filter body) up sh n env st =
     let parts = both (ranged head) (iterated head.iterator 0 (both (test filter) (numbered (checked body)))) env in
-    if-by (λ p. Unit {0}) (InBody n (env.number + parts.numbers)) parts.part (λ p. Ok (loop_of Loop.For env.key at (head_with head p.0 p.1.0) p.1.1.0 p.1.1.1)) (anything parts.part) (λ p _. (tt, λ w q r. refl))
+    if-by (λ p. Unit {0}) (InBody n (env.number + parts.numbers)) parts.part (λ p. Ok (loop_of Loop.For env.key at (head_with head p.0 p.1.0) p.1.1.0 p.1.1.1)) (anything parts.part) (λ p _. (λ its. (tt, λ w q r. refl)))
 body-ordered false (S.Loop at Loop.Foreach head filter body) up sh n env st =
     let l = st.1 in
     let ps = places_in filter in
@@ -475,21 +480,21 @@ body-ordered false (S.If at c a b) up sh n env st =
     (λ p k. if-body n env.key st.0 ps p.0 p.1.0 p.1.1 m1 top1 m2 hi (omega (arith, l)) (omega arith) (omega arith) (omega arith) (omega (arith, l)) k.0 k.1.0 (wider-body m2 top2 m2 hi p.1.1 (omega arith) (omega arith) k.1.1))
 body-ordered false (S.While at c body) up sh n env st =
     let parts = both (test c) (numbered (checked body)) env in
-    if-by (λ p. Unit {0}) (InBody n (env.number + parts.numbers)) parts.part (λ p. Ok (P.While env.key at p.0 p.1)) (anything parts.part) (λ p _. (tt, λ w q r. refl))
+    if-by (λ p. Unit {0}) (InBody n (env.number + parts.numbers)) parts.part (λ p. Ok (P.While env.key at p.0 p.1)) (anything parts.part) (λ p _. (λ its. (tt, λ w q r. refl)))
 body-ordered false (S.Do at body c) up sh n env st =
     let parts = both (numbered (checked body)) (test c) env in
-    if-by (λ p. Unit {0}) (InBody n (env.number + parts.numbers)) parts.part (λ p. Ok (P.Do env.key at p.0 p.1)) (anything parts.part) (λ p _. (tt, λ w q r. refl))
+    if-by (λ p. Unit {0}) (InBody n (env.number + parts.numbers)) parts.part (λ p. Ok (P.Do env.key at p.0 p.1)) (anything parts.part) (λ p _. (λ its. (tt, λ w q r. refl)))
 body-ordered false (S.InBfs at v g root filter body) up sh n env st =
     let parts = both (both (graph_searched g) (rooted root)) (iterated v 1 (both (test filter) (numbered (checked body)))) env in
-    if-by (λ p. Unit {0}) (InBody n (env.number + parts.numbers)) parts.part (λ p. Ok (P.InBfs env.key at (search_of root p.0 p.1.0) p.1.1.0 p.1.1.1)) (anything parts.part) (λ p _. (tt, λ w q r. refl))
+    if-by (λ p. Unit {0}) (InBody n (env.number + parts.numbers)) parts.part (λ p. Ok (P.InBfs env.key at (search_of root p.0 p.1.0) p.1.1.0 p.1.1.1)) (anything parts.part) (λ p _. (λ its. (tt, λ w q r. refl)))
 body-ordered false (S.InBfsBoth at v g root filter body reverse back_filter back) up sh n env st =
     let parts = both (both (graph_searched g) (rooted root)) (iterated v 1 (both (both (test filter) (numbered (checked body))) (numbered (searched (test back_filter) (numbered (checked back)))))) env in
-    if-by (λ p. Unit {0}) (InBody n (env.number + parts.numbers)) parts.part (λ p. Ok (P.InBfsBoth env.key at (search_of root p.0 p.1.0) p.1.1.0.0 p.1.1.0.1 p.1.1.1.0 p.1.1.1.1.0 p.1.1.1.1.1)) (anything parts.part) (λ p _. (tt, λ w q r. refl))
-body-ordered false (S.Return at None) up sh n env st = if-good (InBody n (env.number + 0)) (is_none env.result) T14 at (P.Return env.key at None) (λ _. (tt, λ w q r. refl))
+    if-by (λ p. Unit {0}) (InBody n (env.number + parts.numbers)) parts.part (λ p. Ok (P.InBfsBoth env.key at (search_of root p.0 p.1.0) p.1.1.0.0 p.1.1.0.1 p.1.1.1.0 p.1.1.1.1.0 p.1.1.1.1.1)) (anything parts.part) (λ p _. (λ its. (tt, λ w q r. refl)))
+body-ordered false (S.Return at None) up sh n env st = if-good (InBody n (env.number + 0)) (is_none env.result) T14 at (P.Return env.key at None) (λ _. (λ its. (tt, λ w q r. refl)))
 body-ordered false (S.Return at (Some e)) up sh n env st =
     let hi = env.number + (typed e env).numbers in
     if-by (λ p. Unit {0}) (InBody n hi) (typed e env).part (returned env.key at env.result) (anything (typed e env).part) (λ p _. by hi env.result p)
   where
     by : (hi : ℕ) (o : Option VType) (p : Part) → IfPart (InBody n hi) (ok_of (returned env.key at o p))
     by hi None p = tt
-    by hi (Some t) p = if-then (λ a. Unit {0}) (InBody n hi) (fitted t T14 at p) (λ a. P.Return env.key at (Some a)) (anything (ok_of (fitted t T14 at p))) (λ a _. (tt, λ w q r. refl))
+    by hi (Some t) p = if-then (λ a. Unit {0}) (InBody n hi) (fitted t T14 at p) (λ a. P.Return env.key at (Some a)) (anything (ok_of (fitted t T14 at p))) (λ a _. (λ its. (tt, λ w q r. refl)))

@@ -235,9 +235,9 @@ module _ (n : ℕ) where
   parallel-kept = record {
     constant = λ ps v. (tt, λ k. tt, λ w p r. refl);
     variable = λ ps x at. (tt, λ k. tt, λ w p r. refl);
-    property = λ ps x p at here. (tt, λ k. one k ps at here, λ w q r. refl);
+    property = λ ps x p at here. (tt, λ k. tt, λ w q r. refl);
     edge = λ ps x p at. (tt, λ k. tt, λ w q r. refl);
-    degree = λ ps d x at here. (tt, λ k. one k ps at here, λ w p r. refl);
+    degree = λ ps d x at here. (tt, λ k. tt, λ w p r. refl);
     nodes = λ ps. (tt, λ k. tt, λ w p r. refl);
     edges = λ ps. (tt, λ k. tt, λ w p r. refl);
     unary = λ ps op at e here h. (h.0, λ k. each-append (At k ps) (fault_if (can_fail1 op) k at) (rest_in e k) (failing (can_fail1 op) k ps at here) (h.1 k), h.2);

@@ -214,9 +214,9 @@ code-kept n filter body up sh env m lt =
     found lo hi lt None h = tt
     found lo hi lt (Some s) h = (lo, (hi, (lt, h)))
 
-code-order : (n : ℕ) (k : Key) → k ≡ operators n → (ps : List Place) (p : Expr × Stmt) → AreCode n ps p → (v u : C.Around) → C.is_parallel v.loops ≡ true → C.is_parallel u.loops ≡ true
-    → reads_broken p.0 v ≡ [] → forms_broken p.1 u ≡ [] → loop_in_order k p.0 p.1 ≡ true
-code-order n k key ps p c v u pv pu rc rb = loop-order n k key ps p.0 p.1 c.1.0 c.1.1.0 c.1.1.1.0 c.0 c.1.1.1.1 v u pv pu rc rb
+code-order : (its : List ℕ) (n : ℕ) (k : Key) → k ≡ operators n → (ps : List Place) (p : Expr × Stmt) → AreCode n ps p → (v u : C.Around) → C.is_parallel v.loops ≡ true → C.is_parallel u.loops ≡ true
+    → reads_broken p.0 v ≡ [] → forms_broken p.1 u ≡ [] → loop_in_order its k p.0 p.1 ≡ true
+code-order its n k key ps p c v u pv pu rc rb = loop-order its n k key ps p.0 p.1 c.1.0 c.1.1.0 c.1.1.1.0 c.0 c.1.1.1.1 v u pv pu rc rb
 
 foreach-phase : (n : ℕ) (k : Key) → k ≡ operators n → 0 < n → (at : Place) (h : Head) (ps : List Place) (p : Expr × Stmt) → AreCode n ps p → InPhase (P.Foreach k at h p.0 p.1)
 foreach-phase n k key positive at h ps p c ds r =
@@ -227,10 +227,10 @@ foreach-phase n k key positive at h ps p c ds r =
     let u = append-empty (range_broken w.loops h) (reads_broken p.0 v ++ (forms_broken p.1 v ++ more)) s.1 in
     let q = append-empty (reads_broken p.0 v) (forms_broken p.1 v ++ more) u.1 in
     let e = append-empty (forms_broken p.1 v) more q.1 in
-    both_true (begins-order n k key h.place p.1 c.1.0 c.1.1.0 c.1.1.1.0 c.1.1.1.1 ps p.0 c.0 positive) (code-order n k key ps p c v v refl refl q.0 e.0)
+    both_true (begins-order (h.iterator ∷ []) n k key h.place p.1 c.1.0 c.1.1.0 c.1.1.1.0 c.1.1.1.1 ps p.0 c.0 positive) (code-order (h.iterator ∷ []) n k key ps p c v v refl refl q.0 e.0)
 
-search-code : (n : ℕ) (k : Key) → k ≡ operators n → 0 < n → (at : Place) (ps : List Place) (p : Expr × Stmt) → AreCode n ps p → loop_in_order k p.0 p.1 ≡ true → search_in_order k at p.0 p.1 ≡ true
-search-code n k key positive at ps p c h = search-order n k key at p.1 c.1.0 c.1.1.0 c.1.1.1.0 c.1.1.1.1 ps p.0 c.0 positive h
+search-code : (its : List ℕ) (n : ℕ) (k : Key) → k ≡ operators n → 0 < n → (at : Place) (ps : List Place) (p : Expr × Stmt) → AreCode n ps p → loop_in_order its k p.0 p.1 ≡ true → search_in_order its k at p.0 p.1 ≡ true
+search-code its n k key positive at ps p c h = search-order its n k key at p.1 c.1.0 c.1.1.0 c.1.1.1.0 c.1.1.1.1 ps p.0 c.0 positive h
 
 search-phase : (n : ℕ) (k : Key) → k ≡ operators n → 0 < n → (at : Place) (search : Search) (ps : List Place) (p : Expr × Stmt) → AreCode n ps p → InPhase (P.InBfs k at search p.0 p.1)
 search-phase n k key positive at search ps p c ds r =
@@ -240,7 +240,7 @@ search-phase n k key positive at search ps p c ds r =
     let s = append-empty (sequential_only w.loops at) (not_inner w.loops at ++ (reads_broken p.0 v ++ forms_broken p.1 x)) r in
     let u = append-empty (not_inner w.loops at) (reads_broken p.0 v ++ forms_broken p.1 x) s.1 in
     let q = append-empty (reads_broken p.0 v) (forms_broken p.1 x) u.1 in
-    search-code n k key positive search.place ps p c (code-order n k key ps p c v x refl refl q.0 q.1)
+    search-code (search.iterator ∷ []) n k key positive search.place ps p c (code-order (search.iterator ∷ []) n k key ps p c v x refl refl q.0 q.1)
 
 both-phase : (n m : ℕ) (k j : Key) → k ≡ operators n → j ≡ operators m → 0 < n → 0 < m → (at : Place) (search : Search) (ps qs : List Place) (p q : Expr × Stmt) → AreCode n ps p → AreCode m qs q → InPhase (P.InBfsBoth k at search p.0 p.1 j q.0 q.1)
 both-phase n m k j key back_key positive later-on at search ps qs p q c d ds r =
@@ -253,7 +253,7 @@ both-phase n m k j key back_key positive later-on at search ps qs p q c d ds r =
     let e = append-empty (reads_broken p.0 v) (forms_broken p.1 x ++ back) u.1 in
     let f = append-empty (forms_broken p.1 x) back e.1 in
     let g = append-empty (reads_broken q.0 v) (forms_broken q.1 x) f.1 in
-    both_true (search-code n k key positive search.place ps p c (code-order n k key ps p c v x refl refl e.0 f.0)) (search-code m j back_key later-on search.place qs q d (code-order m j back_key qs q d v x refl refl g.0 g.1))
+    both_true (search-code (search.iterator ∷ []) n k key positive search.place ps p c (code-order (search.iterator ∷ []) n k key ps p c v x refl refl e.0 f.0)) (search-code (search.iterator ∷ []) m j back_key later-on search.place qs q d (code-order (search.iterator ∷ []) m j back_key qs q d v x refl refl g.0 g.1))
 
 -- ---- whole statements
 

@@ -69,8 +69,8 @@ lesser n m p q h = by (nat_lt n m) (nat_eq n m) h
 
 module _ (ds : List Declaration) where
   -- a reduction's total and its operator are among the faults of what it stands in
-  abbrev Has : Stage → ℕ → Stmt → Type 0
-  Has stage n s = (at : Place) × Member (fault_at n stage at) (faults_of s)
+  abbrev Has : List ℕ → Stage → ℕ → Stmt → Type 0
+  Has its stage n s = (at : Place) × Member (fault_at n stage at) (faults_of its s)
 
   total-of : (n : ℕ) (k : Key) (total : TotalKey) → total.key ≡ record { statement = k.statement; stage = Total } → n ≡ total.key.statement → fault_at n Total total.place ≡ total_fault total
   total-of n k total key e = ap (λ m. fault_at m Total total.place) (e ∙ ap (λ (q : Key). q.statement) key) ∙ ap (λ (q : Key). fault_of q) (sym key)
@@ -82,99 +82,99 @@ module _ (ds : List Declaration) where
   operator-of n k total stage key e =
       ap (λ m. fault_at m Operator total.place) (e ∙ ap (λ (q : Key). q.statement) key) ∙ ap (λ st. fault_at k.statement st total.place) (sym stage)
 
-  has-total : (d : ℕ) (edge : Bool) (s : Stmt) → Placed ds d edge s → (n : ℕ) → Member n (numbers_in s) → Has Total n s
-  has-total d edge (Then a b) h n m = in-either n (numbers_in a) (numbers_in b) m (λ i. let r = has-total d edge a h.0 n i in (r.0, member-left _ (faults_of a) (faults_of b) r.1)) (λ i. let r = has-total d h.1.0 b h.1.1.1 n i in (r.0, member-right _ (faults_of a) (faults_of b) r.1))
-  has-total d edge (Combine k total op ts es) h n (inl e) =
-      (total.place, member-right _ (targets_faults ts k) _ (member-right _ (faults_in_all es k) _ (inr (inl (total-of n k total h.1.0.1 e)))))
-  has-total d edge (Combine k total op ts es) h n (inr m) = absurd m
-  has-total d edge (If k c a b) h n m =
-      in-either n (numbers_in a) (numbers_in b) m (λ i. let r = has-total d edge a h.1.0 n i in (r.0, member-right _ (faults_in c k) _ (member-left _ (faults_of a) (faults_of b) r.1)))
-      (λ i. let r = has-total d edge b h.1.1 n i in (r.0, member-right _ (faults_in c k) _ (member-right _ (faults_of a) (faults_of b) r.1)))
-  has-total d edge (Foreach k at hd test body) h n m = let r = has-total (d + 1) edge body h.1.1 n m in (r.0, inr (member-right _ (faults_in test k) (faults_of body) r.1))
-  has-total d edge Skip h n m = absurd m
-  has-total d edge (Declare k x e) h n m = absurd m
-  has-total d edge (DeclareEdge x y at) h n m = absurd m
-  has-total d edge (Assign k t e) h n m = absurd m
-  has-total d edge (Defer k t e) h n m = absurd m
-  has-total d edge (Group k at g p e) h n m = absurd m
-  has-total d edge (For k at hd test body) h n m = absurd m
-  has-total d edge (While k at c body) h n m = absurd m
-  has-total d edge (Do k at body c) h n m = absurd m
-  has-total d edge (InBfs k at s test body) h n m = absurd m
-  has-total d edge (InBfsBoth k at s test body bk bt back) h n m = absurd m
-  has-total d edge (Return k at e) h n m = absurd m
+  has-total : (its : List ℕ) (d : ℕ) (edge : Bool) (s : Stmt) → Placed ds d edge s → (n : ℕ) → Member n (numbers_in s) → Has its Total n s
+  has-total its d edge (Then a b) h n m = in-either n (numbers_in a) (numbers_in b) m (λ i. let r = has-total its d edge a h.0 n i in (r.0, member-left _ (faults_of its a) (faults_of its b) r.1)) (λ i. let r = has-total its d h.1.0 b h.1.1.1 n i in (r.0, member-right _ (faults_of its a) (faults_of its b) r.1))
+  has-total its d edge (Combine k total op ts es) h n (inl e) =
+      (total.place, member-right _ (targets_faults its ts k) _ (member-right _ (faults_in_all es k) _ (inr (inl (total-of n k total h.1.0.1 e)))))
+  has-total its d edge (Combine k total op ts es) h n (inr m) = absurd m
+  has-total its d edge (If k c a b) h n m =
+      in-either n (numbers_in a) (numbers_in b) m (λ i. let r = has-total its d edge a h.1.0 n i in (r.0, member-right _ (faults_in c k) _ (member-left _ (faults_of its a) (faults_of its b) r.1)))
+      (λ i. let r = has-total its d edge b h.1.1 n i in (r.0, member-right _ (faults_in c k) _ (member-right _ (faults_of its a) (faults_of its b) r.1)))
+  has-total its d edge (Foreach k at hd test body) h n m = let r = has-total (hd.iterator ∷ its) (d + 1) edge body h.1.1 n m in (r.0, inr (member-right _ (faults_in test k) (faults_of (hd.iterator ∷ its) body) r.1))
+  has-total its d edge Skip h n m = absurd m
+  has-total its d edge (Declare k x e) h n m = absurd m
+  has-total its d edge (DeclareEdge x y at) h n m = absurd m
+  has-total its d edge (Assign k t e) h n m = absurd m
+  has-total its d edge (Defer k t e) h n m = absurd m
+  has-total its d edge (Group k at g p e) h n m = absurd m
+  has-total its d edge (For k at hd test body) h n m = absurd m
+  has-total its d edge (While k at c body) h n m = absurd m
+  has-total its d edge (Do k at body c) h n m = absurd m
+  has-total its d edge (InBfs k at s test body) h n m = absurd m
+  has-total its d edge (InBfsBoth k at s test body bk bt back) h n m = absurd m
+  has-total its d edge (Return k at e) h n m = absurd m
 
-  has-operator : (d : ℕ) (edge : Bool) (s : Stmt) → Placed ds d edge s → (n : ℕ) → Member n (numbers_in s) → Has Operator n s
-  has-operator d edge (Then a b) h n m = in-either n (numbers_in a) (numbers_in b) m (λ i. let r = has-operator d edge a h.0 n i in (r.0, member-left _ (faults_of a) (faults_of b) r.1)) (λ i. let r = has-operator d h.1.0 b h.1.1.1 n i in (r.0, member-right _ (faults_of a) (faults_of b) r.1))
-  has-operator d edge (Combine k total op ts es) h n (inl e) =
-      (total.place, member-right _ (targets_faults ts k) _ (member-right _ (faults_in_all es k) _ (inl (operator-of n k total h.1.0.0 h.1.0.1 e))))
-  has-operator d edge (Combine k total op ts es) h n (inr m) = absurd m
-  has-operator d edge (If k c a b) h n m =
-      in-either n (numbers_in a) (numbers_in b) m (λ i. let r = has-operator d edge a h.1.0 n i in (r.0, member-right _ (faults_in c k) _ (member-left _ (faults_of a) (faults_of b) r.1)))
-      (λ i. let r = has-operator d edge b h.1.1 n i in (r.0, member-right _ (faults_in c k) _ (member-right _ (faults_of a) (faults_of b) r.1)))
-  has-operator d edge (Foreach k at hd test body) h n m = let r = has-operator (d + 1) edge body h.1.1 n m in (r.0, inr (member-right _ (faults_in test k) (faults_of body) r.1))
-  has-operator d edge Skip h n m = absurd m
-  has-operator d edge (Declare k x e) h n m = absurd m
-  has-operator d edge (DeclareEdge x y at) h n m = absurd m
-  has-operator d edge (Assign k t e) h n m = absurd m
-  has-operator d edge (Defer k t e) h n m = absurd m
-  has-operator d edge (Group k at g p e) h n m = absurd m
-  has-operator d edge (For k at hd test body) h n m = absurd m
-  has-operator d edge (While k at c body) h n m = absurd m
-  has-operator d edge (Do k at body c) h n m = absurd m
-  has-operator d edge (InBfs k at s test body) h n m = absurd m
-  has-operator d edge (InBfsBoth k at s test body bk bt back) h n m = absurd m
-  has-operator d edge (Return k at e) h n m = absurd m
+  has-operator : (its : List ℕ) (d : ℕ) (edge : Bool) (s : Stmt) → Placed ds d edge s → (n : ℕ) → Member n (numbers_in s) → Has its Operator n s
+  has-operator its d edge (Then a b) h n m = in-either n (numbers_in a) (numbers_in b) m (λ i. let r = has-operator its d edge a h.0 n i in (r.0, member-left _ (faults_of its a) (faults_of its b) r.1)) (λ i. let r = has-operator its d h.1.0 b h.1.1.1 n i in (r.0, member-right _ (faults_of its a) (faults_of its b) r.1))
+  has-operator its d edge (Combine k total op ts es) h n (inl e) =
+      (total.place, member-right _ (targets_faults its ts k) _ (member-right _ (faults_in_all es k) _ (inl (operator-of n k total h.1.0.0 h.1.0.1 e))))
+  has-operator its d edge (Combine k total op ts es) h n (inr m) = absurd m
+  has-operator its d edge (If k c a b) h n m =
+      in-either n (numbers_in a) (numbers_in b) m (λ i. let r = has-operator its d edge a h.1.0 n i in (r.0, member-right _ (faults_in c k) _ (member-left _ (faults_of its a) (faults_of its b) r.1)))
+      (λ i. let r = has-operator its d edge b h.1.1 n i in (r.0, member-right _ (faults_in c k) _ (member-right _ (faults_of its a) (faults_of its b) r.1)))
+  has-operator its d edge (Foreach k at hd test body) h n m = let r = has-operator (hd.iterator ∷ its) (d + 1) edge body h.1.1 n m in (r.0, inr (member-right _ (faults_in test k) (faults_of (hd.iterator ∷ its) body) r.1))
+  has-operator its d edge Skip h n m = absurd m
+  has-operator its d edge (Declare k x e) h n m = absurd m
+  has-operator its d edge (DeclareEdge x y at) h n m = absurd m
+  has-operator its d edge (Assign k t e) h n m = absurd m
+  has-operator its d edge (Defer k t e) h n m = absurd m
+  has-operator its d edge (Group k at g p e) h n m = absurd m
+  has-operator its d edge (For k at hd test body) h n m = absurd m
+  has-operator its d edge (While k at c body) h n m = absurd m
+  has-operator its d edge (Do k at body c) h n m = absurd m
+  has-operator its d edge (InBfs k at s test body) h n m = absurd m
+  has-operator its d edge (InBfsBoth k at s test body bk bt back) h n m = absurd m
+  has-operator its d edge (Return k at e) h n m = absurd m
 
   -- of two parts of which the faults of one lie before those of the other, so do the numbers
-  under : (d e : ℕ) (edge more : Bool) (a b : Stmt) → Placed ds d edge a → Placed ds e more b → lie_before (faults_of a) (faults_of b) ≡ true → Under (numbers_in a) (numbers_in b)
-  under d e edge more a b h k o n m i j =
-      let t = has-total d edge a h n i in
-      let u = has-operator e more b k m j in
-      lesser n m t.0 u.0 (before-one (faults_of a) (faults_of b) (fault_at n Total t.0) (fault_at m Operator u.0) o t.1 u.1)
+  under : (its : List ℕ) (d e : ℕ) (edge more : Bool) (a b : Stmt) → Placed ds d edge a → Placed ds e more b → lie_before (faults_of its a) (faults_of its b) ≡ true → Under (numbers_in a) (numbers_in b)
+  under its d e edge more a b h k o n m i j =
+      let t = has-total its d edge a h n i in
+      let u = has-operator its e more b k m j in
+      lesser n m t.0 u.0 (before-one (faults_of its a) (faults_of its b) (fault_at n Total t.0) (fault_at m Operator u.0) o t.1 u.1)
 
-  rises-in : (d : ℕ) (edge : Bool) (s : Stmt) → Placed ds d edge s → body_in_order s ≡ true → rise (numbers_in s) ≡ true
-  rises-in d edge (Then a b) h o =
-      let q = both-true (body_in_order a) (body_in_order b && lie_before (faults_of a) (faults_of b)) o in
-      let z = both-true (body_in_order b) (lie_before (faults_of a) (faults_of b)) q.1 in
-      rise-append (numbers_in a) (numbers_in b) (under d d edge h.1.0 a b h.0 h.1.1.1 z.1) (rises-in d edge a h.0 q.0) (rises-in d h.1.0 b h.1.1.1 z.0)
-  rises-in d edge (Combine k total op ts es) h o = refl
-  rises-in d edge (If k c a b) h o =
-      let q = both-true (in_order c k) (body_in_order a && (body_in_order b && (lie_before (faults_in c k) (faults_of a ++ faults_of b) && lie_before (faults_of a) (faults_of b)))) o in
-      let z = both-true (body_in_order a) (body_in_order b && (lie_before (faults_in c k) (faults_of a ++ faults_of b) && lie_before (faults_of a) (faults_of b))) q.1 in
-      let y = both-true (body_in_order b) (lie_before (faults_in c k) (faults_of a ++ faults_of b) && lie_before (faults_of a) (faults_of b)) z.1 in
-      let x = both-true (lie_before (faults_in c k) (faults_of a ++ faults_of b)) (lie_before (faults_of a) (faults_of b)) y.1 in
-      rise-append (numbers_in a) (numbers_in b) (under d d edge edge a b h.1.0 h.1.1 x.1) (rises-in d edge a h.1.0 z.0) (rises-in d edge b h.1.1 y.0)
-  rises-in d edge (Foreach k at hd test body) h o =
-      let z = both-true (leads k hd.place body) (loop_in_order k test body) o in
-      let q = both-true (in_order test k) (body_in_order body && lie_before (faults_in test k) (faults_of body)) z.1 in
-      rises-in (d + 1) edge body h.1.1 (both-true (body_in_order body) (lie_before (faults_in test k) (faults_of body)) q.1).0
-  rises-in d edge Skip h o = refl
-  rises-in d edge (Declare k x e) h o = refl
-  rises-in d edge (DeclareEdge x y at) h o = refl
-  rises-in d edge (Assign k t e) h o = refl
-  rises-in d edge (Defer k t e) h o = refl
-  rises-in d edge (Group k at g p e) h o = refl
-  rises-in d edge (For k at hd test body) h o = refl
-  rises-in d edge (While k at c body) h o = refl
-  rises-in d edge (Do k at body c) h o = refl
-  rises-in d edge (InBfs k at s test body) h o = refl
-  rises-in d edge (InBfsBoth k at s test body bk bt back) h o = refl
-  rises-in d edge (Return k at e) h o = refl
+  rises-in : (its : List ℕ) (d : ℕ) (edge : Bool) (s : Stmt) → Placed ds d edge s → body_in_order its s ≡ true → rise (numbers_in s) ≡ true
+  rises-in its d edge (Then a b) h o =
+      let q = both-true (body_in_order its a) (body_in_order its b && lie_before (faults_of its a) (faults_of its b)) o in
+      let z = both-true (body_in_order its b) (lie_before (faults_of its a) (faults_of its b)) q.1 in
+      rise-append (numbers_in a) (numbers_in b) (under its d d edge h.1.0 a b h.0 h.1.1.1 z.1) (rises-in its d edge a h.0 q.0) (rises-in its d h.1.0 b h.1.1.1 z.0)
+  rises-in its d edge (Combine k total op ts es) h o = refl
+  rises-in its d edge (If k c a b) h o =
+      let q = both-true (in_order c k) (body_in_order its a && (body_in_order its b && (lie_before (faults_in c k) (faults_of its a ++ faults_of its b) && lie_before (faults_of its a) (faults_of its b)))) o in
+      let z = both-true (body_in_order its a) (body_in_order its b && (lie_before (faults_in c k) (faults_of its a ++ faults_of its b) && lie_before (faults_of its a) (faults_of its b))) q.1 in
+      let y = both-true (body_in_order its b) (lie_before (faults_in c k) (faults_of its a ++ faults_of its b) && lie_before (faults_of its a) (faults_of its b)) z.1 in
+      let x = both-true (lie_before (faults_in c k) (faults_of its a ++ faults_of its b)) (lie_before (faults_of its a) (faults_of its b)) y.1 in
+      rise-append (numbers_in a) (numbers_in b) (under its d d edge edge a b h.1.0 h.1.1 x.1) (rises-in its d edge a h.1.0 z.0) (rises-in its d edge b h.1.1 y.0)
+  rises-in its d edge (Foreach k at hd test body) h o =
+      let z = both-true (leads (hd.iterator ∷ its) k hd.place body) (loop_in_order (hd.iterator ∷ its) k test body) o in
+      let q = both-true (in_order test k) (body_in_order (hd.iterator ∷ its) body && lie_before (faults_in test k) (faults_of (hd.iterator ∷ its) body)) z.1 in
+      rises-in (hd.iterator ∷ its) (d + 1) edge body h.1.1 (both-true (body_in_order (hd.iterator ∷ its) body) (lie_before (faults_in test k) (faults_of (hd.iterator ∷ its) body)) q.1).0
+  rises-in its d edge Skip h o = refl
+  rises-in its d edge (Declare k x e) h o = refl
+  rises-in its d edge (DeclareEdge x y at) h o = refl
+  rises-in its d edge (Assign k t e) h o = refl
+  rises-in its d edge (Defer k t e) h o = refl
+  rises-in its d edge (Group k at g p e) h o = refl
+  rises-in its d edge (For k at hd test body) h o = refl
+  rises-in its d edge (While k at c body) h o = refl
+  rises-in its d edge (Do k at body c) h o = refl
+  rises-in its d edge (InBfs k at s test body) h o = refl
+  rises-in its d edge (InBfsBoth k at s test body bk bt back) h o = refl
+  rises-in its d edge (Return k at e) h o = refl
 
-  loop-rises : (d : ℕ) (edge : Bool) (k : Key) (test : Expr) (body : Stmt) → Placed ds d edge body → loop_in_order k test body ≡ true → rise (numbers_in body) ≡ true
-  loop-rises d edge k test body h o =
-      let q = both-true (in_order test k) (body_in_order body && lie_before (faults_in test k) (faults_of body)) o in
-      rises-in d edge body h (both-true (body_in_order body) (lie_before (faults_in test k) (faults_of body)) q.1).0
+  loop-rises : (its : List ℕ) (d : ℕ) (edge : Bool) (k : Key) (test : Expr) (body : Stmt) → Placed ds d edge body → loop_in_order its k test body ≡ true → rise (numbers_in body) ≡ true
+  loop-rises its d edge k test body h o =
+      let q = both-true (in_order test k) (body_in_order its body && lie_before (faults_in test k) (faults_of its body)) o in
+      rises-in its d edge body h (both-true (body_in_order its body) (lie_before (faults_in test k) (faults_of its body)) q.1).0
 
-  search-rises : (d : ℕ) (edge : Bool) (k : Key) (at : Place) (test : Expr) (body : Stmt) → Placed ds d edge body → search_in_order k at test body ≡ true → rise (numbers_in body) ≡ true
-  search-rises d edge k at test body h o =
-      let q = both-true (are_numbered (fault_of k at ∷ [])) (begins k at test body && loop_in_order k test body) o in
-      loop-rises d edge k test body h (both-true (begins k at test body) (loop_in_order k test body) q.1).1
+  search-rises : (its : List ℕ) (d : ℕ) (edge : Bool) (k : Key) (at : Place) (test : Expr) (body : Stmt) → Placed ds d edge body → search_in_order its k at test body ≡ true → rise (numbers_in body) ≡ true
+  search-rises its d edge k at test body h o =
+      let q = both-true (are_numbered (fault_of k at ∷ [])) (begins its k at test body && loop_in_order its k test body) o in
+      loop-rises its d edge k test body h (both-true (begins its k at test body) (loop_in_order its k test body) q.1).1
 
   pub numbers-rise : (d : ℕ) (edge : Bool) (s : Stmt) → Placed ds d edge s → loops_in_order s ≡ true → numbers_rise_in s ≡ true
   numbers-rise d edge (Then a b) h o = let q = both-true (loops_in_order a) (loops_in_order b) o in both_true (numbers-rise d edge a h.0 q.0) (numbers-rise d h.1.0 b h.1.1.1 q.1)
-  numbers-rise d edge (Foreach k at hd test body) h o = loop-rises (d + 1) edge k test body h.1.1 (both-true (begins k hd.place test body) (loop_in_order k test body) o).1
+  numbers-rise d edge (Foreach k at hd test body) h o = loop-rises (hd.iterator ∷ []) (d + 1) edge k test body h.1.1 (both-true (begins (hd.iterator ∷ []) k hd.place test body) (loop_in_order (hd.iterator ∷ []) k test body) o).1
   numbers-rise d edge (For k at hd test body) h o = numbers-rise (d + 0) edge body h.1.1 (both-true (folds_in_order test) (loops_in_order body) o).1
   numbers-rise d edge (If k c a b) h o =
       let q = both-true (folds_in_order c) (loops_in_order a && loops_in_order b) o in
@@ -182,10 +182,10 @@ module _ (ds : List Declaration) where
       both_true (numbers-rise d edge a h.1.0 z.0) (numbers-rise d edge b h.1.1 z.1)
   numbers-rise d edge (While k at c body) h o = numbers-rise d edge body h.1 (both-true (folds_in_order c) (loops_in_order body) o).1
   numbers-rise d edge (Do k at body c) h o = numbers-rise d edge body h.0 (both-true (loops_in_order body) (folds_in_order c) o).0
-  numbers-rise d edge (InBfs k at s test body) h o = search-rises (d + 1) edge k s.place test body h.1.1 o
+  numbers-rise d edge (InBfs k at s test body) h o = search-rises (s.iterator ∷ []) (d + 1) edge k s.place test body h.1.1 o
   numbers-rise d edge (InBfsBoth k at s test body bk bt back) h o =
-      let q = both-true (search_in_order k s.place test body) (search_in_order bk s.place bt back) o in
-      both_true (search-rises (d + 1) edge k s.place test body h.1.0.1 q.0) (search-rises (d + 1) edge bk s.place bt back h.1.1.1 q.1)
+      let q = both-true (search_in_order (s.iterator ∷ []) k s.place test body) (search_in_order (s.iterator ∷ []) bk s.place bt back) o in
+      both_true (search-rises (s.iterator ∷ []) (d + 1) edge k s.place test body h.1.0.1 q.0) (search-rises (s.iterator ∷ []) (d + 1) edge bk s.place bt back h.1.1.1 q.1)
   numbers-rise d edge Skip h o = refl
   numbers-rise d edge (Declare k x e) h o = refl
   numbers-rise d edge (DeclareEdge x y at) h o = refl
