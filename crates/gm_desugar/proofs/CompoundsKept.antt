@@ -141,7 +141,7 @@ value-hoisted : (t : Target) → hoisted_in (target_value t) ≡ []
 value-hoisted (T.Scalar x at) = refl
 value-hoisted (T.Property x p at) = refl
 
-value-rest : (t : Target) (k : Key) → rest_in (target_value t) k ≡ target_faults t k
+value-rest : (t : Target) (k : Key) → rest_in (target_value t) k ≡ []
 value-rest (T.Scalar x at) k = refl
 value-rest (T.Property x p at) k = refl
 
@@ -268,45 +268,46 @@ module _ (ds : List Declaration) where
     abbrev Place_faults : List K.Fault
     Place_faults = record { key = k; place = total.place } ∷ K.total_fault total ∷ []
 
-    fault-target : (f : K.Fault) → IsIn f (target_faults t k) → IsIn f (faults_of Before)
-    fault-target f i = in-left f (targets_faults (t ∷ []) k) (faults_in_all (e ∷ []) k ++ (Place_faults)) (in-left f (target_faults t k) [] i)
+    module _ (its : List ℕ) where
+      fault-target : (f : K.Fault) → IsIn f (target_faults its t k) → IsIn f (faults_of its Before)
+      fault-target f i = in-left f (targets_faults its (t ∷ []) k) (faults_in_all (e ∷ []) k ++ (Place_faults)) (in-left f (target_faults its t k) [] i)
 
-    fault-value : (f : K.Fault) → IsIn f (faults_in e k) → IsIn f (faults_of Before)
-    fault-value f i = in-right f (targets_faults (t ∷ []) k) (faults_in_all (e ∷ []) k ++ (Place_faults)) (in-left f (faults_in_all (e ∷ []) k) (Place_faults) (in-left f (faults_in e k) [] i))
+      fault-value : (f : K.Fault) → IsIn f (faults_in e k) → IsIn f (faults_of its Before)
+      fault-value f i = in-right f (targets_faults its (t ∷ []) k) (faults_in_all (e ∷ []) k ++ (Place_faults)) (in-left f (faults_in_all (e ∷ []) k) (Place_faults) (in-left f (faults_in e k) [] i))
 
-    fault-place : (f : K.Fault) → f ≡ record { key = k; place = total.place } → IsIn f (faults_of Before)
-    fault-place f q = in-right f (targets_faults (t ∷ []) k) (faults_in_all (e ∷ []) k ++ (Place_faults)) (in-right f (faults_in_all (e ∷ []) k) (Place_faults) (inl q))
+      fault-place : (f : K.Fault) → f ≡ record { key = k; place = total.place } → IsIn f (faults_of its Before)
+      fault-place f q = in-right f (targets_faults its (t ∷ []) k) (faults_in_all (e ∷ []) k ++ (Place_faults)) (in-right f (faults_in_all (e ∷ []) k) (Place_faults) (inl q))
 
-    fault-rest : (f : K.Fault) → IsIn f (record { key = k; place = total.place } ∷ (rest_in (target_value t) k ++ rest_in e k)) → IsIn f (faults_of Before)
-    fault-rest f i =
-        ⊎_elim (fault-place f) (λ (j : IsIn f (rest_in (target_value t) k ++ rest_in e k)).
-        ⊎_elim (λ l. fault-target f (subst (IsIn f) (value-rest t k) l)) (λ m. fault-value f (in-right f (hoisted_in e) (rest_in e k) m)) (in-either f (rest_in (target_value t) k) (rest_in e k) j)) i
+      fault-rest : (f : K.Fault) → IsIn f (record { key = k; place = total.place } ∷ (rest_in (target_value t) k ++ rest_in e k)) → IsIn f (faults_of its Before)
+      fault-rest f i =
+          ⊎_elim (fault-place f) (λ (j : IsIn f (rest_in (target_value t) k ++ rest_in e k)).
+          ⊎_elim (λ l. absurd (subst (IsIn f) (value-rest t k) l)) (λ m. fault-value f (in-right f (hoisted_in e) (rest_in e k) m)) (in-either f (rest_in (target_value t) k) (rest_in e k) j)) i
 
-    fewer-one : Fewer (faults_of (Assign k t Value)) (faults_of Before)
-    fewer-one f i =
-        ⊎_elim (fault-target f) (λ (j : IsIn f (hoisted_in Value ++ rest_in Value k)).
-        ⊎_elim (λ l. fault-value f (in-left f (hoisted_in e) (rest_in e k) (subst (IsIn f) hoisted-one l))) (λ m. fault-rest f (rest-operated r total.place (target_value t) e k f m)) (in-either f (hoisted_in Value) (rest_in Value k) j))
-        (in-either f (target_faults t k) (faults_in Value k) i)
+      fewer-one : Fewer (faults_of its (Assign k t Value)) (faults_of its Before)
+      fewer-one f i =
+          ⊎_elim (fault-target f) (λ (j : IsIn f (hoisted_in Value ++ rest_in Value k)).
+          ⊎_elim (λ l. fault-value f (in-left f (hoisted_in e) (rest_in e k) (subst (IsIn f) hoisted-one l))) (λ m. fault-rest f (rest-operated r total.place (target_value t) e k f m)) (in-either f (hoisted_in Value) (rest_in Value k) j))
+          (in-either f (target_faults its t k) (faults_in Value k) i)
 
-    order-one : body_in_order Before ≡ true → body_in_order (Assign k t Value) ≡ true
-    order-one h =
-        let parts = both-true (in_order e k && true) (lie_before (hoisted_in e ++ []) (targets_faults (t ∷ []) k ++ (Place_faults))) h in
-        let ordered = both-true (hoists_in_order e) (lie_before (hoisted_in e) (rest_in e k)) (both-true (in_order e k) true parts.0).0 in
-        let hoists : hoists_in_order Value ≡ true = hoists-operated r total.place (target_value t) e
-        (and-true (hoists_in_order (target_value t)) (hoists_in_order e && lie_before (hoisted_in (target_value t)) (hoisted_in e)) (value-hoists t)
-        (and-true (hoists_in_order e) (lie_before (hoisted_in (target_value t)) (hoisted_in e)) ordered.0 (subst (λ l. lie_before l (hoisted_in e) ≡ true) (sym (value-hoisted t)) (nothing-before (hoisted_in e))))) in
-        let behind : (f g : K.Fault) → IsIn f (hoisted_in e) → IsIn g (targets_faults (t ∷ []) k ++ (Place_faults)) → fault_lt f g ≡ true =
-        λ f g i j. lies-in (hoisted_in e ++ []) (targets_faults (t ∷ []) k ++ (Place_faults)) f g parts.1 (in-left f (hoisted_in e) [] i) j in
-        let at_target : (f g : K.Fault) → IsIn f (hoisted_in e) → IsIn g (target_faults t k) → fault_lt f g ≡ true =
-        λ f g i j. behind f g i (in-left g (targets_faults (t ∷ []) k) (Place_faults) (in-left g (target_faults t k) [] j)) in
-        let rest : (f g : K.Fault) → IsIn f (hoisted_in e) → IsIn g (record { key = k; place = total.place } ∷ (rest_in (target_value t) k ++ rest_in e k)) → fault_lt f g ≡ true =
-        λ f g i j. ⊎_elim (λ (q : g ≡ record { key = k; place = total.place }). behind f g i (in-right g (targets_faults (t ∷ []) k) (Place_faults) (inl q)))
-        (λ (m : IsIn g (rest_in (target_value t) k ++ rest_in e k)).
-        ⊎_elim (λ l. at_target f g i (subst (IsIn g) (value-rest t k) l)) (λ l. lies-in (hoisted_in e) (rest_in e k) f g ordered.1 i l) (in-either g (rest_in (target_value t) k) (rest_in e k) m)) j in
-        and-true (in_order Value k) (lie_before (hoisted_in Value) (target_faults t k))
-        (and-true (hoists_in_order Value) (lie_before (hoisted_in Value) (rest_in Value k)) hoists
-        (lie-from (hoisted_in Value) (rest_in Value k) (λ f g i j. rest f g (subst (IsIn f) hoisted-one i) (rest-operated r total.place (target_value t) e k g j))))
-        (lie-from (hoisted_in Value) (target_faults t k) (λ f g i j. at_target f g (subst (IsIn f) hoisted-one i) j))
+      order-one : body_in_order its Before ≡ true → body_in_order its (Assign k t Value) ≡ true
+      order-one h =
+          let parts = both-true (in_order e k && true) (lie_before (hoisted_in e ++ []) (targets_faults its (t ∷ []) k ++ (Place_faults))) h in
+          let ordered = both-true (hoists_in_order e) (lie_before (hoisted_in e) (rest_in e k)) (both-true (in_order e k) true parts.0).0 in
+          let hoists : hoists_in_order Value ≡ true = hoists-operated r total.place (target_value t) e
+          (and-true (hoists_in_order (target_value t)) (hoists_in_order e && lie_before (hoisted_in (target_value t)) (hoisted_in e)) (value-hoists t)
+          (and-true (hoists_in_order e) (lie_before (hoisted_in (target_value t)) (hoisted_in e)) ordered.0 (subst (λ l. lie_before l (hoisted_in e) ≡ true) (sym (value-hoisted t)) (nothing-before (hoisted_in e))))) in
+          let behind : (f g : K.Fault) → IsIn f (hoisted_in e) → IsIn g (targets_faults its (t ∷ []) k ++ (Place_faults)) → fault_lt f g ≡ true =
+          λ f g i j. lies-in (hoisted_in e ++ []) (targets_faults its (t ∷ []) k ++ (Place_faults)) f g parts.1 (in-left f (hoisted_in e) [] i) j in
+          let at_target : (f g : K.Fault) → IsIn f (hoisted_in e) → IsIn g (target_faults its t k) → fault_lt f g ≡ true =
+          λ f g i j. behind f g i (in-left g (targets_faults its (t ∷ []) k) (Place_faults) (in-left g (target_faults its t k) [] j)) in
+          let rest : (f g : K.Fault) → IsIn f (hoisted_in e) → IsIn g (record { key = k; place = total.place } ∷ (rest_in (target_value t) k ++ rest_in e k)) → fault_lt f g ≡ true =
+          λ f g i j. ⊎_elim (λ (q : g ≡ record { key = k; place = total.place }). behind f g i (in-right g (targets_faults its (t ∷ []) k) (Place_faults) (inl q)))
+          (λ (m : IsIn g (rest_in (target_value t) k ++ rest_in e k)).
+          ⊎_elim (λ l. absurd (subst (IsIn g) (value-rest t k) l)) (λ l. lies-in (hoisted_in e) (rest_in e k) f g ordered.1 i l) (in-either g (rest_in (target_value t) k) (rest_in e k) m)) j in
+          and-true (in_order Value k) (lie_before (hoisted_in Value) (target_faults its t k))
+          (and-true (hoists_in_order Value) (lie_before (hoisted_in Value) (rest_in Value k)) hoists
+          (lie-from (hoisted_in Value) (rest_in Value k) (λ f g i j. rest f g (subst (IsIn f) hoisted-one i) (rest-operated r total.place (target_value t) e k g j))))
+          (lie-from (hoisted_in Value) (target_faults its t k) (λ f g i j. at_target f g (subst (IsIn f) hoisted-one i) j))
 
     seen-one : (n : ℕ) (inner : Bool) → are_at_once ds n inner (t ∷ []) ≡ true → FewerSights (sights_of ds n inner (Assign k t Value)) (sights_of ds n inner Before)
     seen-one n inner once =

@@ -13,6 +13,7 @@ use Rattle.gm_ast.specs.declared.tree.Key.{Key}
 use Rattle.gm_ast.specs.declared.tree.Target.{Target}
 use Rattle.gm_ast.specs.declared.tree.Target.TheVariants as T
 use Rattle.gm_ast.specs.declared.tree.TotalKey.{TotalKey}
+use Rattle.gm_ast.specs.Keys as K
 use Rattle.gm_ast.specs.Keys.{total_fault}
 use Rattle.gm_ast.specs.Program.{Expr, always, Stmt, Then, Declare, Assign, Defer, Combine, Group, Foreach, For, If, While, Do, InBfs, InBfsBoth, Return}
 use Rattle.gm_semantics.specs.declared.faults.Fault.{Fault}
@@ -99,17 +100,17 @@ module _ (ds : List Declaration) (f : Expr → Expr) (r : (e : Expr) → ForExpr
   reduced-each WithOutermost w it total op ts es = ap (λ (x : AllEvaluated). with_ok it (assigned_all w ts x) (λ p. gave_outermost it (contribution total op p))) (all-evaluated es w)
 
   -- a value for a target
-  value-order : (k : Key) (t : Target) (e : Expr) → in_order e k && lie_before (hoisted_in e) (target_faults t k) ≡ true → in_order (f e) k && lie_before (hoisted_in (f e)) (target_faults t k) ≡ true
-  value-order k t e h =
-      let u = both-true (in_order e k) (lie_before (hoisted_in e) (target_faults t k)) h in
-      and-true (in_order (f e) k) (lie_before (hoisted_in (f e)) (target_faults t k)) (order-same ds e (f e) (r e) k u.0)
-      (lie-fewer (hoisted_in e) (target_faults t k) (hoisted_in (f e)) (target_faults t k) (r e).hoisted (λ x i. i) u.1)
+  value-order : (fs : List K.Fault) (k : Key) (e : Expr) → in_order e k && lie_before (hoisted_in e) fs ≡ true → in_order (f e) k && lie_before (hoisted_in (f e)) fs ≡ true
+  value-order fs k e h =
+      let u = both-true (in_order e k) (lie_before (hoisted_in e) fs) h in
+      and-true (in_order (f e) k) (lie_before (hoisted_in (f e)) fs) (order-same ds e (f e) (r e) k u.0)
+      (lie-fewer (hoisted_in e) fs (hoisted_in (f e)) fs (r e).hoisted (λ x i. i) u.1)
 
   value-named : (t : Target) (e : Expr) → list_all (suits ds) (uses_of_target t ++ uses_in e) ≡ true → list_all (suits ds) (uses_of_target t ++ uses_in (f e)) ≡ true
   value-named t e h = let u = all-append (suits ds) (uses_of_target t) (uses_in e) h in append-true (suits ds) (uses_of_target t) (uses_in (f e)) u.0 ((r e).named u.1)
 
-  value-faults : (k : Key) (t : Target) (e : Expr) → Fewer (target_faults t k ++ faults_in (f e) k) (target_faults t k ++ faults_in e k)
-  value-faults k t e = fewer-both (target_faults t k) (faults_in e k) (target_faults t k) (faults_in (f e) k) (λ x i. i) (faults-fewer ds e (f e) (r e) k)
+  value-faults : (fs : List K.Fault) (k : Key) (e : Expr) → Fewer (fs ++ faults_in (f e) k) (fs ++ faults_in e k)
+  value-faults fs k e = fewer-both fs (faults_in e k) fs (faults_in (f e) k) (λ x i. i) (faults-fewer ds e (f e) (r e) k)
 
   value-seen : (t : Target) (e : Expr) → FewerSights (with_reads (sights_of_target t) (sights_in (f e))) (with_reads (sights_of_target t) (sights_in e))
   value-seen t e = sights-both (sights_of_target t) (sights_in (f e)) (sights_of_target t) (sights_in e) (same-sights (sights_of_target t)) (r e).seen
@@ -144,8 +145,8 @@ module _ (ds : List Declaration) (f : Expr → Expr) (r : (e : Expr) → ForExpr
       pushes_same = λ p. refl;
       named = λ h. let u = all-append (suits ds) (use_as Written x) (uses_in e) h in append-true (suits ds) (use_as Written x) (uses_in (f e)) u.0 ((r e).named u.1);
       typed = λ res h. typed-same ds e (f e) (r e) (type_at ds x) h;
-      fewer = faults-fewer ds e (f e) (r e) k;
-      order = order-same ds e (f e) (r e) k;
+      fewer = λ its. faults-fewer ds e (f e) (r e) k;
+      order = λ its. order-same ds e (f e) (r e) k;
       seen = (r e).seen;
       away = λ o. (r e).away;
       reduced_same = refl;
@@ -163,8 +164,8 @@ module _ (ds : List Declaration) (f : Expr → Expr) (r : (e : Expr) → ForExpr
       pushes_same = λ p. refl;
       named = value-named t e;
       typed = λ res h. typed-same ds e (f e) (r e) (target_type ds t) h;
-      fewer = value-faults k t e;
-      order = value-order k t e;
+      fewer = λ its. value-faults (target_faults its t k) k e;
+      order = λ its. value-order (target_faults its t k) k e;
       seen = value-seen t e;
       away = λ o. (r e).away;
       reduced_same = refl;
@@ -183,8 +184,8 @@ module _ (ds : List Declaration) (f : Expr → Expr) (r : (e : Expr) → ForExpr
       pushes_same = λ p. refl;
       named = value-named t e;
       typed = λ res h. typed-same ds e (f e) (r e) (target_type ds t) h;
-      fewer = value-faults k t e;
-      order = value-order k t e;
+      fewer = λ its. value-faults (target_faults its t k) k e;
+      order = λ its. value-order (target_faults its t k) k e;
       seen = value-seen t e;
       away = λ o. (r e).away;
       reduced_same = refl;
@@ -204,11 +205,11 @@ module _ (ds : List Declaration) (f : Expr → Expr) (r : (e : Expr) → ForExpr
           pushes_same = λ p. refl;
           named = combine-named ts es;
           typed = λ res h. combine-typed op ts es h;
-          fewer = fewer-both (targets_faults ts k) (faults_in_all es k ++ rest) (targets_faults ts k) (faults_in_all (map f es) k ++ rest) (λ x i. i) (fewer-both (faults_in_all es k) rest (faults_in_all (map f es) k) rest (all-faults es k) (λ x i. i));
-          order = λ h.
-              let u = both-true (all_in_order es k) (lie_before (hoisted_in_all es) (targets_faults ts k ++ rest)) h in
-              and-true (all_in_order (map f es) k) (lie_before (hoisted_in_all (map f es)) (targets_faults ts k ++ rest)) (all-ordered es k u.0)
-              (lie-fewer (hoisted_in_all es) (targets_faults ts k ++ rest) (hoisted_in_all (map f es)) (targets_faults ts k ++ rest) (all-hoisted es) (λ x i. i) u.1);
+          fewer = λ its. fewer-both (targets_faults its ts k) (faults_in_all es k ++ rest) (targets_faults its ts k) (faults_in_all (map f es) k ++ rest) (λ x i. i) (fewer-both (faults_in_all es k) rest (faults_in_all (map f es) k) rest (all-faults es k) (λ x i. i));
+          order = λ its h.
+              let u = both-true (all_in_order es k) (lie_before (hoisted_in_all es) (targets_faults its ts k ++ rest)) h in
+              and-true (all_in_order (map f es) k) (lie_before (hoisted_in_all (map f es)) (targets_faults its ts k ++ rest)) (all-ordered es k u.0)
+              (lie-fewer (hoisted_in_all es) (targets_faults its ts k ++ rest) (hoisted_in_all (map f es)) (targets_faults its ts k ++ rest) (all-hoisted es) (λ x i. i) u.1);
           seen = sights-both (sights_of_targets ds n inner ts) (sights_in_all (map f es)) (sights_of_targets ds n inner ts) (sights_in_all es) (same-sights (sights_of_targets ds n inner ts)) (all-seen es);
           away = λ o. reads-both (sights_of_targets ds n false ts).properties (level_reads_in_all es) (sights_of_targets ds n false ts).properties (level_reads_in_all (map f es)) (λ x i. i) (all-away es);
           reduced_same = refl;
@@ -278,10 +279,10 @@ module _ (ds : List Declaration) (f : Expr → Expr) (r : (e : Expr) → ForExpr
               append-true (suits ds) (use_as Iterates g) (use_as NodeValue p ++ uses_in (f e)) u.0 (append-true (suits ds) (use_as NodeValue p) (uses_in (f e)) v.0 ((r e).named v.1));
           typed = typed-same ds e (f e) (r e) (type_at ds p);
           order = λ h.
-              let u = both-true (are_numbered (fault_of k at ∷ faults_in e k)) (in_order e k && lie_before (hoisted_in e) (target_faults t k)) h in
-              and-true (are_numbered (fault_of k at ∷ faults_in (f e) k)) (in_order (f e) k && lie_before (hoisted_in (f e)) (target_faults t k))
+              let u = both-true (are_numbered (fault_of k at ∷ faults_in e k)) (in_order e k && lie_before (hoisted_in e) (fault_of k at ∷ [])) h in
+              and-true (are_numbered (fault_of k at ∷ faults_in (f e) k)) (in_order (f e) k && lie_before (hoisted_in (f e)) (fault_of k at ∷ []))
               (numbered-fewer (fault_of k at ∷ faults_in e k) (fault_of k at ∷ faults_in (f e) k) (fewer-both (fault_of k at ∷ []) (faults_in e k) (fault_of k at ∷ []) (faults_in (f e) k) (λ x i. i) (faults-fewer ds e (f e) (r e) k)) u.0)
-              (value-order k t e u.1);
+              (value-order (fault_of k at ∷ []) k e u.1);
           share = loop-shared ds g always always (Assign k t e) (Assign k t (f e)) (expr-same ds always) (body-assign g false k t e);
           form = (r e).outer false g;
         }

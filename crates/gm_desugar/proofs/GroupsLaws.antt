@@ -1,6 +1,6 @@
 -- A program without its group assignments means the same, and keeps what every pass keeps.
-use Rattle.std.proofs.Common.{◌≡◌, Option, ℕ, true, false, List, [], ◌∷◌, ◌++◌, map, refl, ap}
-use Rattle.std.specs.Prelude.{◌&&◌, ◌||◌, nat_eq}
+use Rattle.std.proofs.Common.{◌≡◌, Option, ℕ, true, false, List, [], ◌∷◌, ◌++◌, map, refl, ap, sym, subst}
+use Rattle.std.specs.Prelude.{◌&&◌, ◌||◌, not, nat_eq, nat_lt}
 use Rattle.std.proofs.lemmas.Bool.{eq-eqb, both_ways}
 use Rattle.gm_base.specs.declared.places.Place.{Place}
 use Rattle.gm_value.specs.declared.values.VType.{VType}
@@ -13,7 +13,7 @@ use Rattle.gm_ast.specs.declared.tree.Variable.{Variable}
 use Rattle.gm_ast.specs.Names.{is_node_type, sort_eq}
 use Rattle.gm_ast.specs.Program.{Expr, always, Stmt, Skip, Then, Assign, Group, For, If, While, Do, Program, sequence}
 use Rattle.gm_forms.specs.Meanings.{SameMeaning}
-use Rattle.gm_forms.specs.Order.{first_key, are_numbered, lie_before, faults_of, body_in_order, loop_in_order, begins}
+use Rattle.gm_forms.specs.Order.{first_key, are_numbered, lie_before, fault_if, fault_of, hoisted_in, faults_in, in_order, target_faults, faults_of, body_in_order, loop_in_order, begins}
 use Rattle.gm_forms.specs.Ready.{is_outer_expr, Ready0}
 use Rattle.gm_forms.specs.Uses.{Iterates, Owner, NodeValue, Anything, has_role, suits, use_as, uses_in}
 use Rattle.gm_forms.proofs.Named.{both-true, all-append}
@@ -50,9 +50,15 @@ module _ (ds : List Declaration) (res : Option VType) where
     typed = λ h. h;
     order = λ h.
         let s = Assign k (T.Property g p at) e in
-        let u = both-true (are_numbered (faults_of s)) (body_in_order s) h in
-        and-true (begins first_key at always s) (loop_in_order first_key always s) (first-begins at always s refl refl u.0)
-        (and-true (body_in_order s) (lie_before [] (faults_of s)) u.1 (nothing-before (faults_of s)));
+        let its = g ∷ [] in
+        let u = both-true (are_numbered (fault_of k at ∷ faults_in e k)) (in_order e k && lie_before (hoisted_in e) (fault_of k at ∷ [])) h in
+        let none : target_faults its (T.Property g p at) k ≡ [] = ap (λ b. fault_if (not (b || false)) k at) (eq-eqb g g refl) in
+        let numbered : are_numbered (faults_of its s) ≡ true =
+        subst (λ fs. are_numbered (fs ++ faults_in e k) ≡ true) (sym none) (both-true (nat_lt 0 k.statement) (are_numbered (faults_in e k)) u.0).1 in
+        let ordered : body_in_order its s ≡ true =
+        subst (λ fs. in_order e k && lie_before (hoisted_in e) fs ≡ true) (sym none) (and-true (in_order e k) true (both-true (in_order e k) (lie_before (hoisted_in e) (fault_of k at ∷ [])) u.1).0 refl) in
+        and-true (begins its first_key at always s) (loop_in_order its first_key always s) (first-begins its at always s refl refl numbered)
+        (and-true (body_in_order its s) (lie_before [] (faults_of its s)) ordered (nothing-before (faults_of its s)));
     share = λ h. h;
     form = λ h. and-true (nat_eq g g) (is_outer_expr false g e) (eq-eqb g g refl) h;
   }

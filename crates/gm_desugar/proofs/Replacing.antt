@@ -143,8 +143,8 @@ pub record ForBody (ds : List Declaration) (n : ℕ) (inner : Bool) (s t : Stmt)
   pub pushes_same : (p : ℕ) → pushes t n p ≡ pushes s n p
   pub named : list_all (suits ds) (uses_of s) ≡ true → list_all (suits ds) (uses_of t) ≡ true
   pub typed : (r : Option VType) → is_typed_in ds r s ≡ true → is_typed_in ds r t ≡ true
-  pub fewer : Fewer (faults_of t) (faults_of s)
-  pub order : body_in_order s ≡ true → body_in_order t ≡ true
+  pub fewer : (its : List ℕ) → Fewer (faults_of its t) (faults_of its s)
+  pub order : (its : List ℕ) → body_in_order its s ≡ true → body_in_order its t ≡ true
   pub seen : FewerSights (sights_of ds n inner t) (sights_of ds n inner s)
   pub away : inner ≡ false → FewerReads (level_reads_of ds n t) (level_reads_of ds n s)
   pub reduced_same : reduced ds n inner t ≡ reduced ds n inner s
@@ -204,8 +204,8 @@ module _ (ds : List Declaration) where
       pushes_same = λ p. refl;
       named = λ h. h;
       typed = λ r h. h;
-      fewer = λ f i. i;
-      order = λ h. h;
+      fewer = λ its f i. i;
+      order = λ its h. h;
       seen = same-sights (sights_of ds n inner s);
       away = λ o r i. i;
       reduced_same = refl;
@@ -226,12 +226,12 @@ module _ (ds : List Declaration) where
       pushes_same = λ x. ap (λ z. z || pushes b' n x) (p.pushes_same x) ∙ ap (λ z. pushes a n x || z) (q.pushes_same x);
       named = λ h. let u = all-append (suits ds) (uses_of a) (uses_of b) h in append-true (suits ds) (uses_of a') (uses_of b') (p.named u.0) (q.named u.1);
       typed = λ r h. let u = both-true (is_typed_in ds r a) (is_typed_in ds r b) h in and-true (is_typed_in ds r a') (is_typed_in ds r b') (p.typed r u.0) (q.typed r u.1);
-      fewer = fewer-both (faults_of a) (faults_of b) (faults_of a') (faults_of b') p.fewer q.fewer;
-      order = λ h.
-          let u = both-true (body_in_order a) (body_in_order b && lie_before (faults_of a) (faults_of b)) h in
-          let v = both-true (body_in_order b) (lie_before (faults_of a) (faults_of b)) u.1 in
-          and-true (body_in_order a') (body_in_order b' && lie_before (faults_of a') (faults_of b')) (p.order u.0)
-          (and-true (body_in_order b') (lie_before (faults_of a') (faults_of b')) (q.order v.0) (lie-fewer (faults_of a) (faults_of b) (faults_of a') (faults_of b') p.fewer q.fewer v.1));
+      fewer = λ its. fewer-both (faults_of its a) (faults_of its b) (faults_of its a') (faults_of its b') (p.fewer its) (q.fewer its);
+      order = λ its h.
+          let u = both-true (body_in_order its a) (body_in_order its b && lie_before (faults_of its a) (faults_of its b)) h in
+          let v = both-true (body_in_order its b) (lie_before (faults_of its a) (faults_of its b)) u.1 in
+          and-true (body_in_order its a') (body_in_order its b' && lie_before (faults_of its a') (faults_of its b')) (p.order its u.0)
+          (and-true (body_in_order its b') (lie_before (faults_of its a') (faults_of its b')) (q.order its v.0) (lie-fewer (faults_of its a) (faults_of its b) (faults_of its a') (faults_of its b') (p.fewer its) (q.fewer its) v.1));
       seen = sights-both (sights_of ds n inner a') (sights_of ds n inner b') (sights_of ds n inner a) (sights_of ds n inner b) p.seen q.seen;
       away = λ o. reads-both (level_reads_of ds n a) (level_reads_of ds n b) (level_reads_of ds n a') (level_reads_of ds n b') (p.away o) (q.away o);
       reduced_same = ap (λ l. l ++ reduced ds n inner b') p.reduced_same ∙ ap (λ l. reduced ds n inner a ++ l) q.reduced_same;
@@ -262,22 +262,22 @@ module _ (ds : List Declaration) where
           let u = both-true (has_type ds Flag c) (is_typed_in ds res a && is_typed_in ds res b) h in
           let v = both-true (is_typed_in ds res a) (is_typed_in ds res b) u.1 in
           and-true (has_type ds Flag d) (is_typed_in ds res a' && is_typed_in ds res b') (typed-same c d r Flag u.0) (and-true (is_typed_in ds res a') (is_typed_in ds res b') (p.typed res v.0) (q.typed res v.1));
-      fewer = fewer-both (faults_in c k) (faults_of a ++ faults_of b) (faults_in d k) (faults_of a' ++ faults_of b') (faults-fewer c d r k) (fewer-both (faults_of a) (faults_of b) (faults_of a') (faults_of b') p.fewer q.fewer);
-      order = λ h.
-          let x = lie_before (faults_in c k) (faults_of a ++ faults_of b) in
-          let y = lie_before (faults_of a) (faults_of b) in
-          let x' = lie_before (faults_in d k) (faults_of a' ++ faults_of b') in
-          let y' = lie_before (faults_of a') (faults_of b') in
-          let t = both-true (in_order c k) (body_in_order a && (body_in_order b && (x && y))) h in
-          let u = both-true (body_in_order a) (body_in_order b && (x && y)) t.1 in
-          let v = both-true (body_in_order b) (x && y) u.1 in
+      fewer = λ its. fewer-both (faults_in c k) (faults_of its a ++ faults_of its b) (faults_in d k) (faults_of its a' ++ faults_of its b') (faults-fewer c d r k) (fewer-both (faults_of its a) (faults_of its b) (faults_of its a') (faults_of its b') (p.fewer its) (q.fewer its));
+      order = λ its h.
+          let x = lie_before (faults_in c k) (faults_of its a ++ faults_of its b) in
+          let y = lie_before (faults_of its a) (faults_of its b) in
+          let x' = lie_before (faults_in d k) (faults_of its a' ++ faults_of its b') in
+          let y' = lie_before (faults_of its a') (faults_of its b') in
+          let t = both-true (in_order c k) (body_in_order its a && (body_in_order its b && (x && y))) h in
+          let u = both-true (body_in_order its a) (body_in_order its b && (x && y)) t.1 in
+          let v = both-true (body_in_order its b) (x && y) u.1 in
           let w = both-true x y v.1 in
-          and-true (in_order d k) (body_in_order a' && (body_in_order b' && (x' && y'))) (order-same c d r k t.0)
-          (and-true (body_in_order a') (body_in_order b' && (x' && y')) (p.order u.0)
-          (and-true (body_in_order b') (x' && y') (q.order v.0)
+          and-true (in_order d k) (body_in_order its a' && (body_in_order its b' && (x' && y'))) (order-same c d r k t.0)
+          (and-true (body_in_order its a') (body_in_order its b' && (x' && y')) (p.order its u.0)
+          (and-true (body_in_order its b') (x' && y') (q.order its v.0)
           (and-true x' y'
-          (lie-fewer (faults_in c k) (faults_of a ++ faults_of b) (faults_in d k) (faults_of a' ++ faults_of b') (faults-fewer c d r k) (fewer-both (faults_of a) (faults_of b) (faults_of a') (faults_of b') p.fewer q.fewer) w.0)
-          (lie-fewer (faults_of a) (faults_of b) (faults_of a') (faults_of b') p.fewer q.fewer w.1))));
+          (lie-fewer (faults_in c k) (faults_of its a ++ faults_of its b) (faults_in d k) (faults_of its a' ++ faults_of its b') (faults-fewer c d r k) (fewer-both (faults_of its a) (faults_of its b) (faults_of its a') (faults_of its b') (p.fewer its) (q.fewer its)) w.0)
+          (lie-fewer (faults_of its a) (faults_of its b) (faults_of its a') (faults_of its b') (p.fewer its) (q.fewer its) w.1))));
       seen = sights-both (sights_in d) (with_reads (sights_of ds n inner a') (sights_of ds n inner b')) (sights_in c) (with_reads (sights_of ds n inner a) (sights_of ds n inner b)) r.seen
           (sights-both (sights_of ds n inner a') (sights_of ds n inner b') (sights_of ds n inner a) (sights_of ds n inner b) p.seen q.seen);
       away = λ o. reads-both (level_reads_in c) (level_reads_of ds n a ++ level_reads_of ds n b) (level_reads_in d) (level_reads_of ds n a' ++ level_reads_of ds n b') r.away
@@ -307,42 +307,42 @@ module _ (ds : List Declaration) where
       (fun_ext (λ step. turn-same c d r loop (AtEdge step.edge) k (does s (AtEdge step.edge) loop) (does t (AtEdge step.edge) loop) (λ i. p.same g ls pushed step.edge i) hd.iterator step.node it.store))
 
   -- a filter and a body stand in order
-  loop-order : (n : ℕ) (inner : Bool) (k : Key) (c d : Expr) (s t : Stmt) → ForExpr ds c d → ForBody ds n inner s t → loop_in_order k c s ≡ true → loop_in_order k d t ≡ true
-  loop-order n inner k c d s t r p h =
-      let u = both-true (in_order c k) (body_in_order s && lie_before (faults_in c k) (faults_of s)) h in
-      let v = both-true (body_in_order s) (lie_before (faults_in c k) (faults_of s)) u.1 in
-      and-true (in_order d k) (body_in_order t && lie_before (faults_in d k) (faults_of t)) (order-same c d r k u.0)
-      (and-true (body_in_order t) (lie_before (faults_in d k) (faults_of t)) (p.order v.0) (lie-fewer (faults_in c k) (faults_of s) (faults_in d k) (faults_of t) (faults-fewer c d r k) p.fewer v.1))
+  loop-order : (its : List ℕ) (n : ℕ) (inner : Bool) (k : Key) (c d : Expr) (s t : Stmt) → ForExpr ds c d → ForBody ds n inner s t → loop_in_order its k c s ≡ true → loop_in_order its k d t ≡ true
+  loop-order its n inner k c d s t r p h =
+      let u = both-true (in_order c k) (body_in_order its s && lie_before (faults_in c k) (faults_of its s)) h in
+      let v = both-true (body_in_order its s) (lie_before (faults_in c k) (faults_of its s)) u.1 in
+      and-true (in_order d k) (body_in_order its t && lie_before (faults_in d k) (faults_of its t)) (order-same c d r k u.0)
+      (and-true (body_in_order its t) (lie_before (faults_in d k) (faults_of its t)) (p.order its v.0) (lie-fewer (faults_in c k) (faults_of its s) (faults_in d k) (faults_of its t) (faults-fewer c d r k) (p.fewer its) v.1))
 
   -- a loop comes before its body
-  leads-order : (n : ℕ) (inner : Bool) (k : Key) (at : Place) (s t : Stmt) → ForBody ds n inner s t → leads k at s ≡ true → leads k at t ≡ true
-  leads-order n inner k at s t p h = lie-fewer (fault_of k at ∷ []) (faults_of s) (fault_of k at ∷ []) (faults_of t) (λ f i. i) p.fewer h
+  leads-order : (its : List ℕ) (n : ℕ) (inner : Bool) (k : Key) (at : Place) (s t : Stmt) → ForBody ds n inner s t → leads its k at s ≡ true → leads its k at t ≡ true
+  leads-order its n inner k at s t p h = lie-fewer (fault_of k at ∷ []) (faults_of its s) (fault_of k at ∷ []) (faults_of its t) (λ f i. i) (p.fewer its) h
 
-  inner-order : (n : ℕ) (k : Key) (at : Place) (c d : Expr) (s t : Stmt) → ForExpr ds c d → ForBody ds n true s t → leads k at s && loop_in_order k c s ≡ true → leads k at t && loop_in_order k d t ≡ true
-  inner-order n k at c d s t r p h =
-      let u = both-true (leads k at s) (loop_in_order k c s) h in
-      and-true (leads k at t) (loop_in_order k d t) (leads-order n true k at s t p u.0) (loop-order n true k c d s t r p u.1)
+  inner-order : (its : List ℕ) (n : ℕ) (k : Key) (at : Place) (c d : Expr) (s t : Stmt) → ForExpr ds c d → ForBody ds n true s t → leads its k at s && loop_in_order its k c s ≡ true → leads its k at t && loop_in_order its k d t ≡ true
+  inner-order its n k at c d s t r p h =
+      let u = both-true (leads its k at s) (loop_in_order its k c s) h in
+      and-true (leads its k at t) (loop_in_order its k d t) (leads-order its n true k at s t p u.0) (loop-order its n true k c d s t r p u.1)
 
-  outer-order : (n : ℕ) (k : Key) (at : Place) (c d : Expr) (s t : Stmt) → ForExpr ds c d → ForBody ds n false s t → begins k at c s && loop_in_order k c s ≡ true → begins k at d t && loop_in_order k d t ≡ true
-  outer-order n k at c d s t r p h =
+  outer-order : (its : List ℕ) (n : ℕ) (k : Key) (at : Place) (c d : Expr) (s t : Stmt) → ForExpr ds c d → ForBody ds n false s t → begins its k at c s && loop_in_order its k c s ≡ true → begins its k at d t && loop_in_order its k d t ≡ true
+  outer-order its n k at c d s t r p h =
       let own = nat_lt 0 k.statement in
-      let u = both-true (begins k at c s) (loop_in_order k c s) h in
-      let v = both-true (leads k at s) (are_numbered (hoisted_in c ++ faults_of s) && (own || cannot_fail c)) u.0 in
-      let w = both-true (are_numbered (hoisted_in c ++ faults_of s)) (own || cannot_fail c) v.1 in
-      and-true (begins k at d t) (loop_in_order k d t)
-      (and-true (leads k at t) (are_numbered (hoisted_in d ++ faults_of t) && (own || cannot_fail d)) (leads-order n false k at s t p v.0)
-      (and-true (are_numbered (hoisted_in d ++ faults_of t)) (own || cannot_fail d)
-      (numbered-fewer (hoisted_in c ++ faults_of s) (hoisted_in d ++ faults_of t) (fewer-both (hoisted_in c) (faults_of s) (hoisted_in d) (faults_of t) r.hoisted p.fewer) w.0) (either own w.1)))
-      (loop-order n false k c d s t r p u.1)
+      let u = both-true (begins its k at c s) (loop_in_order its k c s) h in
+      let v = both-true (leads its k at s) (are_numbered (hoisted_in c ++ faults_of its s) && (own || cannot_fail c)) u.0 in
+      let w = both-true (are_numbered (hoisted_in c ++ faults_of its s)) (own || cannot_fail c) v.1 in
+      and-true (begins its k at d t) (loop_in_order its k d t)
+      (and-true (leads its k at t) (are_numbered (hoisted_in d ++ faults_of its t) && (own || cannot_fail d)) (leads-order its n false k at s t p v.0)
+      (and-true (are_numbered (hoisted_in d ++ faults_of its t)) (own || cannot_fail d)
+      (numbered-fewer (hoisted_in c ++ faults_of its s) (hoisted_in d ++ faults_of its t) (fewer-both (hoisted_in c) (faults_of its s) (hoisted_in d) (faults_of its t) r.hoisted (p.fewer its)) w.0) (either own w.1)))
+      (loop-order its n false k c d s t r p u.1)
     where
       either : (b : Bool) → b || cannot_fail c ≡ true → b || cannot_fail d ≡ true
       either true e = refl
       either false e = r.safe e
 
-  search-order : (n : ℕ) (k : Key) (at : Place) (c d : Expr) (s t : Stmt) → ForExpr ds c d → ForBody ds n false s t → search_in_order k at c s ≡ true → search_in_order k at d t ≡ true
-  search-order n k at c d s t r p h =
-      let u = both-true (are_numbered (fault_of k at ∷ [])) (begins k at c s && loop_in_order k c s) h in
-      and-true (are_numbered (fault_of k at ∷ [])) (begins k at d t && loop_in_order k d t) u.0 (outer-order n k at c d s t r p u.1)
+  search-order : (its : List ℕ) (n : ℕ) (k : Key) (at : Place) (c d : Expr) (s t : Stmt) → ForExpr ds c d → ForBody ds n false s t → search_in_order its k at c s ≡ true → search_in_order its k at d t ≡ true
+  search-order its n k at c d s t r p h =
+      let u = both-true (are_numbered (fault_of k at ∷ [])) (begins its k at c s && loop_in_order its k c s) h in
+      and-true (are_numbered (fault_of k at ∷ [])) (begins its k at d t && loop_in_order its k d t) u.0 (outer-order its n k at c d s t r p u.1)
 
   -- an inner loop shares what it did
   inner-shared : (n : ℕ) (c d : Expr) (s t : Stmt) → ForExpr ds c d → ForBody ds n true s t → inner_shares ds n c s ≡ true → inner_shares ds n d t ≡ true
@@ -363,8 +363,10 @@ module _ (ds : List Declaration) where
     pushes_same = p.pushes_same;
     named = part-named (uses_of_head hd) c d s t r p.named;
     typed = λ res. part-typed res c d s t r (p.typed res);
-    fewer = fewer-both (fault_of k hd.place ∷ []) (faults_in c k ++ faults_of s) (fault_of k hd.place ∷ []) (faults_in d k ++ faults_of t) (λ f i. i) (fewer-both (faults_in c k) (faults_of s) (faults_in d k) (faults_of t) (faults-fewer c d r k) p.fewer);
-    order = inner-order n k hd.place c d s t r p;
+    fewer = λ its.
+        let around = hd.iterator ∷ its in
+        fewer-both (fault_of k hd.place ∷ []) (faults_in c k ++ faults_of around s) (fault_of k hd.place ∷ []) (faults_in d k ++ faults_of around t) (λ f i. i) (fewer-both (faults_in c k) (faults_of around s) (faults_in d k) (faults_of around t) (faults-fewer c d r k) (p.fewer around));
+    order = λ its. inner-order (hd.iterator ∷ its) n k hd.place c d s t r p;
     seen =
         let first : Sights = record { properties = []; scalars = hd.owner ∷ [] } in
         sights-both first (with_reads (sights_in d) (sights_of ds n true t)) first (with_reads (sights_in c) (sights_of ds n true s)) (same-sights first) (sights-both (sights_in d) (sights_of ds n true t) (sights_in c) (sights_of ds n true s) r.seen p.seen);
@@ -472,7 +474,7 @@ module _ (ds : List Declaration) where
       same = λ g bound u. loops-same hd.iterator k c d s t r p g bound no_levels (nodes g) u;
       named = part-named (uses_of_head hd) c d s t r p.named;
       typed = part-typed res c d s t r (p.typed res);
-      order = outer-order hd.iterator k hd.place c d s t r p;
+      order = outer-order (hd.iterator ∷ []) hd.iterator k hd.place c d s t r p;
       share = loop-shared hd.iterator c d s t r p;
       form = λ h.
           let u = both-true (is_nodes hd.domain) (is_outer_expr false hd.iterator c && is_outer_code ds false hd.iterator s) h in
@@ -552,7 +554,7 @@ module _ (ds : List Declaration) where
           in_turns-each run (levels g root) _ _ (loops-same hd.iterator k c d s t r p g bound (level_of g root)) u);
       named = part-named (uses_of_search hd) c d s t r p.named;
       typed = part-typed res c d s t r (p.typed res);
-      order = search-order hd.iterator k hd.place c d s t r p;
+      order = search-order (hd.iterator ∷ []) hd.iterator k hd.place c d s t r p;
       share = search-shared hd.iterator c d s t r p;
       form = loop-form true hd.iterator c d s t r p;
     }
@@ -578,8 +580,9 @@ module _ (ds : List Declaration) where
           and-true (has_type ds Flag d) (is_typed_in ds res t && (has_type ds Flag d2 && is_typed_in ds res t2)) (typed-same c d r Flag u.0)
           (and-true (is_typed_in ds res t) (has_type ds Flag d2 && is_typed_in ds res t2) (p.typed res v.0) (part-typed res c2 d2 s2 t2 r2 (p2.typed res) v.1));
       order = λ h.
-          let u = both-true (search_in_order k hd.place c s) (search_in_order k2 hd.place c2 s2) h in
-          and-true (search_in_order k hd.place d t) (search_in_order k2 hd.place d2 t2) (search-order hd.iterator k hd.place c d s t r p u.0) (search-order hd.iterator k2 hd.place c2 d2 s2 t2 r2 p2 u.1);
+          let its = hd.iterator ∷ [] in
+          let u = both-true (search_in_order its k hd.place c s) (search_in_order its k2 hd.place c2 s2) h in
+          and-true (search_in_order its k hd.place d t) (search_in_order its k2 hd.place d2 t2) (search-order its hd.iterator k hd.place c d s t r p u.0) (search-order its hd.iterator k2 hd.place c2 d2 s2 t2 r2 p2 u.1);
       share = λ h.
           let u = both-true (search_shares ds hd.iterator c s) (search_shares ds hd.iterator c2 s2) h in
           and-true (search_shares ds hd.iterator d t) (search_shares ds hd.iterator d2 t2) (search-shared hd.iterator c d s t r p u.0) (search-shared hd.iterator c2 d2 s2 t2 r2 p2 u.1);

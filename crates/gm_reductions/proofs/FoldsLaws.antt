@@ -121,9 +121,9 @@ module _ where
   rest-key : (e : Expr) (k : Key) (g : K.Fault) → IsIn g (rest_in e k) → g.key ≡ k
   rest-key (Const v) k g i = absurd i
   rest-key (Var x at) k g i = absurd i
-  rest-key (Property x p at) k g i = ⊎_elim (λ (e : g ≡ record { key = k; place = at }). ap (λ (f : K.Fault). f.key) e) (λ j. absurd j) i
+  rest-key (Property x p at) k g i = absurd i
   rest-key (EdgeProperty x p at) k g i = absurd i
-  rest-key (Degree d x at) k g i = ⊎_elim (λ (e : g ≡ record { key = k; place = at }). ap (λ (f : K.Fault). f.key) e) (λ j. absurd j) i
+  rest-key (Degree d x at) k g i = absurd i
   rest-key NodeCount k g i = absurd i
   rest-key EdgeCount k g i = absurd i
   rest-key (Live x at) k g i = ⊎_elim (λ (e : g ≡ record { key = k; place = at }). ap (λ (f : K.Fault). f.key) e) (λ j. absurd j) i
@@ -310,8 +310,8 @@ module _ (ds : List Declaration) (res : Option VType) (x : ℕ) (outside : depth
       faults-before g i =
           ⊎_elim (λ (s : g.key ≡ f.body). ap (λ k. key_lt k f.total.key) s ∙ last) (λ m. keys-rise g.key f.body f.total.key (all-under f.body (keys_in e) g.key under m) last) (faults-key e f.body g i)
 
-      value-order : (r : Reduce) → body_in_order (Combine f.body f.total r (T.Scalar x nowhere ∷ []) (e ∷ [])) ≡ true
-      value-order r =
+      value-order : (its : List ℕ) (r : Reduce) → body_in_order its (Combine f.body f.total r (T.Scalar x nowhere ∷ []) (e ∷ [])) ≡ true
+      value-order its r =
           and-true (in_order e f.body && true) _ (and-true (in_order e f.body) true ordered refl)
           (lie-from (hoisted_in e ++ []) (record { key = f.body; place = f.total.place } ∷ record { key = f.total.key; place = f.total.place } ∷ [])
           (λ g k i j.
@@ -319,42 +319,42 @@ module _ (ds : List Declaration) (res : Option VType) (x : ℕ) (outside : depth
           ⊎_elim (λ (s : k ≡ record { key = f.body; place = f.total.place }). under-key g k (ap (key_lt g.key) (ap (λ (z : K.Fault). z.key) s) ∙ h))
           (λ m. ⊎_elim (λ (s : k ≡ record { key = f.total.key; place = f.total.place }). under-key g k (ap (key_lt g.key) (ap (λ (z : K.Fault). z.key) s) ∙ keys-rise g.key f.body f.total.key h last)) (λ n. absurd n) m) j))
 
-      pub given-order : (word : ReductionWord) → body_in_order (given word f x e) ≡ true
-      given-order W.Count =
+      pub given-order : (its : List ℕ) (word : ReductionWord) → body_in_order its (given word f x e) ≡ true
+      given-order its W.Count =
           and-true (in_order e f.body) _ ordered
           (and-true (lie_before (faults_in e f.body) (record { key = f.total.key; place = f.total.place } ∷ record { key = f.total.key; place = f.total.place } ∷ [])) true
           (lie-from (faults_in e f.body) (record { key = f.total.key; place = f.total.place } ∷ record { key = f.total.key; place = f.total.place } ∷ [])
           (λ g k i j. under-key g k (ap (key_lt g.key) (⊎_elim (λ (s : k ≡ record { key = f.total.key; place = f.total.place }). ap (λ (z : K.Fault). z.key) s) (λ m. ⊎_elim (λ (s : k ≡ record { key = f.total.key; place = f.total.place }). ap (λ (z : K.Fault). z.key) s) (λ n. absurd n) m) j) ∙ faults-before g i))) refl)
-      given-order W.Sum = value-order R.Sum
-      given-order W.Product = value-order R.Product
-      given-order W.Min = value-order R.Min
-      given-order W.Max = value-order R.Max
-      given-order W.Exist = value-order R.Or
-      given-order W.All = value-order R.And
+      given-order its W.Sum = value-order its R.Sum
+      given-order its W.Product = value-order its R.Product
+      given-order its W.Min = value-order its R.Min
+      given-order its W.Max = value-order its R.Max
+      given-order its W.Exist = value-order its R.Or
+      given-order its W.All = value-order its R.And
 
       -- each fault of the body is one of the braces, or stands under their key or the total's
       abbrev OfBody : K.Fault → Type 0
       OfBody g = IsIn g (faults_in e f.body) ⊎ ((g.key ≡ f.body) ⊎ (g.key ≡ f.total.key))
 
-      value-faults : (r : Reduce) (g : K.Fault) → IsIn g (faults_of (Combine f.body f.total r (T.Scalar x nowhere ∷ []) (e ∷ []))) → OfBody g
-      value-faults r g i =
+      value-faults : (its : List ℕ) (r : Reduce) (g : K.Fault) → IsIn g (faults_of its (Combine f.body f.total r (T.Scalar x nowhere ∷ []) (e ∷ []))) → OfBody g
+      value-faults its r g i =
           ⊎_elim (λ l. inl (⊎_elim (λ m. m) (λ n. absurd n) (in-either g (faults_in e f.body) [] l)))
           (λ m. ⊎_elim (λ (s : g ≡ record { key = f.body; place = f.total.place }). inr (inl (ap (λ (z : K.Fault). z.key) s)))
           (λ n. ⊎_elim (λ (s : g ≡ record { key = f.total.key; place = f.total.place }). inr (inr (ap (λ (z : K.Fault). z.key) s))) (λ o. absurd o) n) m)
           (in-either g (faults_in e f.body ++ []) (record { key = f.body; place = f.total.place } ∷ record { key = f.total.key; place = f.total.place } ∷ []) i)
 
-      pub given-faults : (word : ReductionWord) (g : K.Fault) → IsIn g (faults_of (given word f x e)) → OfBody g
-      given-faults W.Count g i =
+      pub given-faults : (its : List ℕ) (word : ReductionWord) (g : K.Fault) → IsIn g (faults_of its (given word f x e)) → OfBody g
+      given-faults its W.Count g i =
           ⊎_elim (λ l. inl l)
           (λ m. ⊎_elim (λ (s : g ≡ record { key = f.total.key; place = f.total.place }). inr (inr (ap (λ (z : K.Fault). z.key) s)))
           (λ n. ⊎_elim (λ (s : g ≡ record { key = f.total.key; place = f.total.place }). inr (inr (ap (λ (z : K.Fault). z.key) s))) (λ o. absurd o) n) m)
           (in-either g (faults_in e f.body) (record { key = f.total.key; place = f.total.place } ∷ record { key = f.total.key; place = f.total.place } ∷ []) i)
-      given-faults W.Sum g i = value-faults R.Sum g i
-      given-faults W.Product g i = value-faults R.Product g i
-      given-faults W.Min g i = value-faults R.Min g i
-      given-faults W.Max g i = value-faults R.Max g i
-      given-faults W.Exist g i = value-faults R.Or g i
-      given-faults W.All g i = value-faults R.And g i
+      given-faults its W.Sum g i = value-faults its R.Sum g i
+      given-faults its W.Product g i = value-faults its R.Product g i
+      given-faults its W.Min g i = value-faults its R.Min g i
+      given-faults its W.Max g i = value-faults its R.Max g i
+      given-faults its W.Exist g i = value-faults its R.Or g i
+      given-faults its W.All g i = value-faults its R.And g i
 
     -- what the loop shares between its iterations
     module _ (n : ℕ) (test : Expr) (test-unnamed : names x test ≡ false) (unnamed : names x e ≡ false) where

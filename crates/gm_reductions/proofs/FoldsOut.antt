@@ -48,9 +48,11 @@ use Rattle.gm_desugar.proofs.Alike.{then-goes}
 use Rattle.gm_desugar.proofs.ConditionsLaws.{written-scalar}
 use Rattle.gm_desugar.proofs.Fewer.{lie-from, numbered-in}
 use Rattle.gm_desugar.proofs.Replacing.{append-true, is-type, type-itself, expr-same, ForPhase, phase-same, phase-then, phase-for, phase-if, phase-while, phase-do, means-same, ready-same}
+use Rattle.gm_reductions.specs.Accesses.{has_no_accesses}
 use Rattle.gm_reductions.specs.Folds.{unit_for, given, looped, assigned_out, declared_out, folds_out, without_folds, has_no_folds}
 use Rattle.gm_reductions.specs.Keys.{key_lt, keys_in, all_under, all_over, rises, all_rise}
-use Rattle.gm_reductions.specs.Stages.{WithRisingKeys, WithoutFolds}
+use Rattle.gm_reductions.specs.Phases.{has_no_picks, KeepsNoPicks}
+use Rattle.gm_reductions.specs.Stages.{WithRisingKeys, WithoutAccesses, WithoutFolds, WithLoopsAlone}
 use Rattle.gm_reductions.proofs.FaultKeys.{under-key, keys-rise, all-under, numbered-after, numbered-from}
 use Rattle.gm_reductions.proofs.FoldsLaws.{faults-key, unit-typed, all-nodes, given-named, given-typed, given-form, given-compounds, given-literals, given-order, given-faults, given-shares}
 use Rattle.gm_reductions.proofs.Looping.{loop-alike}
@@ -104,7 +106,7 @@ module _ (ds : List Declaration) (res : Option VType) (x : ℕ) (f : Fold) (h : 
       )
 
   abbrev own_loop : Bool
-  own_loop = begins f.filter h.place test (given f.word f x e) && loop_in_order f.filter test (given f.word f x e)
+  own_loop = begins (h.iterator ∷ []) f.filter h.place test (given f.word f x e) && loop_in_order (h.iterator ∷ []) f.filter test (given f.word f x e)
 
   loop-order : folds_in_order (Folded f h test e) ≡ true → own_loop && true ≡ true
   loop-order o =
@@ -116,16 +118,16 @@ module _ (ds : List Declaration) (res : Option VType) (x : ℕ) (f : Fold) (h : 
       let d = both-true (lie_before (hoisted_in e) (rest_in e f.body)) _ c.1 in
       let g = both-true (lie_before (faults_in test f.filter) (faults_in e f.body)) _ d.1 in
       let inside : in_order e f.body ≡ true = and-true (hoists_in_order e) (lie_before (hoisted_in e) (rest_in e f.body)) b.0 d.0 in
-      let of-body : (q : K.Fault) → IsIn q (faults_of (given f.word f x e)) → IsIn q (faults_in e f.body) ⊎ ((q.key ≡ f.body) ⊎ (q.key ≡ f.total.key)) = given-faults ds res x outside f e rise.2 rise.4 inside f.word in
+      let of-body : (q : K.Fault) → IsIn q (faults_of (h.iterator ∷ []) (given f.word f x e)) → IsIn q (faults_in e f.body) ⊎ ((q.key ≡ f.body) ⊎ (q.key ≡ f.total.key)) = given-faults ds res x outside f e rise.2 rise.4 inside (h.iterator ∷ []) f.word in
       and-true own_loop true
-      (and-true (begins f.filter h.place test (given f.word f x e)) (loop_in_order f.filter test (given f.word f x e))
-      (and-true (leads f.filter h.place (given f.word f x e)) _
-      (lie-from (fault_of f.filter h.place ∷ []) (faults_of (given f.word f x e)) (λ p q i j. ⊎_elim (λ (s : p ≡ fault_of f.filter h.place). subst (λ r. fault_lt r q ≡ true) (sym s) (ahead v.0 q (of-body q j))) (λ n. absurd n) i))
-      (and-true (are_numbered (hoisted_in test ++ faults_of (given f.word f x e))) _ (all-numbered w.1 of-body)
+      (and-true (begins (h.iterator ∷ []) f.filter h.place test (given f.word f x e)) (loop_in_order (h.iterator ∷ []) f.filter test (given f.word f x e))
+      (and-true (leads (h.iterator ∷ []) f.filter h.place (given f.word f x e)) _
+      (lie-from (fault_of f.filter h.place ∷ []) (faults_of (h.iterator ∷ []) (given f.word f x e)) (λ p q i j. ⊎_elim (λ (s : p ≡ fault_of f.filter h.place). subst (λ r. fault_lt r q ≡ true) (sym s) (ahead v.0 q (of-body q j))) (λ n. absurd n) i))
+      (and-true (are_numbered (hoisted_in test ++ faults_of (h.iterator ∷ []) (given f.word f x e))) _ (all-numbered w.1 of-body)
       (or_left (nat_lt 0 f.filter.statement) (cannot_fail test) (own-numbered w.1))))
       (and-true (in_order test f.filter) _ (and-true (hoists_in_order test) (lie_before (hoisted_in test) (rest_in test f.filter)) a.0 c.0)
-      (and-true (body_in_order (given f.word f x e)) (lie_before (faults_in test f.filter) (faults_of (given f.word f x e))) (given-order ds res x outside f e rise.2 rise.4 inside f.word)
-      (lie-from (faults_in test f.filter) (faults_of (given f.word f x e)) (λ p q i j. behind g.0 p q i (of-body q j)))))) refl
+      (and-true (body_in_order (h.iterator ∷ []) (given f.word f x e)) (lie_before (faults_in test f.filter) (faults_of (h.iterator ∷ []) (given f.word f x e))) (given-order ds res x outside f e rise.2 rise.4 inside (h.iterator ∷ []) f.word)
+      (lie-from (faults_in test f.filter) (faults_of (h.iterator ∷ []) (given f.word f x e)) (λ p q i j. behind g.0 p q i (of-body q j)))))) refl
     where
       before-body : (p : K.Fault) → IsIn p (faults_in test f.filter) → key_lt p.key f.body ≡ true
       before-body p i =
@@ -142,14 +144,14 @@ module _ (ds : List Declaration) (res : Option VType) (x : ℕ) (f : Fold) (h : 
       own-numbered : are_numbered (hoisted_in (Folded f h test e)) ≡ true → nat_lt 0 f.filter.statement ≡ true
       own-numbered n = numbered-in (hoisted_in (Folded f h test e)) (fault_of f.filter h.place) n (inl refl)
 
-      all-numbered : are_numbered (hoisted_in (Folded f h test e)) ≡ true → ((q : K.Fault) → IsIn q (faults_of (given f.word f x e)) → IsIn q (faults_in e f.body) ⊎ ((q.key ≡ f.body) ⊎ (q.key ≡ f.total.key)))
-          → are_numbered (hoisted_in test ++ faults_of (given f.word f x e)) ≡ true
+      all-numbered : are_numbered (hoisted_in (Folded f h test e)) ≡ true → ((q : K.Fault) → IsIn q (faults_of (h.iterator ∷ []) (given f.word f x e)) → IsIn q (faults_in e f.body) ⊎ ((q.key ≡ f.body) ⊎ (q.key ≡ f.total.key)))
+          → are_numbered (hoisted_in test ++ faults_of (h.iterator ∷ []) (given f.word f x e)) ≡ true
       all-numbered n of-body =
           let braces : nat_lt 0 f.body.statement ≡ true = numbered-after f.filter f.body rise.3 (own-numbered n) in
-          numbered-both (hoisted_in test) (faults_of (given f.word f x e))
+          numbered-both (hoisted_in test) (faults_of (h.iterator ∷ []) (given f.word f x e))
           (numbered-from (hoisted_in test)
           (λ q i. numbered-in (hoisted_in (Folded f h test e)) q n (inr (in-left q (faults_in test f.filter) (faults_in e f.body ++ fold_fault f) (in-left q (hoisted_in test) (rest_in test f.filter) i)))))
-          (numbered-from (faults_of (given f.word f x e))
+          (numbered-from (faults_of (h.iterator ∷ []) (given f.word f x e))
           (λ q i. ⊎_elim (λ m. numbered-in (hoisted_in (Folded f h test e)) q n (inr (in-right q (faults_in test f.filter) (faults_in e f.body ++ fold_fault f) (in-left q (faults_in e f.body) (fold_fault f) m))))
           (λ m. ⊎_elim (λ (s : q.key ≡ f.body). ap (λ (k : Key). nat_lt 0 k.statement) s ∙ braces)
           (λ (s : q.key ≡ f.total.key). ap (λ (k : Key). nat_lt 0 k.statement) s ∙ numbered-after f.body f.total.key rise.4 braces) m) (of-body q i)))
@@ -326,6 +328,26 @@ module _ (ds : List Declaration) (res : Option VType) where
   apart-stays (Do k at s c) h = apart-stays s h
   apart-stays s h = h
 
+  accesses-stay : (s : Stmt) → has_no_accesses s ≡ true → has_no_accesses (folds_out s) ≡ true
+  accesses-stay (Then a b) h = let q = both-true (has_no_accesses a) (has_no_accesses b) h in and-true (has_no_accesses (folds_out a)) (has_no_accesses (folds_out b)) (accesses-stay a q.0) (accesses-stay b q.1)
+  accesses-stay (Declare k x (Some (Folded f hd test e))) h = refl
+  accesses-stay (Assign k (T.Scalar x at) (Folded f hd test e)) h = refl
+  accesses-stay (For k at hd c s) h = accesses-stay s h
+  accesses-stay (If k c a b) h = let q = both-true (has_no_accesses a) (has_no_accesses b) h in and-true (has_no_accesses (folds_out a)) (has_no_accesses (folds_out b)) (accesses-stay a q.0) (accesses-stay b q.1)
+  accesses-stay (While k at c s) h = accesses-stay s h
+  accesses-stay (Do k at s c) h = accesses-stay s h
+  accesses-stay s h = h
+
+  picks-stay : (s : Stmt) → has_no_picks s ≡ true → has_no_picks (folds_out s) ≡ true
+  picks-stay (Then a b) h = let q = both-true (has_no_picks a) (has_no_picks b) h in and-true (has_no_picks (folds_out a)) (has_no_picks (folds_out b)) (picks-stay a q.0) (picks-stay b q.1)
+  picks-stay (Declare k x (Some (Folded f hd test e))) h = refl
+  picks-stay (Assign k (T.Scalar x at) (Folded f hd test e)) h = refl
+  picks-stay (For k at hd c s) h = picks-stay s h
+  picks-stay (If k c a b) h = let q = both-true (has_no_picks a) (has_no_picks b) h in and-true (has_no_picks (folds_out a)) (has_no_picks (folds_out b)) (picks-stay a q.0) (picks-stay b q.1)
+  picks-stay (While k at c s) h = picks-stay s h
+  picks-stay (Do k at s c) h = picks-stay s h
+  picks-stay s h = h
+
   -- no reduction is left
   none-left : (s : Stmt) → has_reads_apart s ≡ true → has_no_folds (folds_out s) ≡ true
   none-left (Then a b) h = let q = both-true (has_reads_apart a) (has_reads_apart b) h in and-true (has_no_folds (folds_out a)) (has_no_folds (folds_out b)) (none-left a q.0) (none-left b q.1)
@@ -366,6 +388,13 @@ kept p r =
       };
       no_folds = none-left ds p.result p.body r.with_reads_apart.apart;
     }
+
+-- where no access was left, neither is left
+pub alone : (p : Program) → WithoutAccesses p → WithLoopsAlone (without_folds p)
+alone p r = record { without_folds = kept p r.with_typed_runs.with_rising_keys; no_accesses = accesses-stay p.declarations p.result p.body r.no_accesses }
+
+pub no-picks : (p : Program) → KeepsNoPicks p (without_folds p)
+no-picks p h = picks-stay p.declarations p.result p.body h
 
 -- statements one after another
 pub folds-sequence : {A : Type 0} (g : A → Stmt) (xs : List A) → folds_out (sequence (map g xs)) ≡ sequence (map (λ x. folds_out (g x)) xs)

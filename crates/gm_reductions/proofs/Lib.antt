@@ -5,3 +5,12 @@ pub mod Looping
 pub mod FoldsLaws
 pub mod FoldsOut
 pub mod Units
+pub mod OneNode
+pub mod WriteThere
+pub mod TypedAlike
+pub mod AccessesLaws
+pub mod Known
+pub mod AccessesKept
+pub mod Telling
+pub mod AccessesOut
+pub mod PhasesLaws

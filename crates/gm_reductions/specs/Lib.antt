@@ -1,3 +1,5 @@
 pub mod Keys
 pub mod Folds
+pub mod Accesses
 pub mod Stages
+pub mod Phases

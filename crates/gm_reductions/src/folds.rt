@@ -17,7 +17,8 @@ ghost use Rattle.gm_forms.specs.Meanings.{SameMeaning};
 ghost use Rattle.gm_desugar.specs.Conditions.{nowhere};
 ghost use Rattle.gm_reductions.specs.Folds as Folds;
 ghost use Rattle.gm_reductions.specs.Folds.{folds_out, without_folds};
-ghost use Rattle.gm_reductions.specs.Stages.{WithRisingKeys, WithoutFolds};
+ghost use Rattle.gm_reductions.specs.Phases.{KeepsNoPicks};
+ghost use Rattle.gm_reductions.specs.Stages.{WithLoopsAlone, WithRisingKeys, WithoutAccesses, WithoutFolds};
 
 use gm_ast::forms::Work;
 use gm_ast::surface::ReductionWord;
@@ -28,11 +29,13 @@ use std::alloc::{AllocError, Global};
 
 /// Writes each reduction that a scalar of the sequential phase is set to as a loop onto the scalar. Where each read
 /// stands alone and the keys of reductions rise, the program means the same, is as ready for the passes as it was, and
-/// nothing is set to a reduction.
+/// nothing is set to a reduction. Where no access through a node variable was left, none is, and no pick comes in.
 pub fn folds_out(alloc: Global, program: Work) -> Result<Work, NoMemory>
     ensures made { IfOk result (λ r. program_of r ≡ without_folds (program_of program)) }
     ensures same { IfOk result (λ r. WithRisingKeys (program_of program) → SameMeaning (program_of program) (program_of r)) }
     ensures ready { IfOk result (λ r. WithRisingKeys (program_of program) → WithoutFolds (program_of r)) }
+    ensures alone { IfOk result (λ r. WithoutAccesses (program_of program) → WithLoopsAlone (program_of r)) }
+    ensures picks { IfOk result (λ r. KeepsNoPicks (program_of program) (program_of r)) }
 {
     let tree = program.into_tree();
     let body = unfold(alloc, tree.body)?;
@@ -163,7 +166,7 @@ fn over_elements(
 }
 
 // One statement after another.
-fn in_turn(alloc: Global, first: Stmt, second: Stmt) -> Result<Stmt, AllocError>
+pub(crate) fn in_turn(alloc: Global, first: Stmt, second: Stmt) -> Result<Stmt, AllocError>
     ensures { IfOk result (λ r. stmt_of r ≡ Program.sequence (stmt_of first ∷ stmt_of second ∷ [])) }
 {
     let mut stmts = Vec::new(alloc);
