@@ -1,0 +1,23 @@
+pub mod Edgeless
+pub mod Lent
+pub mod Turns
+pub mod OneFold
+pub mod FoldsAlike
+pub mod Parts
+pub mod Bodies
+pub mod Bare
+pub mod Placed
+pub mod Loops
+pub mod Phases
+pub mod Late
+pub mod Same
+pub mod TextKept
+pub mod BodyKept
+pub mod OrderKept
+pub mod PhaseOrder
+pub mod ShareLists
+pub mod ShareFolds
+pub mod ShareKept
+pub mod PhaseShare
+pub mod Kept
+mod Samples

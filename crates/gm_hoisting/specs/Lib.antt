@@ -1,0 +1,4 @@
+pub mod Hoisting
+pub mod Totals
+pub mod Stages
+pub mod Laws
