@@ -1,0 +1,9 @@
+pub mod RisingKept
+pub mod TellsKept
+pub mod PicksNone
+pub mod Together
+pub mod Keeping
+pub mod RisingTyped
+pub mod PicksLaws
+pub mod PicksKept
+pub mod PicksOut

@@ -1,0 +1,3 @@
+pub mod Picks
+pub mod Desugaring
+pub mod Laws
