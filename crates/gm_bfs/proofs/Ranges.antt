@@ -2,7 +2,7 @@
 use Rattle.std.proofs.Common.{◌≡◌, ◌<◌, ◌≤◌, ◌+◌, ℕ, suc, Bool, true, false, cond, List, [], ◌∷◌, map, refl, sym, ap, subst, ◌∙◌, arith, Option, Some, None, Ok, Err, ⊎_elim}
 use Rattle.std.proofs.Math.Path.{fun_ext}
 use Rattle.std.specs.Prelude.{◌≢◌, ◌||◌, filter}
-use Rattle.std.proofs.lemmas.Bool.{lt-ltb, eqb-true, eq-eqb}
+use Rattle.std.proofs.lemmas.Bool.{both_ways, lt-ltb, eqb-true, eq-eqb}
 use Rattle.gm_value.specs.declared.operations.Op2.TheVariants.{Eq}
 use Rattle.gm_value.specs.declared.reductions.Reduce.{Reduce}
 use Rattle.gm_value.specs.declared.values.Value.{Value}
@@ -344,7 +344,7 @@ module _ (P Q : ℕ → Type 0) (k : ℕ) (P-below : (y : ℕ) → P y → y < k
           where
             is : value (conjunction (is_on f h y) (reading f marks h.iterator test)) (view_in bare (AtEdge step.edge) start key) ≡ Ok (Flag false)
             is = conjunction-false (is_on f h y) (reading f marks h.iterator test) (view_in bare (AtEdge step.edge) start key) (on-told ∙ ap (λ b. plain (Ok (Flag b))) out)
-                (fails (view_in bare (AtEdge step.edge) start key) refl (reading f marks h.iterator test) (flat-reading f marks h.iterator test flat)).hoisted
+                (fails (view_in bare (AtEdge step.edge) start key) refl [] (λ y e. absurd (both_ways false refl e)) (reading f marks h.iterator test) (flat-reading f marks h.iterator test flat)).hoisted
 
       -- the inner loop over the edges whose ends are on the level
       pub level-loop : (steps : List Step) → ((step : Step) → IsIn step steps → step.node < node_count loop.graph) → inner_done it (map turn steps) ≡ inner_done it (map plain_turn (filter (λ step. next step.node) steps))

@@ -2,7 +2,7 @@
 use Rattle.std.proofs.Common.{◌≡◌, ◌<◌, ◌≤◌, ℕ, Bool, true, false, cond, List, [], ◌∷◌, ◌++◌, map, refl, sym, ap, subst, ◌∙◌, arith, Option, Some, None, Ok, Err, ⊎_elim, inl}
 use Rattle.std.proofs.Math.Path.{fun_ext}
 use Rattle.std.specs.Prelude.{◌≢◌, ◌&&◌, ◌||◌, filter, nat_eq}
-use Rattle.std.proofs.lemmas.Bool.{lt-ltb, eq-eqb}
+use Rattle.std.proofs.lemmas.Bool.{both_ways, lt-ltb, eq-eqb}
 use Rattle.gm_base.specs.declared.places.Place.{Place}
 use Rattle.gm_value.specs.declared.operations.Op2.TheVariants.{Eq}
 use Rattle.gm_value.specs.declared.values.Value.TheVariants.{Flag, At}
@@ -164,7 +164,7 @@ module _ (P Q : ℕ → Type 0) (k : ℕ) (P-below : (y : ℕ) → P y → y < k
       off-node : active n ≡ false → iteration bare' key filter' (by_levels f marks body) t n ≡ start
       off-node out =
           ap (λ r. with_ok start r (λ v. one_way (is_true v) (does (by_levels f marks body) Outermost bare') as_it_is start))
-          (conjunction-false (Property x f.active place) test (view_in bare' Outermost start key) (active-told ∙ ap (λ b. plain (Ok (Flag b))) out) (fails (view_in bare' Outermost start key) refl test part.flat).hoisted)
+          (conjunction-false (Property x f.active place) test (view_in bare' Outermost start key) (active-told ∙ ap (λ b. plain (Ok (Flag b))) out) (fails (view_in bare' Outermost start key) refl [] (λ y e. absurd (both_ways false refl e)) test part.flat).hoisted)
 
     -- the loop over all nodes is the search's over the active ones
     visit-same : parallel new key filter' (by_levels f marks body) (nodes run.graph) t ≡ parallel old key test body (filter active (nodes run.graph)) t

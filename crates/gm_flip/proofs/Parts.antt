@@ -14,7 +14,7 @@ use Rattle.gm_ast.specs.Ways.{is_in}
 use Rattle.gm_forms.specs.Cut.{is_mask, is_own_loop, spares_locals, is_edge_loop, is_along_edges, is_cut}
 use Rattle.gm_forms.specs.Forms.{depth_at, may, is_flat, is_range, is_inner_local, is_inner_given, is_within, are_reduced, is_inner_body, is_inner_head, is_outer_body, is_flat_loop, is_along, is_against, avoids, is_home, is_push, is_pull, has_a_way, goes_out}
 use Rattle.gm_forms.specs.Flip.{reversed, flipped_head}
-use Rattle.gm_forms.specs.Order.{first_key, begins, loop_in_order}
+use Rattle.gm_forms.specs.Order.{first_key, cannot_fail, begins, loop_in_order}
 use Rattle.gm_forms.specs.Sharing.{shares}
 use Rattle.gm_forms.proofs.CutTests.{flat, not-true}
 use Rattle.gm_forms.proofs.Named.{both-true}
@@ -106,9 +106,9 @@ pub record Parts (ds : List Declaration) (n : ℕ) (k : Key) (mask : Expr) (j : 
   pub turnable : Turnable ds n mask i test body
   pub pull : is_pull ds n i test body ≡ true
   pub mask_flat : is_flat (n ∷ []) false mask ≡ true
-  pub order : (place : Place) → begins k place mask (Foreach j here i test body) && loop_in_order k mask (Foreach j here i test body) ≡ true →
-      begins first_key place always (Foreach j here (flipped_head n i) (joined mask test) body) && loop_in_order first_key always (Foreach j here (flipped_head n i) (joined mask test) body) ≡ true
-  pub edges : is_edge_loop ds i.iterator always j (flipped_head n i) (joined mask test) body ≡ true
+  pub order : (place : Place) → begins (n ∷ []) k place mask (Foreach j here i test body) && loop_in_order (n ∷ []) k mask (Foreach j here i test body) ≡ true →
+      begins (i.iterator ∷ []) first_key place always (Foreach j here (flipped_head n i) (joined mask test) body) && loop_in_order (i.iterator ∷ []) first_key always (Foreach j here (flipped_head n i) (joined mask test) body) ≡ true
+  pub edges : is_edge_loop ds i.iterator always (flipped_head n i) (joined mask test) body ≡ true
   pub share : shares ds i.iterator always (Foreach j here (flipped_head n i) (joined mask test) body) ≡ true
 
 third : (a b c : Bool) → a || (b || c) ≡ true → a ≡ false → b ≡ false → c ≡ true
@@ -125,8 +125,8 @@ parts ds n k mask j here i test body cut pulling shared =
     let inner = Foreach j here i test body in
     let c = both-true (is_flat_loop ds false n mask inner) (is_own_loop n inner || (is_mask n mask && is_along_edges (has_a_way ds) ds n mask inner)) cut in
     let f = both-true (is_flat (n ∷ []) false mask) (is_outer_body ds false n inner) c.0 in
-    let m = both-true (is_mask n mask) (has_a_way ds n i test body && is_edge_loop ds n mask j i test body) c.1 in
-    let w = both-true (has_a_way ds n i test body) (is_edge_loop ds n mask j i test body) m.1 in
+    let m = both-true (is_mask n mask) (has_a_way ds n i test body && is_edge_loop ds n mask i test body) c.1 in
+    let w = both-true (has_a_way ds n i test body) (is_edge_loop ds n mask i test body) m.1 in
     let may' = kept-parts ds n k mask j here i test body w.1 in
     let no = neither (is_at_home n i test body) (is_outgoing n i test body) (not-true (is_at_home n i test body || is_outgoing n i test body) pulling) in
     let not-home = fails (is_home ds n i test body) (is_at_home n i test body) (end-of ds (n ∷ []) (is_along i.domain) i.iterator test body) no.0 in
@@ -139,7 +139,7 @@ parts ds n k mask j here i test body cut pulling shared =
       turnable = record { lone = l; mask_is = m.0; out = may'.out; away = a.1; spares = may'.spares; alone = alone ds n k mask j here i test body may' shared };
       pull = pull;
       mask_flat = f.0;
-      order = order-turned ds n k mask j here i test body (flat (n ∷ []) false mask f.0) (flat (n ∷ i.iterator ∷ []) true test l.test_flat) may';
+      order = order-turned ds n k mask j here i test body (flat (n ∷ []) false mask f.0) (both-true (cannot_fail mask) (is_flat (n ∷ []) false mask) m.0).0 (flat (n ∷ i.iterator ∷ []) true test l.test_flat);
       edges = edge-turned ds n k mask j here i test body (n ∷ i.iterator ∷ []) true l.inner a.1 may';
       share = share-turned ds n k mask j here i test body (n ∷ i.iterator ∷ []) true l.inner a.1 may' shared;
     }
@@ -210,7 +210,7 @@ goes ds n k mask j here i test body p =
     (joined-flat (t ∷ n ∷ []) (is_along (reversed i.domain)) mask test (mask-at (is_along (reversed i.domain))) (flat-more (n ∷ t ∷ []) (t ∷ n ∷ []) (is_against i.domain) (is_along (reversed i.domain)) (swapped n t) edge test a.0))
     (and-true (is_inner_body ds (t ∷ n ∷ []) (is_along (reversed i.domain)) body) (avoids t body)
     (inner-more (n ∷ t ∷ []) (t ∷ n ∷ []) (is_against i.domain) (is_along (reversed i.domain)) (swapped n t) edge ds body b.0) b.1) in
-    and-true (is_flat_loop ds false t always inner) (goes_out ds t hd filter body && is_edge_loop ds t always j hd filter body) outer (and-true (goes_out ds t hd filter body) (is_edge_loop ds t always j hd filter body) (right (is_home ds t hd filter body) (is_push ds t hd filter body) push) p.edges)
+    and-true (is_flat_loop ds false t always inner) (goes_out ds t hd filter body && is_edge_loop ds t always hd filter body) outer (and-true (goes_out ds t hd filter body) (is_edge_loop ds t always hd filter body) (right (is_home ds t hd filter body) (is_push ds t hd filter body) push) p.edges)
   where
     right : (a b : Bool) → b ≡ true → a || b ≡ true
     right true b h = refl
@@ -259,16 +259,16 @@ goes-as-it-is ds n mask j here i test body cut stays =
     let inner = Foreach j here i test body in
     let c = both-true (is_flat_loop ds false n mask inner) (is_own_loop n inner || (is_mask n mask && is_along_edges (has_a_way ds) ds n mask inner)) cut in
     let f = both-true (is_flat (n ∷ []) false mask) (is_outer_body ds false n inner) c.0 in
-    let m = both-true (is_mask n mask) (has_a_way ds n i test body && is_edge_loop ds n mask j i test body) c.1 in
-    let w = both-true (has_a_way ds n i test body) (is_edge_loop ds n mask j i test body) m.1 in
+    let m = both-true (is_mask n mask) (has_a_way ds n i test body && is_edge_loop ds n mask i test body) c.1 in
+    let w = both-true (has_a_way ds n i test body) (is_edge_loop ds n mask i test body) m.1 in
     let l = lone ds n j here i test body f.1 in
     let out : goes_out ds n i test body ≡ true =
     either (is_at_home n i test body) (is_outgoing n i test body) (is_home ds n i test body) (is_push ds n i test body)
     (back-of ds (n ∷ []) (is_along i.domain) i.iterator (n ∷ i.iterator ∷ []) test body l.inner)
     (back-of ds (n ∷ i.iterator ∷ []) (is_along i.domain) n (n ∷ i.iterator ∷ []) test body l.inner)
     (not-false (is_at_home n i test body || is_outgoing n i test body) stays) in
-    and-true (is_flat_loop ds false n mask inner) (is_mask n mask && (goes_out ds n i test body && is_edge_loop ds n mask j i test body)) c.0
-    (and-true (is_mask n mask) (goes_out ds n i test body && is_edge_loop ds n mask j i test body) m.0 (and-true (goes_out ds n i test body) (is_edge_loop ds n mask j i test body) out w.1))
+    and-true (is_flat_loop ds false n mask inner) (is_mask n mask && (goes_out ds n i test body && is_edge_loop ds n mask i test body)) c.0
+    (and-true (is_mask n mask) (goes_out ds n i test body && is_edge_loop ds n mask i test body) m.0 (and-true (goes_out ds n i test body) (is_edge_loop ds n mask i test body) out w.1))
   where
     not-false : (b : Bool) → not b ≡ false → b ≡ true
     not-false true h = refl

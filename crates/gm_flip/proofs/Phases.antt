@@ -207,7 +207,7 @@ module _ (ds : List Declaration) where
   -- the faults of loops stand in order
   ordered : (s : Stmt) → Given s → loops_in_order s ≡ true → loops_in_order (flipped s) ≡ true
   ordered (Then a b) g h = let u = both-true (loops_in_order a) (loops_in_order b) h in and-true (loops_in_order (flipped a)) (loops_in_order (flipped b)) (ordered a (first-of a b g) u.0) (ordered b (second-of a b g) u.1)
-  ordered (Foreach k at hd mask body) g h = each-loop (λ s. loops_in_order s ≡ true) k at hd mask body g (λ e. h) (λ j here i test inner e p. p.order hd.place (ap (λ s. begins k hd.place mask s && loop_in_order k mask s) (sym e) ∙ h))
+  ordered (Foreach k at hd mask body) g h = each-loop (λ s. loops_in_order s ≡ true) k at hd mask body g (λ e. h) (λ j here i test inner e p. p.order hd.place (ap (λ s. begins (hd.iterator ∷ []) k hd.place mask s && loop_in_order (hd.iterator ∷ []) k mask s) (sym e) ∙ h))
   ordered (For k at hd c s) g h = let u = both-true (folds_in_order c) (loops_in_order s) h in and-true (folds_in_order c) (loops_in_order (flipped s)) u.0 (ordered s (for-of k at hd c s g) u.1)
   ordered (If k c a b) g h =
       let u = both-true (folds_in_order c) (loops_in_order a && loops_in_order b) h in

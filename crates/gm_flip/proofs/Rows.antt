@@ -284,11 +284,11 @@ declared-refused = refl
 declared-races : is_race_free (program (flipped declared)) ≡ false
 declared-races = refl
 
--- where the inner loop's key comes behind its body's, the mask would too, and no pass leaves it so
+-- where the inner loop's key comes behind its body's, the loop is not in order, and no pass leaves it so
 abbrev late_key : Stmt
 late_key = Foreach (key 1) (at 1) (nodes_of n) mask (Foreach (key 5) (at 2) (over t D.InNbrs n) always (add_to (T.Property n x (at 6)) their_a))
 
-late_key-refused : before late_key ≡ false ∷ true ∷ true ∷ false ∷ true ∷ []
+late_key-refused : before late_key ≡ true ∷ true ∷ true ∷ false ∷ true ∷ []
 late_key-refused = refl
 
 -- two picks that share a local of the inner body leave it as the last of them does, which may be another in the turned loop

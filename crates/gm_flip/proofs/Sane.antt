@@ -17,12 +17,12 @@ use Rattle.gm_forms.specs.Doing.{IsFlat}
 use Rattle.gm_forms.specs.Fission.{pushed_properties}
 use Rattle.gm_forms.specs.Flip.{flipped_head}
 use Rattle.gm_forms.specs.Forms.{depth_at, is_inner_body, avoids}
-use Rattle.gm_forms.specs.Order.{lie_before, rest_in, hoisted_in, hoists_in_order, faults_in, in_order, faults_of, body_in_order, loop_in_order, first_key, are_numbered, cannot_fail, leads, begins}
+use Rattle.gm_forms.specs.Order.{lie_before, rest_in, hoisted_in, hoists_in_order, faults_in, in_order, faults_of, body_in_order, loop_in_order, first_key, are_numbered, cannot_fail, leads, begins, fault_of}
 use Rattle.gm_forms.specs.Sharing.{Read, Sights, reads_in, told_in, sights_of, read_at, read_elsewhere, read_anywhere, written, Reduced, reduced, shared_in, kept_in, disjoint, all_agree, all_one, all_last_one_way, targets_alike, inner_shares, shares}
 use Rattle.gm_forms.proofs.CutReads.{anywhere-member, elsewhere-member}
 use Rattle.gm_forms.proofs.CutTests.{found, finds, not-true}
 use Rattle.gm_forms.proofs.Doings.{in-left, in-right, in-either}
-use Rattle.gm_forms.proofs.Leading.{numbered-both, numbered-first, numbered-second, rest-under, under-numbered, first-stands}
+use Rattle.gm_forms.proofs.Leading.{faults-same, order-same, iterators-turned, safe-rest, numbered-both, numbered-first, numbered-second, rest-under, under-numbered, first-stands}
 use Rattle.gm_forms.proofs.Named.{both-true}
 use Rattle.gm_forms.proofs.Weaker.{and-true}
 use Rattle.gm_loop_laws.specs.Alone.{stands_alone}
@@ -150,68 +150,83 @@ module _ (ds : List Declaration) (n : ℕ) (k : Key) (mask : Expr) (j : Key) (he
     pub spares : spares_locals ds body ≡ true
     pub kept : disjoint (touched body) (n ∷ (t ∷ (read_anywhere (reads_in mask) ++ told_in mask))) ≡ true
     pub out : is_in (told_in mask) t ≡ false
-    pub first : lie_before (rest_in mask j) (faults_of body) ≡ true
     pub locals : has_plain_locals ds n test body ≡ true
     pub one : all_one RN ≡ true
     pub last : adds_last (n ∷ t ∷ []) body ≡ true
 
-  pub kept-parts : is_edge_loop ds n mask j i test body ≡ true → May
+  pub kept-parts : is_edge_loop ds n mask i test body ≡ true → May
   kept-parts h =
-      let a = both-true (knows_no_locals ds n t mask test body) (mask_stays n mask j i body && (has_plain_locals ds n test body && (all_one RN && adds_last (n ∷ t ∷ []) body))) h in
-      let b = both-true (mask_stays n mask j i body) (has_plain_locals ds n test body && (all_one RN && adds_last (n ∷ t ∷ []) body)) a.1 in
+      let a = both-true (knows_no_locals ds n t mask test body) (mask_stays n mask i body && (has_plain_locals ds n test body && (all_one RN && adds_last (n ∷ t ∷ []) body))) h in
+      let b = both-true (mask_stays n mask i body) (has_plain_locals ds n test body && (all_one RN && adds_last (n ∷ t ∷ []) body)) a.1 in
       let c = both-true (has_plain_locals ds n test body) (all_one RN && adds_last (n ∷ t ∷ []) body) b.1 in
       let d = both-true (all_one RN) (adds_last (n ∷ t ∷ []) body) c.1 in
       let k = both-true (list_all (is_no_local ds (n ∷ t ∷ [])) (told_in mask ++ (told_in test ++ S.scalars))) (spares_locals ds body) a.0 in
-      let m = both-true (disjoint (touched body) (n ∷ (t ∷ (read_anywhere (reads_in mask) ++ told_in mask)))) (not (is_in (told_in mask) t) && lie_before (rest_in mask j) (faults_of body)) b.0 in
-      let o = both-true (not (is_in (told_in mask) t)) (lie_before (rest_in mask j) (faults_of body)) m.1 in
-      record { told = k.0; spares = k.1; kept = m.0; out = not-true (is_in (told_in mask) t) o.0; first = o.1; locals = c.0; one = d.0; last = d.1 }
+      let m = both-true (disjoint (touched body) (n ∷ (t ∷ (read_anywhere (reads_in mask) ++ told_in mask)))) (not (is_in (told_in mask) t)) b.0 in
+      record { told = k.0; spares = k.1; kept = m.0; out = not-true (is_in (told_in mask) t) m.1; locals = c.0; one = d.0; last = d.1 }
+
+  -- both iterators hold nodes, from either end
+  abbrev its : List ℕ
+  its = t ∷ n ∷ []
+
+  abbrev ends : List ℕ
+  ends = n ∷ t ∷ []
+
+  same-faults : faults_of its body ≡ faults_of ends body
+  same-faults = faults-same its ends (iterators-turned t n) body
+
+  same-order : body_in_order its body ≡ body_in_order ends body
+  same-order = order-same its ends (iterators-turned t n) body
 
   -- the inner loop of the other end stands in order, as the inner loop does
-  inner-turned : IsFlat mask → hoists_in_order mask ≡ true → IsFlat test → May → body_in_order inner ≡ true → body_in_order other ≡ true
-  inner-turned flat-mask o flat-test m h =
-      let b = both-true (leads j i.place body) (loop_in_order j test body) h in
-      let c = both-true (in_order test j) (body_in_order body && lie_before (faults_in test j) (faults_of body)) b.1 in
-      let d = both-true (body_in_order body) (lie_before (faults_in test j) (faults_of body)) c.1 in
+  inner-turned : IsFlat mask → cannot_fail mask ≡ true → hoists_in_order mask ≡ true → IsFlat test → body_in_order (n ∷ []) inner ≡ true → body_in_order (t ∷ []) other ≡ true
+  inner-turned flat-mask safe o flat-test h =
+      let b = both-true (leads its j i.place body) (loop_in_order its j test body) h in
+      let c = both-true (in_order test j) (body_in_order its body && lie_before (faults_in test j) (faults_of its body)) b.1 in
+      let d = both-true (body_in_order its body) (lie_before (faults_in test j) (faults_of its body)) c.1 in
       let p = both-true (hoists_in_order test) (lie_before (hoisted_in test) (rest_in test j)) c.0 in
       let q = by (is_always mask) c.0 d.1 p.0 in
-      and-true (leads j i.place body) (loop_in_order j filter body) b.0
-      (and-true (in_order filter j) (body_in_order body && lie_before (faults_in filter j) (faults_of body)) q.0 (and-true (body_in_order body) (lie_before (faults_in filter j) (faults_of body)) d.0 q.1))
+      sym (λ r. lie_before (fault_of j i.place ∷ []) (same-faults r) && (in_order filter j && (same-order r && lie_before (faults_in filter j) (same-faults r))))
+      ∙ and-true (leads its j i.place body) (loop_in_order its j filter body) b.0
+      (and-true (in_order filter j) (body_in_order its body && lie_before (faults_in filter j) (faults_of its body)) q.0 (and-true (body_in_order its body) (lie_before (faults_in filter j) (faults_of its body)) d.0 q.1))
     where
-      fine : in_order test j ≡ true → lie_before (faults_in test j) (faults_of body) ≡ true → hoists_in_order test ≡ true → (in_order (Both mask test) j ≡ true) × (lie_before (faults_in (Both mask test) j) (faults_of body) ≡ true)
+      fine : in_order test j ≡ true → lie_before (faults_in test j) (faults_of its body) ≡ true → hoists_in_order test ≡ true → (in_order (Both mask test) j ≡ true) × (lie_before (faults_in (Both mask test) j) (faults_of its body) ≡ true)
       fine f g p =
           let none-hoisted : hoisted_in (Both mask test) ≡ [] = flat-hoists (Both mask test) (flat-mask, flat-test) in
           let rests = rest_in mask j ++ rest_in test j in (
             and-true (hoists_in_order (Both mask test)) (lie_before (hoisted_in (Both mask test)) rests)
                 (and-true (hoists_in_order mask) (hoists_in_order test && lie_before (hoisted_in mask) (hoisted_in test)) o (and-true (hoists_in_order test) (lie_before (hoisted_in mask) (hoisted_in test)) p (ap (λ l. lie_before l (hoisted_in test)) (flat-hoists mask flat-mask) ∙ nothing-before (hoisted_in test))))
                 (ap (λ l. lie_before l rests) none-hoisted ∙ nothing-before rests),
-            ap (λ l. lie_before (l ++ rests) (faults_of body)) none-hoisted
-                ∙ lie-append (rest_in mask j) (rest_in test j) (faults_of body) m.first (sym (ap (λ l. lie_before (l ++ rest_in test j) (faults_of body)) (flat-hoists test flat-test)) ∙ g),
+            ap (λ l. lie_before (l ++ rests) (faults_of its body)) none-hoisted
+                ∙ (ap (λ l. lie_before (l ++ rest_in test j) (faults_of its body)) (safe-rest mask j safe)
+                ∙ (sym (ap (λ l. lie_before (l ++ rest_in test j) (faults_of its body)) (flat-hoists test flat-test)) ∙ g)),
           )
 
-      by : (b : Bool) → in_order test j ≡ true → lie_before (faults_in test j) (faults_of body) ≡ true → hoists_in_order test ≡ true → (in_order (cond b test (Both mask test)) j ≡ true) × (lie_before (faults_in (cond b test (Both mask test)) j) (faults_of body) ≡ true)
+      by : (b : Bool) → in_order test j ≡ true → lie_before (faults_in test j) (faults_of its body) ≡ true → hoists_in_order test ≡ true → (in_order (cond b test (Both mask test)) j ≡ true) × (lie_before (faults_in (cond b test (Both mask test)) j) (faults_of its body) ≡ true)
       by true f g p = (f, g)
       by false f g p = fine f g p
 
   -- what it may fault in is numbered
-  numbered-turned : IsFlat mask → IsFlat test → are_numbered (faults_of inner) ≡ true → are_numbered (faults_of other) ≡ true
+  numbered-turned : IsFlat mask → IsFlat test → are_numbered (faults_of (n ∷ []) inner) ≡ true → are_numbered (faults_of (t ∷ []) other) ≡ true
   numbered-turned flat-mask flat-test h =
-      let a = both-true (nat_lt 0 j.statement) (are_numbered (faults_in test j ++ faults_of body)) h in
-      and-true (nat_lt 0 j.statement) (are_numbered (faults_in filter j ++ faults_of body)) a.0
-      (numbered-both (faults_in filter j) (faults_of body) (by (is_always mask) a.0 (numbered-first (faults_in test j) (faults_of body) a.1)) (numbered-second (faults_in test j) (faults_of body) a.1))
+      let a = both-true (nat_lt 0 j.statement) (are_numbered (faults_in test j ++ faults_of its body)) h in
+      sym (ap (λ fs. are_numbered (fault_of j i.place ∷ (faults_in filter j ++ fs))) same-faults)
+      ∙ and-true (nat_lt 0 j.statement) (are_numbered (faults_in filter j ++ faults_of its body)) a.0
+      (numbered-both (faults_in filter j) (faults_of its body) (by (is_always mask) a.0 (numbered-first (faults_in test j) (faults_of its body) a.1)) (numbered-second (faults_in test j) (faults_of its body) a.1))
     where
       by : (b : Bool) → nat_lt 0 j.statement ≡ true → are_numbered (faults_in test j) ≡ true → are_numbered (faults_in (cond b test (Both mask test)) j) ≡ true
       by true l g = g
       by false l g = subst (λ xs. are_numbered (xs ++ (rest_in mask j ++ rest_in test j)) ≡ true) (sym (flat-hoists (Both mask test) (flat-mask, flat-test)))
           (numbered-both (rest_in mask j) (rest_in test j) (under-numbered j (rest_in mask j) l (rest-under mask j)) (under-numbered j (rest_in test j) l (rest-under test j)))
 
-  pub order-turned : IsFlat mask → IsFlat test → May → (place : Place) → begins k place mask inner && loop_in_order k mask inner ≡ true → begins first_key place always other && loop_in_order first_key always other ≡ true
-  order-turned flat-mask flat-test m place h =
-      let a = both-true (begins k place mask inner) (loop_in_order k mask inner) h in
-      let b = both-true (leads k place inner) (are_numbered (hoisted_in mask ++ faults_of inner) && (nat_lt 0 k.statement || cannot_fail mask)) a.0 in
-      let c = both-true (are_numbered (hoisted_in mask ++ faults_of inner)) (nat_lt 0 k.statement || cannot_fail mask) b.1 in
-      let d = both-true (in_order mask k) (body_in_order inner && lie_before (faults_in mask k) (faults_of inner)) a.1 in
-      let e = both-true (body_in_order inner) (lie_before (faults_in mask k) (faults_of inner)) d.1 in
-      first-stands [] false place always other refl refl (inner-turned flat-mask (both-true (hoists_in_order mask) (lie_before (hoisted_in mask) (rest_in mask k)) d.0).0 flat-test m e.0) (numbered-turned flat-mask flat-test (numbered-second (hoisted_in mask) (faults_of inner) c.0))
+  pub order-turned : IsFlat mask → cannot_fail mask ≡ true → IsFlat test → (place : Place) → begins (n ∷ []) k place mask inner && loop_in_order (n ∷ []) k mask inner ≡ true → begins (t ∷ []) first_key place always other && loop_in_order (t ∷ []) first_key always other ≡ true
+  order-turned flat-mask safe flat-test place h =
+      let out = n ∷ [] in
+      let a = both-true (begins out k place mask inner) (loop_in_order out k mask inner) h in
+      let b = both-true (leads out k place inner) (are_numbered (hoisted_in mask ++ faults_of out inner) && (nat_lt 0 k.statement || cannot_fail mask)) a.0 in
+      let c = both-true (are_numbered (hoisted_in mask ++ faults_of out inner)) (nat_lt 0 k.statement || cannot_fail mask) b.1 in
+      let d = both-true (in_order mask k) (body_in_order out inner && lie_before (faults_in mask k) (faults_of out inner)) a.1 in
+      let e = both-true (body_in_order out inner) (lie_before (faults_in mask k) (faults_of out inner)) d.1 in
+      first-stands (t ∷ []) [] false place always other refl refl (inner-turned flat-mask safe (both-true (hoists_in_order mask) (lie_before (hoisted_in mask) (rest_in mask k)) d.0).0 flat-test e.0) (numbered-turned flat-mask flat-test (numbered-second (hoisted_in mask) (faults_of out inner) c.0))
 
   -- the inner loop stands alone
   pub alone : May → shares ds n mask inner ≡ true → stands_alone ds (pushed_properties n body) n body ≡ true
@@ -344,12 +359,12 @@ module _ (ds : List Declaration) (n : ℕ) (k : Key) (mask : Expr) (j : Key) (he
           (λ p. keeps-nothing y p) (in-either y (written ds t true body) (kept_in RT) q)
 
   -- the turned inner loop is one along edges too
-  pub edge-turned : (its : List ℕ) (edge : Bool) → is_inner_body ds its edge body ≡ true → avoids t body ≡ true → May → is_edge_loop ds t always j (flipped_head n i) filter body ≡ true
+  pub edge-turned : (its : List ℕ) (edge : Bool) → is_inner_body ds its edge body ≡ true → avoids t body ≡ true → May → is_edge_loop ds t always (flipped_head n i) filter body ≡ true
   edge-turned its edge inner-body away f =
       and-true (knows_no_locals ds t n always filter body) _
       (and-true (list_all (is_no_local ds (t ∷ n ∷ [])) (told_in filter ++ (sights_of ds t true body).scalars)) (spares_locals ds body) (all-passes (told_in filter ++ (sights_of ds t true body).scalars) (λ y i. no-local y (from y i))) f.spares)
-      (and-true (mask_stays t always j (flipped_head n i) body) _
-      (and-true (disjoint (touched body) (t ∷ (n ∷ []))) (true && lie_before [] (faults_of body)) (apart-disjoint (touched body) (t ∷ (n ∷ [])) (λ y q c. ⊎_elim (λ (e : y ≡ t). ends y q (inr (inl e))) (λ o. ⊎_elim (λ (e : y ≡ n). ends y q (inl e)) (λ z. absurd z) o) c)) (nothing-before (faults_of body)))
+      (and-true (mask_stays t always (flipped_head n i) body) _
+      (and-true (disjoint (touched body) (t ∷ (n ∷ []))) true (apart-disjoint (touched body) (t ∷ (n ∷ [])) (λ y q c. ⊎_elim (λ (e : y ≡ t). ends y q (inr (inl e))) (λ o. ⊎_elim (λ (e : y ≡ n). ends y q (inl e)) (λ z. absurd z) o) c)) refl)
       (and-true (has_plain_locals ds t filter body) (all_one RT && adds_last (t ∷ n ∷ []) body) (apart-disjoint (written ds t true body) (read_anywhere (reads_in filter ++ (sights_of ds t true body).properties) ++ kept_in RT) plain-locals)
       (and-true (all_one RT) (adds_last (t ∷ n ∷ []) body) (one-like RN RT (like ds n t body) f.one) (adds-same (n ∷ t ∷ []) (t ∷ n ∷ []) swapped body ∙ f.last))))
     where
