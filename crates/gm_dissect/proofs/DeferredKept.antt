@@ -22,7 +22,7 @@ use Rattle.gm_ast.specs.Program.{Expr, Property, always, Stmt, Skip, Then, Assig
 use Rattle.gm_semantics.specs.Frames.{NamesBelow}
 use Rattle.gm_semantics.specs.Statements.{variable_or, variable_at}
 use Rattle.gm_forms.specs.Forms.{is_flat, is_outer_body, is_flat_loop}
-use Rattle.gm_forms.specs.Order.{fault_of, are_numbered, cannot_fail, lie_before, hoisted_in, faults_in, faults_of, in_order, body_in_order}
+use Rattle.gm_forms.specs.Order.{second_key, fault_of, are_numbered, cannot_fail, lie_before, hoisted_in, faults_in, faults_of, in_order, body_in_order}
 use Rattle.gm_forms.specs.Ready.{Ready2}
 use Rattle.gm_forms.specs.Sharing.{Sights, Reduced, told_in, reads_in, sights_of, written, reduced, deferred, inners_share, shares, disjoint, shared_in, kept_in, read_anywhere, read_elsewhere, all_agree, targets_alike}
 use Rattle.gm_forms.specs.Typing.{type_at, has_type, is_typed_in}
@@ -37,6 +37,7 @@ use Rattle.gm_dissect.proofs.DeferredLaws.{variable-longer}
 use Rattle.gm_dissect.proofs.DeferredLoops.{use-of, deferred-use, defers-listed}
 use Rattle.gm_dissect.proofs.Kept.{Sound, sound-then, sound-skip, phase-kept}
 use Rattle.gm_dissect.proofs.Longer.{all-suit, vtype-same, typed-same, shares-same, outer-body-same}
+use Rattle.gm_dissect.proofs.Setting.{set-stands}
 use Rattle.gm_dissect.proofs.Undeferred.{append-true, deferred-below, shared-below, Low, low-both, reads-low, sights-low, elsewhere-low, sights-undeferred, reduced-undeferred, inners-undeferred, alike-undeferred, faults-undeferred, order-undeferred, form-undeferred, typed-undeferred, named-undeferred, written-undeferred, deferred-undeferred}
 
 pub type-itself : (t : VType) → same_type t t ≡ true
@@ -133,7 +134,7 @@ module _ (ds : List Declaration) (p : ℕ) (res : Option VType) where
             named = append-true (suits dt) (uses_of_head hd) ((use_as Owner n ++ use_as NodeValue a) ++ (use_as Owner n ++ use_as NodeValue b)) r.0
                 (append-true (suits dt) (use_as Owner n ++ use_as NodeValue a) (use_as Owner n ++ use_as NodeValue b) (append-true (suits dt) (use_as Owner n) (use_as NodeValue a) o u) (append-true (suits dt) (use_as Owner n) (use_as NodeValue b) o v));
             typed = ap (λ z. same_type z (type_at dt b)) t ∙ type-itself (type_at dt b);
-            order = refl;
+            order = set-stands (n ∷ []) (n ∷ []) hd.place second_key (T.Property n a at) (Property n b at) refl (ap (λ z. z || false) (eq-eqb n n refl));
             share = ap (λ z. disjoint (a ∷ []) (cond z [] (b ∷ [])) && true) (eq-eqb n n refl);
             form = and-true (is_nodes hd.domain) (nat_eq n n && (nat_eq n n || false)) g.0 (ap (λ z. z && (z || false)) (eq-eqb n n refl));
           }
@@ -204,8 +205,8 @@ module _ (ds : List Declaration) (p : ℕ) (res : Option VType) where
             named = append-true (suits dt) (uses_of_head hd) (uses_in test ++ uses_of inside) r.0 (append-true (suits dt) (uses_in test) (uses_of inside) s.0 (named-undeferred dt n p q body copy-use s.1));
             typed = ap (λ x. has_type dt V.Flag test && x) (typed-undeferred dt n p q res body types) ∙ longer-loop.typed;
             order =
-                ap (λ x. begins_with x && (in_order test key && (body_in_order inside && lie_before (faults_in test key) x))) (faults-undeferred dt n p q body)
-                ∙ ap (λ x. begins_with (faults_of body) && (in_order test key && (x && lie_before (faults_in test key) (faults_of body)))) (order-undeferred dt n p q body)
+                ap (λ x. begins_with x && (in_order test key && (body_in_order (n ∷ []) inside && lie_before (faults_in test key) x))) (faults-undeferred dt n p q (n ∷ []) body)
+                ∙ ap (λ x. begins_with (faults_of (n ∷ []) body) && (in_order test key && (x && lie_before (faults_in test key) (faults_of (n ∷ []) body)))) (order-undeferred dt n p q (n ∷ []) body)
                 ∙ longer-loop.order;
             share = shared;
             form = ap (λ b. is_nodes hd.domain && (is_flat (n ∷ []) false test && b)) (form-undeferred dt n p q body) ∙ longer-loop.form;

@@ -5,6 +5,7 @@ pub mod DeferredLaws
 pub mod Trees
 pub mod Longer
 pub mod Undeferred
+pub mod Setting
 pub mod Kept
 pub mod DeferredKept
 pub mod AllDeferred
@@ -15,5 +16,6 @@ pub mod LocalLoops
 pub mod Moved
 pub mod MovedSights
 pub mod MovedReduced
+pub mod MovedOrder
 pub mod LocalKept
 pub mod LocalLaws

@@ -22,8 +22,8 @@ use Rattle.gm_ast.specs.Names.{sort_eq}
 use Rattle.gm_ast.specs.Program.{Expr, Const, Var, Property, EdgeProperty, Degree, NodeCount, EdgeCount, Live, Unary, Binary, Both, Either, Choose, Folded, always, Stmt, Skip, Then, Declare, Assign, Defer, Combine, Foreach, If, Program, sequence}
 use Rattle.gm_semantics.specs.Frames.{ReadsBelow, MayReadBelow, AllReadBelow, TargetBelow, TargetsBelow, NamesBelow}
 use Rattle.gm_semantics.specs.Statements.{variable_at}
+use Rattle.gm_forms.specs.Order.{second_key}
 use Rattle.gm_forms.specs.Forms.{depth_at, is_flat, is_outer_body, is_flat_loop}
-use Rattle.gm_forms.specs.Order.{loops_in_order}
 use Rattle.gm_forms.specs.Sharing.{Read, Sights, Reduced, with_reads, told_in, reads_in, sights_in, sights_in_option, sights_in_all, sights_of, sights_of_target, sights_at_target, sights_by, are_at_once, written, reduced, deferred, inner_shares, inners_share, shares, disjoint, shared_in, kept_in, read_at, read_anywhere, read_elsewhere, all_agree, all_last_one_way, targets_alike}
 use Rattle.gm_forms.specs.Typing.{type_at, has_type, is_typed_in}
 use Rattle.gm_forms.specs.Uses.{Iterates, Owner, NodeValue, Declared, Told, Use, has_role, use_as, owner_role, suits, uses_in, uses_of_head, uses_of}
@@ -41,8 +41,10 @@ use Rattle.gm_dissect.proofs.Kept.{Sound, sound-then, sound-skip}
 use Rattle.gm_dissect.proofs.LocalLoops.{IsLocal, declared-local, Keeps, keeps-known}
 use Rattle.gm_dissect.proofs.Longer.{all-suit, vtype-same, typed-same, shares-same, outer-body-same}
 use Rattle.gm_dissect.proofs.Moved.{named-in, named-moved, has-type-moved, typed-moved, flat-moved, outer-moved}
+use Rattle.gm_dissect.proofs.MovedOrder.{loop-moved}
 use Rattle.gm_dissect.proofs.MovedReduced.{rx, renamed, in-renamed, agree-renamed, last-renamed, shared-renamed, kept-renamed, LowAll, reduced-low, shared-low, kept-low, reduced-moved, not-shared, reduced-declared}
 use Rattle.gm_dissect.proofs.MovedSights.{Seen, seen-both, seen-in, seen-moved, written-moved, deferred-moved, alike-moved}
+use Rattle.gm_dissect.proofs.Setting.{set-stands}
 use Rattle.gm_dissect.proofs.Undeferred.{append-true, deferred-below, Low, low-both, reads-low, sights-low, elsewhere-low}
 
 -- scalars that are read are below
@@ -308,7 +310,7 @@ module _ (ds : List Declaration) (x : ℕ) (res : Option VType) where
       form = ap (λ b. is_nodes hd.domain && (is_flat (n ∷ []) false test && b)) (outer-body-same ds dt same more n body below.3) ∙ sound.form;
     }
 
-    module _ (keeps : Keeps ds x n test body) (ordered : loops_in_order (Foreach key at hd (moved_in x q n at (zero_of t) test) (moved x q n at (zero_of t) body)) ≡ true) where
+    module _ (keeps : Keeps ds x n test body) where
       is : IsLocal ds n x
       is =
           let f = both-true (is_nodes hd.domain) (is_flat_loop ds false n test body) sound.form in
@@ -360,7 +362,7 @@ module _ (ds : List Declaration) (x : ℕ) (res : Option VType) where
         named = append-true (suits dt) (uses_of_head hd) ((use_as Owner n ++ use_as NodeValue q) ++ use_as Told x) head-named
             (append-true (suits dt) (use_as Owner n ++ use_as NodeValue q) (use_as Told x) (append-true (suits dt) (use_as Owner n) (use_as NodeValue q) owner-use property-use) told-use);
         typed = ap (λ z. same_type z (type_at dt x)) types ∙ type-itself (type_at dt x);
-        order = refl;
+        order = set-stands (n ∷ []) (n ∷ []) hd.place second_key (T.Property n q at) (Var x at) refl refl;
         share = refl;
         form = and-true (is_nodes hd.domain) (nat_eq n n && true) form.0 (ap (λ z. z && true) (eq-eqb n n refl));
       }
@@ -375,7 +377,7 @@ module _ (ds : List Declaration) (x : ℕ) (res : Option VType) where
             named = append-true (suits dt) (uses_of_head hd) (uses_in asked ++ uses_of inside) head-named
                 (append-true (suits dt) (uses_in asked) (uses_of inside) (named-in dt x q n at t owner-use property-use test body-named.0) (named-moved dt x q n at t owner-use property-use body body-named.1));
             typed = and-true (has_type dt V.Flag asked) (is_typed_in dt res inside) (has-type-moved dt x q n at t types typed V.Flag test ∙ w.0) (typed-moved dt x q n at t types typed res body ∙ w.1);
-            order = ordered;
+            order = loop-moved x q n at t (n ∷ []) (ap (λ b. b || false) (eq-eqb n n refl)) key hd.place test body ∙ longer-loop.order;
             share = shares-moved dt x q (length ds) n at t (omega arith) below.0 iterator.1 deep plain test body below.2 below.3 body-named.1 keeps.moves longer-loop.share;
             form =
                 and-true (is_nodes hd.domain) (is_flat (n ∷ []) false asked && is_outer_body dt false n inside) form.0
@@ -388,10 +390,9 @@ module _ (ds : List Declaration) (x : ℕ) (res : Option VType) where
           (sound-then dt res (Foreach key at hd (moved_in x q n at (zero_of t) test) (moved x q n at (zero_of t) body)) Skip second-sound (sound-skip dt res))
 
   pub local-sound : (key : Key) (at : Place) (hd : Head) (test : Expr) (body : Stmt) → Sound ds res (Foreach key at hd test body) → Sound dt res (local_loop ds x q key at hd test body)
-  local-sound key at hd test body sound = by (keeps_local ds x hd.iterator test body) (loops_in_order (Foreach key at hd (moved_in x q hd.iterator at (zero_of t) test) (moved x q hd.iterator at (zero_of t) body))) refl refl
+  local-sound key at hd test body sound = by (keeps_local ds x hd.iterator test body) refl
     where
-      by : (b c : Bool) → keeps_local ds x hd.iterator test body ≡ b → loops_in_order (Foreach key at hd (moved_in x q hd.iterator at (zero_of t) test) (moved x q hd.iterator at (zero_of t) body)) ≡ c →
-          Sound dt res (cond (b && c) (sequence (set_to q x at hd ∷ Foreach key at hd (moved_in x q hd.iterator at (zero_of t) test) (moved x q hd.iterator at (zero_of t) body) ∷ [])) (Foreach key at hd test body))
-      by true true e f = both-sound key at hd test body sound (keeps-known ds x hd.iterator test body e) f
-      by true false e f = longer-loop key at hd test body sound
-      by false c e f = longer-loop key at hd test body sound
+      by : (b : Bool) → keeps_local ds x hd.iterator test body ≡ b →
+          Sound dt res (cond b (sequence (set_to q x at hd ∷ Foreach key at hd (moved_in x q hd.iterator at (zero_of t) test) (moved x q hd.iterator at (zero_of t) body) ∷ [])) (Foreach key at hd test body))
+      by true e = both-sound key at hd test body sound (keeps-known ds x hd.iterator test body e)
+      by false e = longer-loop key at hd test body sound

@@ -55,17 +55,17 @@ ready-kept x p r =
 
 -- one local after another
 abbrev step : ℕ → Program → Program
-step x p = cond (some_keeps p.declarations x (length p.declarations) p.body) (with_kept_local x p) p
+step x p = cond (some_keeps p.declarations x p.body) (with_kept_local x p) p
 
 step-same : (x : ℕ) (p : Program) → Ready2 p → SameMeaning p (step x p)
-step-same x p r = by (some_keeps p.declarations x (length p.declarations) p.body)
+step-same x p r = by (some_keeps p.declarations x p.body)
   where
     by : (b : Bool) → SameMeaning p (cond b (with_kept_local x p) p)
     by true = same-kept x p r
     by false = same-refl p
 
 step-ready : (x : ℕ) (p : Program) → Ready2 p → Ready2 (step x p)
-step-ready x p r = by (some_keeps p.declarations x (length p.declarations) p.body)
+step-ready x p r = by (some_keeps p.declarations x p.body)
   where
     by : (b : Bool) → Ready2 (cond b (with_kept_local x p) p)
     by true = ready-kept x p r

@@ -24,7 +24,7 @@ use Rattle.gm_semantics.specs.Statements.{Run, State, variable_at, loop_of, sequ
 use Rattle.gm_semantics.specs.Frames.{TargetsBelow, NamesBelow, AlikeStates, AlikeCourses}
 use Rattle.gm_semantics.proofs.StatementFrames.{sequential-alike}
 use Rattle.gm_forms.specs.Forms.{depth_at, is_flat, is_outer_body}
-use Rattle.gm_forms.specs.Order.{first_key, second_key, loops_in_order}
+use Rattle.gm_forms.specs.Order.{first_key, second_key}
 use Rattle.gm_forms.specs.Uses.{Iterates, Written, Declared, use_as, has_role, owner_role, suits, uses_in, uses_of_head, uses_of}
 use Rattle.gm_forms.proofs.Named.{both-true, all-append, names-below}
 use Rattle.gm_loop_laws.specs.Localised.{moved_in, moved, names_plainly, may_move}
@@ -166,11 +166,10 @@ module _ (ds : List Declaration) (run : Run) (same : (x : ℕ) → x < length ds
 
   -- the loops that keep the local are written so
   pub local-alike : Rewrites ds run (local_loop ds x fresh)
-  local-alike key at h test body known u v alike = by (keeps_local ds x h.iterator test body) (loops_in_order (Foreach key at h (moved_in x fresh h.iterator at zero test) (moved x fresh h.iterator at zero body))) refl
+  local-alike key at h test body known u v alike = by (keeps_local ds x h.iterator test body) refl
     where
-      by : (b c : Bool) → keeps_local ds x h.iterator test body ≡ b →
+      by : (b : Bool) → keeps_local ds x h.iterator test body ≡ b →
           AlikeCourses fresh (sequential (Foreach key at h test body) run u)
-          (sequential (cond (b && c) (sequence (set_to fresh x at h ∷ Foreach key at h (moved_in x fresh h.iterator at zero test) (moved x fresh h.iterator at zero body) ∷ [])) (Foreach key at h test body)) run v)
-      by true true e = kept-alike key at h test body known (keeps-known ds x h.iterator test body e) u v alike
-      by true false e = sequential-alike fresh (Foreach key at h test body) run u v (names-below ds (Foreach key at h test body) known.named) alike
-      by false c e = sequential-alike fresh (Foreach key at h test body) run u v (names-below ds (Foreach key at h test body) known.named) alike
+          (sequential (cond b (sequence (set_to fresh x at h ∷ Foreach key at h (moved_in x fresh h.iterator at zero test) (moved x fresh h.iterator at zero body) ∷ [])) (Foreach key at h test body)) run v)
+      by true e = kept-alike key at h test body known (keeps-known ds x h.iterator test body e) u v alike
+      by false e = sequential-alike fresh (Foreach key at h test body) run u v (names-below ds (Foreach key at h test body) known.named) alike

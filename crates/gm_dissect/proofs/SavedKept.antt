@@ -52,69 +52,69 @@ module _ (ds dt : List Declaration) (same : (x : ℕ) → x < length ds → vari
   sv s = with_saved local at s
 
   -- an If, where its branches are told
-  faults-if : (k : Key) (c : Expr) (a b : Stmt) → faults_of (sv a) ≡ faults_of a → faults_of (sv b) ≡ faults_of b → faults_of (sv (If k c a b)) ≡ faults_of (If k c a b)
-  faults-if k c a b f g = by (local k)
+  faults-if : (its : List ℕ) (k : Key) (c : Expr) (a b : Stmt) → faults_of its (sv a) ≡ faults_of its a → faults_of its (sv b) ≡ faults_of its b → faults_of its (sv (If k c a b)) ≡ faults_of its (If k c a b)
+  faults-if its k c a b f g = by (local k)
     where
-      inside : faults_in c k ++ (faults_of (sv a) ++ faults_of (sv b)) ≡ faults_in c k ++ (faults_of a ++ faults_of b)
-      inside = ap (λ x. faults_in c k ++ x) (two-same (λ x y. x ++ y) (faults_of (sv a)) (faults_of (sv b)) (faults_of a) (faults_of b) f g)
+      inside : faults_in c k ++ (faults_of its (sv a) ++ faults_of its (sv b)) ≡ faults_in c k ++ (faults_of its a ++ faults_of its b)
+      inside = ap (λ x. faults_in c k ++ x) (two-same (λ x y. x ++ y) (faults_of its (sv a)) (faults_of its (sv b)) (faults_of its a) (faults_of its b) f g)
 
-      by : (o : Option ℕ) → faults_of (saved_first o at k c (sv a) (sv b)) ≡ faults_of (If k c a b)
+      by : (o : Option ℕ) → faults_of its (saved_first o at k c (sv a) (sv b)) ≡ faults_of its (If k c a b)
       by None = inside
-      by (Some y) = ap (λ x. faults_in c k ++ x) (append-nil (faults_of (sv a) ++ faults_of (sv b))) ∙ inside
+      by (Some y) = ap (λ x. faults_in c k ++ x) (append-nil (faults_of its (sv a) ++ faults_of its (sv b))) ∙ inside
 
-  faults-saved : (s : Stmt) → faults_of (sv s) ≡ faults_of s
-  faults-saved (Then a b) = two-same (λ x y. x ++ y) (faults_of (sv a)) (faults_of (sv b)) (faults_of a) (faults_of b) (faults-saved a) (faults-saved b)
-  faults-saved (If k c a b) = faults-if k c a b (faults-saved a) (faults-saved b)
-  faults-saved s = refl
+  faults-saved : (its : List ℕ) (s : Stmt) → faults_of its (sv s) ≡ faults_of its s
+  faults-saved its (Then a b) = two-same (λ x y. x ++ y) (faults_of its (sv a)) (faults_of its (sv b)) (faults_of its a) (faults_of its b) (faults-saved its a) (faults-saved its b)
+  faults-saved its (If k c a b) = faults-if its k c a b (faults-saved its a) (faults-saved its b)
+  faults-saved its s = refl
 
-  lie-saved : (a b : Stmt) → lie_before (faults_of a) (faults_of b) ≡ true → lie_before (faults_of (sv a)) (faults_of (sv b)) ≡ true
-  lie-saved a b h = ap (λ x. lie_before x (faults_of (sv b))) (faults-saved a) ∙ ap (lie_before (faults_of a)) (faults-saved b) ∙ h
+  lie-saved : (its : List ℕ) (a b : Stmt) → lie_before (faults_of its a) (faults_of its b) ≡ true → lie_before (faults_of its (sv a)) (faults_of its (sv b)) ≡ true
+  lie-saved its a b h = ap (λ x. lie_before x (faults_of its (sv b))) (faults-saved its a) ∙ ap (lie_before (faults_of its a)) (faults-saved its b) ∙ h
 
-  order-if : (k : Key) (c : Expr) (a b : Stmt) → (body_in_order a ≡ true → body_in_order (sv a) ≡ true) → (body_in_order b ≡ true → body_in_order (sv b) ≡ true) → body_in_order (If k c a b) ≡ true → body_in_order (sv (If k c a b)) ≡ true
-  order-if k c a b f g h = by (local k)
+  order-if : (its : List ℕ) (k : Key) (c : Expr) (a b : Stmt) → (body_in_order its a ≡ true → body_in_order its (sv a) ≡ true) → (body_in_order its b ≡ true → body_in_order its (sv b) ≡ true) → body_in_order its (If k c a b) ≡ true → body_in_order its (sv (If k c a b)) ≡ true
+  order-if its k c a b f g h = by (local k)
     where
       fs : List Fault
-      fs = faults_of (sv a) ++ faults_of (sv b)
+      fs = faults_of its (sv a) ++ faults_of its (sv b)
 
       rest : Bool
-      rest = body_in_order (sv b) && (lie_before (faults_in c k) fs && lie_before (faults_of (sv a)) (faults_of (sv b)))
+      rest = body_in_order its (sv b) && (lie_before (faults_in c k) fs && lie_before (faults_of its (sv a)) (faults_of its (sv b)))
 
-      parts : (in_order c k ≡ true) × ((body_in_order a ≡ true) × ((body_in_order b ≡ true) × ((lie_before (faults_in c k) (faults_of a ++ faults_of b) ≡ true) × (lie_before (faults_of a) (faults_of b) ≡ true))))
+      parts : (in_order c k ≡ true) × ((body_in_order its a ≡ true) × ((body_in_order its b ≡ true) × ((lie_before (faults_in c k) (faults_of its a ++ faults_of its b) ≡ true) × (lie_before (faults_of its a) (faults_of its b) ≡ true))))
       parts =
-          let l = lie_before (faults_in c k) (faults_of a ++ faults_of b) in
-          let m = lie_before (faults_of a) (faults_of b) in
-          let r = both-true (in_order c k) (body_in_order a && (body_in_order b && (l && m))) h in
-          let q = both-true (body_in_order a) (body_in_order b && (l && m)) r.1 in
-          let p = both-true (body_in_order b) (l && m) q.1 in
+          let l = lie_before (faults_in c k) (faults_of its a ++ faults_of its b) in
+          let m = lie_before (faults_of its a) (faults_of its b) in
+          let r = both-true (in_order c k) (body_in_order its a && (body_in_order its b && (l && m))) h in
+          let q = both-true (body_in_order its a) (body_in_order its b && (l && m)) r.1 in
+          let p = both-true (body_in_order its b) (l && m) q.1 in
           let o = both-true l m p.1 in
           (r.0, (q.0, (p.0, (o.0, o.1))))
 
       asks : lie_before (faults_in c k) fs ≡ true
-      asks = ap (lie_before (faults_in c k)) (two-same (λ x y. x ++ y) (faults_of (sv a)) (faults_of (sv b)) (faults_of a) (faults_of b) (faults-saved a) (faults-saved b)) ∙ parts.1.1.1.0
+      asks = ap (lie_before (faults_in c k)) (two-same (λ x y. x ++ y) (faults_of its (sv a)) (faults_of its (sv b)) (faults_of its a) (faults_of its b) (faults-saved its a) (faults-saved its b)) ∙ parts.1.1.1.0
 
-      turns : lie_before (faults_of (sv a)) (faults_of (sv b)) ≡ true
-      turns = lie-saved a b parts.1.1.1.1
+      turns : lie_before (faults_of its (sv a)) (faults_of its (sv b)) ≡ true
+      turns = lie-saved its a b parts.1.1.1.1
 
-      branches : (l : Bool) → l ≡ true → body_in_order (sv a) && (body_in_order (sv b) && (l && lie_before (faults_of (sv a)) (faults_of (sv b)))) ≡ true
+      branches : (l : Bool) → l ≡ true → body_in_order its (sv a) && (body_in_order its (sv b) && (l && lie_before (faults_of its (sv a)) (faults_of its (sv b)))) ≡ true
       branches l e =
-          and-true (body_in_order (sv a)) (body_in_order (sv b) && (l && lie_before (faults_of (sv a)) (faults_of (sv b)))) (f parts.1.0)
-          (and-true (body_in_order (sv b)) (l && lie_before (faults_of (sv a)) (faults_of (sv b))) (g parts.1.1.0) (and-true l (lie_before (faults_of (sv a)) (faults_of (sv b))) e turns))
+          and-true (body_in_order its (sv a)) (body_in_order its (sv b) && (l && lie_before (faults_of its (sv a)) (faults_of its (sv b)))) (f parts.1.0)
+          (and-true (body_in_order its (sv b)) (l && lie_before (faults_of its (sv a)) (faults_of its (sv b))) (g parts.1.1.0) (and-true l (lie_before (faults_of its (sv a)) (faults_of its (sv b))) e turns))
 
-      by : (o : Option ℕ) → body_in_order (saved_first o at k c (sv a) (sv b)) ≡ true
-      by None = and-true (in_order c k) (body_in_order (sv a) && rest) parts.0 (branches (lie_before (faults_in c k) fs) asks)
+      by : (o : Option ℕ) → body_in_order its (saved_first o at k c (sv a) (sv b)) ≡ true
+      by None = and-true (in_order c k) (body_in_order its (sv a) && rest) parts.0 (branches (lie_before (faults_in c k) fs) asks)
       by (Some y) =
-          and-true (in_order c k) ((body_in_order (If k (Var y at) (sv a) (sv b)) && true) && lie_before (faults_in c k) (fs ++ [])) parts.0
-          (and-true (body_in_order (If k (Var y at) (sv a) (sv b)) && true) (lie_before (faults_in c k) (fs ++ []))
-          (and-true (body_in_order (If k (Var y at) (sv a) (sv b))) true (branches (lie_before [] fs) (nothing-before fs)) refl) (ap (lie_before (faults_in c k)) (append-nil fs) ∙ asks))
+          and-true (in_order c k) ((body_in_order its (If k (Var y at) (sv a) (sv b)) && true) && lie_before (faults_in c k) (fs ++ [])) parts.0
+          (and-true (body_in_order its (If k (Var y at) (sv a) (sv b)) && true) (lie_before (faults_in c k) (fs ++ []))
+          (and-true (body_in_order its (If k (Var y at) (sv a) (sv b))) true (branches (lie_before [] fs) (nothing-before fs)) refl) (ap (lie_before (faults_in c k)) (append-nil fs) ∙ asks))
 
-  order-saved : (s : Stmt) → body_in_order s ≡ true → body_in_order (sv s) ≡ true
-  order-saved (Then a b) h =
-      let r = both-true (body_in_order a) (body_in_order b && lie_before (faults_of a) (faults_of b)) h in
-      let q = both-true (body_in_order b) (lie_before (faults_of a) (faults_of b)) r.1 in
-      and-true (body_in_order (sv a)) (body_in_order (sv b) && lie_before (faults_of (sv a)) (faults_of (sv b))) (order-saved a r.0)
-      (and-true (body_in_order (sv b)) (lie_before (faults_of (sv a)) (faults_of (sv b))) (order-saved b q.0) (lie-saved a b q.1))
-  order-saved (If k c a b) h = order-if k c a b (order-saved a) (order-saved b) h
-  order-saved s h = h
+  order-saved : (its : List ℕ) (s : Stmt) → body_in_order its s ≡ true → body_in_order its (sv s) ≡ true
+  order-saved its (Then a b) h =
+      let r = both-true (body_in_order its a) (body_in_order its b && lie_before (faults_of its a) (faults_of its b)) h in
+      let q = both-true (body_in_order its b) (lie_before (faults_of its a) (faults_of its b)) r.1 in
+      and-true (body_in_order its (sv a)) (body_in_order its (sv b) && lie_before (faults_of its (sv a)) (faults_of its (sv b))) (order-saved its a r.0)
+      (and-true (body_in_order its (sv b)) (lie_before (faults_of its (sv a)) (faults_of its (sv b))) (order-saved its b q.0) (lie-saved its a b q.1))
+  order-saved its (If k c a b) h = order-if its k c a b (order-saved its a) (order-saved its b) h
+  order-saved its s h = h
 
   -- the local of a condition
   flag-use : (k : Key) (y : ℕ) (role : Role) → local k ≡ Some y → has_role flag_local.variable role ≡ true → list_all (suits dt) (use_as role y) ≡ true
@@ -390,18 +390,18 @@ module _ (ds dt : List Declaration) (same : (x : ℕ) → x < length ds → vari
         let s = all-append (suits dt) (uses_in test) (uses_of body) r.1 in
         let form = both-true (is_nodes hd.domain) (is_flat_loop ds false n test body) sound.form in
         let flat = both-true (is_flat (n ∷ []) false test) (is_outer_body ds false n body) form.1 in
-        let lies = lie_before (faults_in test key) (faults_of body) in
-        let w = both-true (begins key hd.place test body) (in_order test key && (body_in_order body && lies)) sound.order in
-        let o = both-true (in_order test key) (body_in_order body && lies) w.1 in
-        let p = both-true (body_in_order body) lies o.1 in
+        let lies = lie_before (faults_in test key) (faults_of (n ∷ []) body) in
+        let w = both-true (begins (n ∷ []) key hd.place test body) (in_order test key && (body_in_order (n ∷ []) body && lies)) sound.order in
+        let o = both-true (in_order test key) (body_in_order (n ∷ []) body && lies) w.1 in
+        let p = both-true (body_in_order (n ∷ []) body) lies o.1 in
         record {
           named = append-true (suits dt) (uses_of_head hd) (uses_in test ++ uses_of inside) r.0 (append-true (suits dt) (uses_in test) (uses_of inside) s.0 (named-saved body s.1));
           typed = ap (λ x. has_type dt V.Flag test && x) (typed-saved res body) ∙ (typed-same ds dt same more res (Foreach key here hd test body) below ∙ sound.typed);
           order =
-              and-true (begins key hd.place test inside) (in_order test key && (body_in_order inside && lie_before (faults_in test key) (faults_of inside)))
-              (ap (λ fs. lie_before (fault_of key hd.place ∷ []) fs && (are_numbered (hoisted_in test ++ fs) && (nat_lt 0 key.statement || cannot_fail test))) (faults-saved body) ∙ w.0)
-              (and-true (in_order test key) (body_in_order inside && lie_before (faults_in test key) (faults_of inside)) o.0
-              (and-true (body_in_order inside) (lie_before (faults_in test key) (faults_of inside)) (order-saved body p.0) (ap (lie_before (faults_in test key)) (faults-saved body) ∙ p.1)));
+              and-true (begins (n ∷ []) key hd.place test inside) (in_order test key && (body_in_order (n ∷ []) inside && lie_before (faults_in test key) (faults_of (n ∷ []) inside)))
+              (ap (λ fs. lie_before (fault_of key hd.place ∷ []) fs && (are_numbered (hoisted_in test ++ fs) && (nat_lt 0 key.statement || cannot_fail test))) (faults-saved (n ∷ []) body) ∙ w.0)
+              (and-true (in_order test key) (body_in_order (n ∷ []) inside && lie_before (faults_in test key) (faults_of (n ∷ []) inside)) o.0
+              (and-true (body_in_order (n ∷ []) inside) (lie_before (faults_in test key) (faults_of (n ∷ []) inside)) (order-saved (n ∷ []) body p.0) (ap (lie_before (faults_in test key)) (faults-saved (n ∷ []) body) ∙ p.1)));
           share = shared;
           form =
               and-true (is_nodes hd.domain) (is_flat (n ∷ []) false test && is_outer_body dt false n inside) form.0

@@ -186,37 +186,37 @@ module _ (dt : List Declaration) (n p q : ℕ) where
   alike-undeferred (If k c a b) = two-same (λ x y. x && y) (targets_alike (undeferred p q a)) (targets_alike (undeferred p q b)) (targets_alike a) (targets_alike b) (alike-undeferred a) (alike-undeferred b)
   alike-undeferred s = refl
 
-  pub faults-undeferred : (s : Stmt) → faults_of (undeferred p q s) ≡ faults_of s
-  faults-undeferred (Then a b) = two-same (λ x y. x ++ y) (faults_of (undeferred p q a)) (faults_of (undeferred p q b)) (faults_of a) (faults_of b) (faults-undeferred a) (faults-undeferred b)
-  faults-undeferred (Defer k (T.Scalar y at) e) = refl
-  faults-undeferred (Defer k (T.Property y r at) e) = by (nat_eq r p)
+  pub faults-undeferred : (its : List ℕ) (s : Stmt) → faults_of its (undeferred p q s) ≡ faults_of its s
+  faults-undeferred its (Then a b) = two-same (λ x y. x ++ y) (faults_of its (undeferred p q a)) (faults_of its (undeferred p q b)) (faults_of its a) (faults_of its b) (faults-undeferred its a) (faults-undeferred its b)
+  faults-undeferred its (Defer k (T.Scalar y at) e) = refl
+  faults-undeferred its (Defer k (T.Property y r at) e) = by (nat_eq r p)
     where
-      by : (b : Bool) → faults_of (cond b (Assign k (T.Property y q at) e) (Defer k (T.Property y r at) e)) ≡ faults_of (Defer k (T.Property y r at) e)
+      by : (b : Bool) → faults_of its (cond b (Assign k (T.Property y q at) e) (Defer k (T.Property y r at) e)) ≡ faults_of its (Defer k (T.Property y r at) e)
       by true = refl
       by false = refl
-  faults-undeferred (If k c a b) =
-      ap (λ x. faults_in c k ++ x) (two-same (λ x y. x ++ y) (faults_of (undeferred p q a)) (faults_of (undeferred p q b)) (faults_of a) (faults_of b) (faults-undeferred a) (faults-undeferred b))
-  faults-undeferred s = refl
+  faults-undeferred its (If k c a b) =
+      ap (λ x. faults_in c k ++ x) (two-same (λ x y. x ++ y) (faults_of its (undeferred p q a)) (faults_of its (undeferred p q b)) (faults_of its a) (faults_of its b) (faults-undeferred its a) (faults-undeferred its b))
+  faults-undeferred its s = refl
 
-  pub order-undeferred : (s : Stmt) → body_in_order (undeferred p q s) ≡ body_in_order s
-  order-undeferred (Then a b) =
-      two-same (λ x y. x && y) (body_in_order (undeferred p q a)) (body_in_order (undeferred p q b) && lie_before (faults_of (undeferred p q a)) (faults_of (undeferred p q b))) (body_in_order a) (body_in_order b && lie_before (faults_of a) (faults_of b)) (order-undeferred a)
-      (two-same (λ x y. x && y) (body_in_order (undeferred p q b)) (lie_before (faults_of (undeferred p q a)) (faults_of (undeferred p q b))) (body_in_order b) (lie_before (faults_of a) (faults_of b)) (order-undeferred b)
-      (ap (λ x. lie_before x (faults_of (undeferred p q b))) (faults-undeferred a) ∙ ap (lie_before (faults_of a)) (faults-undeferred b)))
-  order-undeferred (Defer k (T.Scalar y at) e) = refl
-  order-undeferred (Defer k (T.Property y r at) e) = by (nat_eq r p)
+  pub order-undeferred : (its : List ℕ) (s : Stmt) → body_in_order its (undeferred p q s) ≡ body_in_order its s
+  order-undeferred its (Then a b) =
+      two-same (λ x y. x && y) (body_in_order its (undeferred p q a)) (body_in_order its (undeferred p q b) && lie_before (faults_of its (undeferred p q a)) (faults_of its (undeferred p q b))) (body_in_order its a) (body_in_order its b && lie_before (faults_of its a) (faults_of its b)) (order-undeferred its a)
+      (two-same (λ x y. x && y) (body_in_order its (undeferred p q b)) (lie_before (faults_of its (undeferred p q a)) (faults_of its (undeferred p q b))) (body_in_order its b) (lie_before (faults_of its a) (faults_of its b)) (order-undeferred its b)
+      (ap (λ x. lie_before x (faults_of its (undeferred p q b))) (faults-undeferred its a) ∙ ap (lie_before (faults_of its a)) (faults-undeferred its b)))
+  order-undeferred its (Defer k (T.Scalar y at) e) = refl
+  order-undeferred its (Defer k (T.Property y r at) e) = by (nat_eq r p)
     where
-      by : (b : Bool) → body_in_order (cond b (Assign k (T.Property y q at) e) (Defer k (T.Property y r at) e)) ≡ body_in_order (Defer k (T.Property y r at) e)
+      by : (b : Bool) → body_in_order its (cond b (Assign k (T.Property y q at) e) (Defer k (T.Property y r at) e)) ≡ body_in_order its (Defer k (T.Property y r at) e)
       by true = refl
       by false = refl
-  order-undeferred (If k c a b) =
+  order-undeferred its (If k c a b) =
       let a' = undeferred p q a in
       let b' = undeferred p q b in
-      ap (λ x. in_order c k && (x && (body_in_order b' && (lie_before (faults_in c k) (faults_of a' ++ faults_of b') && lie_before (faults_of a') (faults_of b'))))) (order-undeferred a)
-      ∙ ap (λ x. in_order c k && (body_in_order a && (x && (lie_before (faults_in c k) (faults_of a' ++ faults_of b') && lie_before (faults_of a') (faults_of b'))))) (order-undeferred b)
-      ∙ ap (λ x. in_order c k && (body_in_order a && (body_in_order b && (lie_before (faults_in c k) (x ++ faults_of b') && lie_before x (faults_of b'))))) (faults-undeferred a)
-      ∙ ap (λ x. in_order c k && (body_in_order a && (body_in_order b && (lie_before (faults_in c k) (faults_of a ++ x) && lie_before (faults_of a) x)))) (faults-undeferred b)
-  order-undeferred s = refl
+      ap (λ x. in_order c k && (x && (body_in_order its b' && (lie_before (faults_in c k) (faults_of its a' ++ faults_of its b') && lie_before (faults_of its a') (faults_of its b'))))) (order-undeferred its a)
+      ∙ ap (λ x. in_order c k && (body_in_order its a && (x && (lie_before (faults_in c k) (faults_of its a' ++ faults_of its b') && lie_before (faults_of its a') (faults_of its b'))))) (order-undeferred its b)
+      ∙ ap (λ x. in_order c k && (body_in_order its a && (body_in_order its b && (lie_before (faults_in c k) (x ++ faults_of its b') && lie_before x (faults_of its b'))))) (faults-undeferred its a)
+      ∙ ap (λ x. in_order c k && (body_in_order its a && (body_in_order its b && (lie_before (faults_in c k) (faults_of its a ++ x) && lie_before (faults_of its a) x)))) (faults-undeferred its b)
+  order-undeferred its s = refl
 
   pub form-undeferred : (s : Stmt) → is_outer_body dt false n (undeferred p q s) ≡ is_outer_body dt false n s
   form-undeferred (Then a b) = two-same (λ x y. x && y) (is_outer_body dt false n (undeferred p q a)) (is_outer_body dt false n (undeferred p q b)) (is_outer_body dt false n a) (is_outer_body dt false n b) (form-undeferred a) (form-undeferred b)

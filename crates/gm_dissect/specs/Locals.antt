@@ -10,7 +10,7 @@ use Rattle.gm_ast.specs.declared.tree.Target.TheVariants as T
 use Rattle.gm_ast.specs.Names.{sort_eq}
 use Rattle.gm_ast.specs.Program.{Expr, Var, always, Stmt, Then, Declare, Assign, Foreach, For, If, While, Do, Program, sequence}
 use Rattle.gm_semantics.specs.Statements.{variable_at}
-use Rattle.gm_forms.specs.Order.{first_key, second_key, loops_in_order}
+use Rattle.gm_forms.specs.Order.{first_key, second_key}
 use Rattle.gm_loop_laws.specs.Localised.{moved_in, moved, names_plainly, may_move}
 use Rattle.gm_dissect.specs.Conditions.{holds_cut}
 use Rattle.gm_dissect.specs.Deferred.{copy_of}
@@ -31,19 +31,12 @@ keeps_local ds x n test body = sort_eq Scalar (variable_at ds x).sort && (declar
 abbrev pub set_to : ℕ → ℕ → Place → Head → Stmt
 set_to q x at h = Foreach first_key at h always (Assign second_key (T.Property h.iterator q at) (Var x at))
 
--- whether a loop keeps a local x in a property q: it may, and its faults then stand in the order of its text
-abbrev pub keeps_in : List Declaration → ℕ → ℕ → Key → Place → Head → Expr → Stmt → Bool
-keeps_in ds x q k at h test body =
-    let n = h.iterator in
-    let zero = zero_of (variable_at ds x).vtype in
-    keeps_local ds x n test body && loops_in_order (Foreach k at h (moved_in x q n at zero test) (moved x q n at zero body))
-
--- a loop that keeps it sets the property to it first
+-- a loop that keeps a local x in a property q sets the property to it first
 abbrev pub local_loop : List Declaration → ℕ → ℕ → Key → Place → Head → Expr → Stmt → Stmt
 local_loop ds x q k at h test body =
     let n = h.iterator in
     let zero = zero_of (variable_at ds x).vtype in
-    if keeps_in ds x q k at h test body
+    if keeps_local ds x n test body
     then sequence (set_to q x at h ∷ Foreach k at h (moved_in x q n at zero test) (moved x q n at zero body) ∷ [])
     else Foreach k at h test body
 
@@ -55,14 +48,14 @@ with_kept_local x program = record program {
 }
 
 -- whether a loop of a sequential phase keeps a local
-abbrev pub some_keeps : List Declaration → ℕ → ℕ → Stmt → Bool
-some_keeps ds x q (Then a b) = some_keeps ds x q a || some_keeps ds x q b
-some_keeps ds x q (Foreach k at h test body) = keeps_in ds x q k at h test body
-some_keeps ds x q (For k at h test body) = some_keeps ds x q body
-some_keeps ds x q (If k c a b) = some_keeps ds x q a || some_keeps ds x q b
-some_keeps ds x q (While k at c body) = some_keeps ds x q body
-some_keeps ds x q (Do k at body c) = some_keeps ds x q body
-some_keeps ds x q _ = false
+abbrev pub some_keeps : List Declaration → ℕ → Stmt → Bool
+some_keeps ds x (Then a b) = some_keeps ds x a || some_keeps ds x b
+some_keeps ds x (Foreach k at h test body) = keeps_local ds x h.iterator test body
+some_keeps ds x (For k at h test body) = some_keeps ds x body
+some_keeps ds x (If k c a b) = some_keeps ds x a || some_keeps ds x b
+some_keeps ds x (While k at c body) = some_keeps ds x body
+some_keeps ds x (Do k at body c) = some_keeps ds x body
+some_keeps ds x _ = false
 
 -- the variables that a body declares outside of its inner loops, in the order of the text
 abbrev pub locals_of : Stmt → List ℕ
@@ -84,7 +77,7 @@ locals_in _ = []
 -- a program whose loops keep one local after another in a property, where some loop keeps it
 abbrev pub with_each_kept : List ℕ → Program → Program
 with_each_kept [] program = program
-with_each_kept (x ∷ xs) program = with_each_kept xs (if some_keeps program.declarations x (length program.declarations) program.body then with_kept_local x program else program)
+with_each_kept (x ∷ xs) program = with_each_kept xs (if some_keeps program.declarations x program.body then with_kept_local x program else program)
 
 -- a program whose loops keep all locals in properties that they can
 abbrev pub with_kept_locals : Program → Program

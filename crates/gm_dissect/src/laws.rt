@@ -34,8 +34,7 @@ pub fn conditions_go_to_locals()
 {}
 
 /// A local of the loops' bodies from which a part is cut may be kept in a property of the loop's node, where nothing is
-/// reached through it, and the faults of the loop then stand in the order of its text: the program means the same, and
-/// is as ready for what comes next as it was.
+/// reached through it: the program means the same, and is as ready for what comes next as it was.
 pub fn locals_go_to_properties()
     ensures same { (x : ℕ) (p : Program) → Ready2 p → SameMeaning p (with_kept_local x p) }
     ensures ready { (x : ℕ) (p : Program) → Ready2 p → Ready2 (with_kept_local x p) }

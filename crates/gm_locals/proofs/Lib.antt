@@ -1,0 +1,12 @@
+pub mod Alone
+pub mod Across
+pub mod MovedTrees
+pub mod MovedAll
+pub mod LinkedBeside
+pub mod MovesBeside
+pub mod Staying
+pub mod TargetKinds
+pub mod GroupLoops
+pub mod SharesBeside
+pub mod GroupKept
+pub mod GroupLaws

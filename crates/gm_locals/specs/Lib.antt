@@ -1,0 +1,4 @@
+pub mod AllLocals
+pub mod Beside
+pub mod Groups
+pub mod Across
