@@ -1,0 +1,11 @@
+pub mod Runs
+pub mod Grouped
+pub mod Shared
+pub mod Roles
+pub mod Apart
+pub mod PartKept
+pub mod PartLaws
+pub mod Sliced
+pub mod SlicesKept
+pub mod SlicesLaws
+mod Samples

@@ -1,0 +1,14 @@
+//! Bodies of parallel loops are cut into pieces, and inner loops into slices: the last steps before loops that pull are
+//! flipped.
+//!
+//! A program without searches and deferred writes comes in, in which conditions of what is cut are masks and locals stay
+//! within a piece. Each loop over nodes becomes loops in turn, one for each piece of its body: own statements under one
+//! mask together, and inner loops alone. Then each inner loop that goes several ways becomes inner loops in turn, one for
+//! each group of neighbouring statements that go one way.
+//!
+//! What stands are the definitions (`in_pieces`, `in_slices`) and their laws: where each loop may be written so
+//! (`can_be_parted`, `can_be_sliced`), the result means the same for every graph, all arguments and every bound, keeps
+//! what every pass keeps (`IsSane`), and is cut.
+#![tactic(auto)]
+
+pub mod laws;
