@@ -1,6 +1,7 @@
 //! A program run before and after passes.
 
 use gm_ast::forms::Work;
+use gm_ast::tree::Stmt;
 use gm_base::{Items, NoMemory};
 use gm_canon::verdict;
 use gm_desugar::compounds::compounds_out;
@@ -10,6 +11,7 @@ use gm_desugar::literals::literals_out;
 use gm_desugar::reads::reads_out;
 use gm_graph::{Graph, RawGraph, Shape, build};
 use gm_meaning::{evaluate, work_of};
+use gm_reductions::accesses::accesses_out;
 use gm_reductions::folds::folds_out;
 use gm_value::Value;
 use std::alloc::{AllocError, Global};
@@ -81,6 +83,10 @@ fn after(alloc: Global, program: Work, passes: u32) -> Result<Work, NoMemory> {
     if passes == 5 {
         return Ok(program);
     }
+    let program = accesses_out(alloc, program)?;
+    if passes == 6 {
+        return Ok(program);
+    }
     folds_out(alloc, program)
 }
 
@@ -101,14 +107,31 @@ fn ending_after(alloc: Global, text: &str, graph: &Graph, passes: u32) -> Result
     }
 }
 
+// The text of a procedure with a body.
+fn procedure(alloc: Global, body: &str) -> Result<String, NoMemory> {
+    Ok(format!(in alloc;
+        "Procedure p(G: Graph, nil: Node; a, b, c: N_P<Int>, l: N_P<Long>, f: N_P<Bool>, r: N_P<Node>, x, y: Int, z: Long, q: Bool, s: Node) {{\n{body}\n}}"
+    )?)
+}
+
+// The body of a procedure after so many passes.
+pub fn body_after(rt: &impl Abort, alloc: Global, body: &str, passes: u32) -> Result<Stmt, Fail> {
+    let text = procedure(alloc, body)?;
+    match work(alloc, text.as_str())? {
+        None => {
+            assert!(rt; false, "{body}");
+            Ok(Stmt::Block(Vec::new(alloc)))
+        }
+        Some(program) => Ok(after(alloc, program, passes)?.into_tree().body),
+    }
+}
+
 // Whether a body's run ends the same after each pass.
 fn same_on(rt: &impl Abort, alloc: Global, body: &str, graph: &Graph) -> Result<(), Fail> {
-    let text = format!(in alloc;
-        "Procedure p(G: Graph, nil: Node; a, b, c: N_P<Int>, f: N_P<Bool>, r: N_P<Node>, x, y: Int, q: Bool, s: Node) {{\n{body}\n}}"
-    )?;
+    let text = procedure(alloc, body)?;
     let before = ending_after(alloc, text.as_str(), graph, 0)?;
     assert!(rt; before.as_str() != "refused", "{body}");
-    for passes in 1..=6u32 {
+    for passes in 1..=7u32 {
         let ending = ending_after(alloc, text.as_str(), graph, passes)?;
         assert_eq!(rt; ending.as_str(), before.as_str(), "{body}");
     }
