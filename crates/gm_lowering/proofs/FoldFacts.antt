@@ -10,7 +10,6 @@ use Rattle.gm_ast.specs.declared.tree.Key.{Key}
 use Rattle.gm_ast.specs.declared.tree.Target.{Target}
 use Rattle.gm_ast.specs.declared.tree.Target.TheVariants as T
 use Rattle.gm_ast.specs.declared.tree.TotalKey.{TotalKey}
-use Rattle.gm_ast.specs.Keys as K
 use Rattle.gm_ast.specs.Program as S
 use Rattle.gm_ast.specs.Program.{Expr, Stmt}
 use Rattle.gm_forms.proofs.Named.{both-true}
@@ -23,7 +22,7 @@ use Rattle.gm_semantics.specs.Faults.{then_with}
 use Rattle.gm_semantics.specs.Iterations.{Loop, Mode, Iteration, view_in, with_ok, contribution, gave_outermost, reduced, does}
 use Rattle.gm_semantics.specs.Levels.{node_in}
 use Rattle.gm_lowering.specs.Layouts.{Layout}
-use Rattle.gm_lowering.specs.Places.{Spot, spots_in_all}
+use Rattle.gm_lowering.specs.Places.{Spot, spots_in_all, spot_of_total}
 use Rattle.gm_lowering.specs.Plans.{way_of}
 use Rattle.gm_lowering.specs.Bodies.{reduce_spots}
 use Rattle.gm_lowering.specs.MessageLoops.{folds_to, is_to_scalars}
@@ -45,7 +44,7 @@ pub record IsReceived (c : Layout) (j : ℕ) (spots : List Spot) (x : Contributi
   pub scalars : is_to_scalars x ≡ true → list_all (here c) x.slots ≡ true
   pub nodes : is_to_scalars x ≡ false → list_all (here_at c j) x.slots ≡ true
   pub not_empty : is_some_list x.slots ≡ true
-  pub spotted : HasSpot (K.total_fault x.total) spots
+  pub spotted : HasSpot (spot_of_total x.total) spots
 
 -- what is put is received
 pub put-received : (c : Layout) (j : ℕ) (spots : List Spot) (x : Contribution) → IsPut c spots x → IsReceived c j spots x
@@ -138,14 +137,14 @@ module _ (c : Layout) (its : List ℕ) (edge : Bool) (i j : ℕ) (loop : Loop) (
 
   pub fold-gives : (all : List Spot) (k : Key) (total : TotalKey) (r : Reduce) (ts : List Target) (es : List Expr) (it : Iteration) → folds_to c i (finds c its edge) r ts es ≡ true → HoldNodes loop.graph its home it
       → node_in loop.graph (it.store.scalar i) ≡ Some j
-      → ((f : K.Fault) → HasSpot f (reduce_spots false its (way_of c.declarations i ts) k total ts) → HasSpot f all)
+      → ((f : Spot) → HasSpot f (reduce_spots false its (way_of c.declarations i ts) k total ts) → HasSpot f all)
       → Gives (IsReceived c j all) it → Gives (IsReceived c j all) (does (S.Combine k total r ts es) m loop it)
   fold-gives all k total r [] es it o n e z h = absurd (both_ways false refl o)
   fold-gives all k total r (t ∷ ts) es it o n e z h =
       let x = both-true (are_kept c i (t ∷ ts)) (same_length (t ∷ ts) es && list_all (finds c its edge) es) o in
       let y = both-true (same_length (t ∷ ts) es) (list_all (finds c its edge) es) x.1 in
       let a = all-read c its edge loop m home it k es y.1 n in
-      let spot : HasSpot (K.total_fault total) all = z (K.total_fault total) (subst (λ w. HasSpot (K.total_fault total) (reduce_spots false its w k total (t ∷ ts))) (sym (folds-way c i t ts x.0)) (inl refl)) in
+      let spot : HasSpot (spot_of_total total) all = z (spot_of_total total) (subst (λ w. HasSpot (spot_of_total total) (reduce_spots false its w k total (t ∷ ts))) (sym (folds-way c i t ts x.0)) (inl refl)) in
       subst (Gives (IsReceived c j all)) (sym (does-fold k total r t ts es it x.0 a e))
       (fold-gives-by all total r (node_slots j (t ∷ ts)) (evaluated_all es (view_in loop m it k)).rest it
       (λ vs. record { scalars = λ b. absurd (both_ways (are_of_scalars (node_slots j (t ∷ ts))) (not-scalars t ts x.0) b); nodes = λ b. kept-here c i j (t ∷ ts) x.0; not_empty = some-slots t ts x.0; spotted = spot }) h) where

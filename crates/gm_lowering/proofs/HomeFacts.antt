@@ -10,9 +10,8 @@ use Rattle.gm_ast.specs.declared.tree.Key.{Key}
 use Rattle.gm_ast.specs.declared.tree.Target.{Target}
 use Rattle.gm_ast.specs.declared.tree.Target.TheVariants as T
 use Rattle.gm_ast.specs.declared.tree.TotalKey.{TotalKey}
-use Rattle.gm_ast.specs.Keys as K
 use Rattle.gm_ast.specs.Program as S
-use Rattle.gm_ast.specs.Program.{Expr, Stmt}
+use Rattle.gm_ast.specs.Program.{Expr}
 use Rattle.gm_forms.proofs.Named.{both-true}
 use Rattle.gm_semantics.specs.declared.faults.Fault.{Fault}
 use Rattle.gm_semantics.specs.declared.slots.Slot.{Slot}
@@ -22,7 +21,7 @@ use Rattle.gm_semantics.specs.Faults.{then_with}
 use Rattle.gm_semantics.specs.Iterations.{Loop, Mode, AtEdge, Iteration, view_in, with_ok, contribution, gave_inner, reduced, does}
 use Rattle.gm_semantics.specs.Levels.{node_in}
 use Rattle.gm_lowering.specs.Layouts.{Layout}
-use Rattle.gm_lowering.specs.Places.{Spot, spots_in_all}
+use Rattle.gm_lowering.specs.Places.{Spot, spots_in_all, spot_of_total}
 use Rattle.gm_lowering.specs.Plans.{way_of}
 use Rattle.gm_lowering.specs.Bodies.{reduce_spots}
 use Rattle.gm_lowering.specs.MessageLoops.{folds_to}
@@ -78,14 +77,14 @@ module _ (c : Layout) (its : List ℕ) (edge : Bool) (j : ℕ) (loop : Loop) (fa
 
   pub fold-gives : (all : List Spot) (k : Key) (total : TotalKey) (r : Reduce) (ts : List Target) (es : List Expr) (it : Iteration) → folds_to c i (finds c its edge) r ts es ≡ true → HoldNodes loop.graph its home it
       → node_in loop.graph (it.store.scalar i) ≡ Some j
-      → ((f : K.Fault) → HasSpot f (reduce_spots false its (way_of c.declarations i ts) k total ts) → HasSpot f all)
+      → ((f : Spot) → HasSpot f (reduce_spots false its (way_of c.declarations i ts) k total ts) → HasSpot f all)
       → Gives (IsReceived c j all) it → Gives (IsReceived c j all) (does (S.Combine k total r ts es) m loop it)
   fold-gives all k total r [] es it o n e z h = absurd (both_ways false refl o)
   fold-gives all k total r (t ∷ ts) es it o n e z h =
       let x = both-true (are_kept c i (t ∷ ts)) (same_length (t ∷ ts) es && list_all (finds c its edge) es) o in
       let y = both-true (same_length (t ∷ ts) es) (list_all (finds c its edge) es) x.1 in
       let a = all-read c its edge loop m home it k es y.1 n in
-      let spot : HasSpot (K.total_fault total) all = z (K.total_fault total) (subst (λ w. HasSpot (K.total_fault total) (reduce_spots false its w k total (t ∷ ts))) (sym (folds-way c i t ts x.0)) (inl refl)) in
+      let spot : HasSpot (spot_of_total total) all = z (spot_of_total total) (subst (λ w. HasSpot (spot_of_total total) (reduce_spots false its w k total (t ∷ ts))) (sym (folds-way c i t ts x.0)) (inl refl)) in
       subst (Gives (IsReceived c j all)) (sym (does-fold k total r t ts es it x.0 a e))
       (fold-gives-by all total r (node_slots j (t ∷ ts)) (evaluated_all es (view_in loop m it k)).rest it
       (λ vs. record { scalars = λ b. absurd (both_ways (are_of_scalars (node_slots j (t ∷ ts))) (not-scalars t ts x.0) b); nodes = λ b. kept-here c i j (t ∷ ts) x.0; not_empty = some-slots t ts x.0; spotted = spot }) h) where

@@ -2,7 +2,6 @@
 use Rattle.std.proofs.Common.{◌<◌, ℕ, List, [], ◌∷◌, ap}
 use Rattle.std.specs.Prelude.{slice_index_or}
 use Rattle.gm_model.specs.Graphs.{node_count}
-use Rattle.gm_ast.specs.Keys as K
 use Rattle.gm_ast.specs.Program.{Foreach}
 use Rattle.gm_lowering.specs.Places.{Spot, segment, spots_in}
 use Rattle.gm_lowering.specs.Blocks.{taking_blocks}
@@ -22,10 +21,10 @@ home-loops c p fields base q kind loop mask_key mask key place h test body globa
       all : List Spot
       all = home_spots c loop.outer h.iterator mask_key mask key test body
 
-      incl : (f : K.Fault) → HasSpot f (each_spots c loop.outer h.iterator key test body) → HasSpot f all
+      incl : (f : Spot) → HasSpot f (each_spots c loop.outer h.iterator key test body) → HasSpot f all
       incl f i = spot-right f (spots_in mask mask_key) (each_spots c loop.outer h.iterator key test body) i
 
-      masks : (f : K.Fault) → HasSpot f (spots_in mask mask_key) → HasSpot f all
+      masks : (f : Spot) → HasSpot f (spots_in mask mask_key) → HasSpot f all
       masks f i = spot-left f (spots_in mask mask_key) (each_spots c loop.outer h.iterator key test body) i
 
       node-shows : (k : ℕ) → k < node_count loop.graph → NodeShows c loop.graph p.registers fields globals (slice_index_or s.fields k []) k r

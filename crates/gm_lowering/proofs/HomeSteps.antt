@@ -17,7 +17,6 @@ use Rattle.gm_ast.specs.declared.tree.Head.{Head}
 use Rattle.gm_ast.specs.declared.tree.Key.{Key}
 use Rattle.gm_ast.specs.declared.tree.Target.{Target}
 use Rattle.gm_ast.specs.declared.tree.TotalKey.{TotalKey}
-use Rattle.gm_ast.specs.Keys as K
 use Rattle.gm_ast.specs.Program as P
 use Rattle.gm_ast.specs.Program.{Expr, Stmt}
 use Rattle.gm_ast.specs.Ways.{is_in}
@@ -46,7 +45,7 @@ use Rattle.gm_machine.specs.Taking.{settled}
 use Rattle.gm_machine.specs.Vertex.{VertexContext, VertexState, After, view, goes_on, line_ends, lines_after, turns_after, steps, ended, body_after, begun as begin, vertex_after}
 use Rattle.gm_machine.proofs.LeastLaws.{least_right, least_from-right}
 use Rattle.gm_lowering.specs.Layouts.{Layout, is_register}
-use Rattle.gm_lowering.specs.Places.{Spot, Segment, segment, ascending, spots_in, spots_in_all}
+use Rattle.gm_lowering.specs.Places.{Spot, Segment, segment, spots_in, spots_in_all}
 use Rattle.gm_lowering.specs.Terms.{Env, term, own_env, each_env}
 use Rattle.gm_lowering.specs.Plans.{loads_in, way_of}
 use Rattle.gm_lowering.specs.Bodies.{under, spots_of, reduce_spots}
@@ -55,10 +54,10 @@ use Rattle.gm_lowering.specs.Showing.{fault_of, answer_of}
 use Rattle.gm_lowering.specs.Sites.{slot_at, given, finds, is_body, IsInGraph, HoldProperties, OwnGave}
 use Rattle.gm_lowering.specs.OwnLoops.{own_finds, own_sets, puts_to_scalars, IsOwnLoop, NodeShows, StepEnds}
 use Rattle.gm_lowering.specs.MessageLoops.{sets_nothing, folds_to, receiver_gives, is_to_scalars, is_to_nodes}
-use Rattle.gm_lowering.specs.Phases.{GivesApart}
+use Rattle.gm_lowering.specs.Phases.{EdgesShown, GivesApart}
 use Rattle.gm_lowering.specs.Receiving.{turn_of}
-use Rattle.gm_lowering.specs.TwoSupersteps.{EdgesShown, StepsWithin}
-use Rattle.gm_lowering.specs.Settles.{HasSpot, fault_or_none, AreHeld, AreGiven, SettlesAlike}
+use Rattle.gm_lowering.specs.TwoSupersteps.{IsInside, StepsWithin}
+use Rattle.gm_lowering.specs.Settles.{HasSpot, fault_or_none, AreHeld, AreGiven, SettlesAlike, spot_of_fault, HaveRoom}
 use Rattle.gm_lowering.specs.HomeTurns.{is_at_edge, home_finds, home_lines, IsHomeLoop, HomeGave, EdgeShows, TurnEnds}
 use Rattle.gm_lowering.specs.HomeSteps.{home_block, each_spots, home_turns, given_inside, HasEach, HomeStepsAreIterations}
 use Rattle.gm_lowering.proofs.Bodies.{value-of}
@@ -66,7 +65,7 @@ use Rattle.gm_lowering.proofs.FoldFacts.{here_at, IsReceived, put-received, body
 use Rattle.gm_lowering.proofs.HomeFacts.{fold-left, fold-gives}
 use Rattle.gm_lowering.proofs.HomeTurns.{each-turns}
 use Rattle.gm_lowering.proofs.Kept.{Gives, body-gives}
-use Rattle.gm_lowering.proofs.Orders.{named, lesser-lower}
+use Rattle.gm_lowering.proofs.Orders.{lesser-lower}
 use Rattle.gm_lowering.proofs.Own.{Shows, own-holds, node-in}
 use Rattle.gm_lowering.proofs.Supersteps.{least-parts, least-two}
 use Rattle.gm_lowering.proofs.OwnSteps.{body-alone, begins}
@@ -102,8 +101,8 @@ module _ (c : Layout) (p : image.Program) (fields base : ℕ) (all : List Spot) 
     (globals fs : List Value) (k : ℕ) (r : Store)
     (outer : HasEach c loop mask h)
     (able : IsHomeLoop c p.registers fields loop h.iterator test body)
-    (incl : (f : K.Fault) → HasSpot f (each_spots c loop.outer h.iterator key test body) → HasSpot f all)
-    (fit : base + length (ascending all) ≤ length p.places)
+    (incl : (f : Spot) → HasSpot f (each_spots c loop.outer h.iterator key test body) → HasSpot f all)
+    (fit : HaveRoom base all (length p.places))
     (shows : NodeShows c loop.graph p.registers fields globals fs k r)
     (edges : EdgesShown c loop.graph r)
     (within : StepsWithin loop.graph h.domain)
@@ -144,7 +143,7 @@ module _ (c : Layout) (p : image.Program) (fields base : ℕ) (all : List Spot) 
   turned : (x y : ℕ) → nat_eq x y ≡ false → nat_eq y x ≡ false
   turned x y e = ne_eqb y x (λ z. eqb-false x y e (sym z))
 
-  edge-shows : (e : Step) → e.node < node_count g → (w : VertexState) → length w.registers ≡ length p.registers → w.fields ≡ fs → EdgeShows c loop p.registers fields (record s { near = e }) w from
+  edge-shows : (e : Step) → IsInside g e → (w : VertexState) → length w.registers ≡ length p.registers → w.fields ≡ fs → EdgeShows c loop p.registers fields (record s { near = e }) w from
   edge-shows e lt w count same = record {
     graph = refl;
     scalar = λ x f l d o. shows.phase.scalar x l d o ∙ sym (ap (λ b. if b then At (Some k) else r.scalar x) (turned x n f));
@@ -154,11 +153,11 @@ module _ (c : Layout) (p : image.Program) (fields base : ℕ) (all : List Spot) 
         let t = both-true (nat_lt x (length c.declarations)) (is_register (variable_at c.declarations x)) o in
         shows.locals x (ltb-true x (length c.declarations) t.0) t.1 ∙ sym (ap (λ b. if b then At (Some k) else r.scalar x) (unlike x t.1));
     properties = subst (λ z. HoldProperties c z k from) (sym same) shows.properties;
-    edges = λ q l d. edges q e.edge l d;
+    edges = λ q l d. edges q e.edge l d lt.1;
     register_count = count;
     field_count = ap length same ∙ shows.field_count;
     inside = shows.inside;
-    near_inside = lt;
+    near_inside = lt.0;
   } where
     unlike : (x : ℕ) → is_register (variable_at c.declarations x) ≡ true → nat_eq n x ≡ false
     unlike x d = ne_eqb n x (λ z. both_ways (is_register (variable_at c.declarations x)) (ap (λ b. is_register (variable_at c.declarations b)) (sym z) ∙ able.outer) d)
@@ -167,7 +166,7 @@ module _ (c : Layout) (p : image.Program) (fields base : ℕ) (all : List Spot) 
   abbrev one : Step → VertexState → After
   one e w = lines_after (record s { near = e }) lines 0 w
 
-  one-ends : (e : Step) → e.node < node_count g → (w : VertexState) → length w.registers ≡ length p.registers → w.fields ≡ fs → TurnEnds c v w (turn e) (one e w) (turn e).fault
+  one-ends : (e : Step) → IsInside g e → (w : VertexState) → length w.registers ≡ length p.registers → w.fields ≡ fs → TurnEnds c v w (turn e) (one e w) (turn e).fault
   one-ends e lt w count same = each-turns c seg p.registers fields loop i kind key test body (record s { near = e }) w from able (edge-shows e lt w count same)
 
   fault-part : (it : Iteration) (w : VertexState) (a : After) (o : Option Fault) → TurnEnds c v w it a o → a.fault ≡ fault_or_none v o
@@ -178,7 +177,7 @@ module _ (c : Layout) (p : image.Program) (fields base : ℕ) (all : List Spot) 
   gave-part it w a None e = e.1
   gave-part it w a (Some f) e = e.1
 
-  turns-gave : (es : List Step) → ((e : Step) → IsIn e es → e.node < node_count g) → (w : VertexState) (f : Option M.Fault) → length w.registers ≡ length p.registers → w.fields ≡ fs
+  turns-gave : (es : List Step) → ((e : Step) → IsIn e es → IsInside g e) → (w : VertexState) (f : Option M.Fault) → length w.registers ≡ length p.registers → w.fields ≡ fs
       → TurnsGave c v (map turn es) w f (turns_after s lines es w f)
   turns-gave [] lt w f count same = record { fault = refl; puts = sym (append-nil w.puts); folds = sym (append-nil w.folds); scalars = refl; nodes = refl; messages = refl; fields = refl; deferred = refl }
   turns-gave (e ∷ es) lt w f count same =
@@ -244,7 +243,7 @@ module _ (c : Layout) (p : image.Program) (fields base : ℕ) (all : List Spot) 
   no_locals : (x : ℕ) → is_in its x ≡ true → is_register (variable_at c.declarations x) ≡ false
   no_locals x o = ⊎_elim (λ (e : x ≡ n). ap (λ y. is_register (variable_at c.declarations y)) e ∙ able.outer) (λ (e : x ≡ i). ap (λ y. is_register (variable_at c.declarations y)) e ∙ able.inner) (in-two x o)
 
-  module _ (e : Step) (lt : e.node < node_count g) where
+  module _ (e : Step) (lt : IsInside g e) where
     abbrev m : Mode
     m = AtEdge e.edge
 
@@ -260,7 +259,7 @@ module _ (c : Layout) (p : image.Program) (fields base : ℕ) (all : List Spot) 
       at_inner q =
           let same : nat_eq i y ≡ true = eq-eqb i y (sym q) in (
             ap (λ b. if b then At (Some e.node) else from.scalar y) same ∙ ap (λ z. At (Some z)) (sym (ap (λ b. if b then e.node else k) same)),
-            subst (λ z. z < node_count g) (sym (ap (λ b. if b then e.node else k) same)) lt,
+            subst (λ z. z < node_count g) (sym (ap (λ b. if b then e.node else k) same)) lt.0,
           )
 
       at_outer : y ≡ n → (start.store.scalar y ≡ At (Some (home y))) × (home y < node_count g)
@@ -293,7 +292,7 @@ module _ (c : Layout) (p : image.Program) (fields base : ℕ) (all : List Spot) 
         reductions-left st o it f q
 
     reductions-give : (j : Key) (total : TotalKey) (r' : Reduce) (ts : List Target) (es : List Expr) (it : Iteration) → receiver_gives c n loose r' ts es ≡ true → HoldNodes g its home it
-        → ((f : K.Fault) → HasSpot f (reduce_spots false its (way_of c.declarations n ts) j total ts) → HasSpot f all)
+        → ((f : Spot) → HasSpot f (reduce_spots false its (way_of c.declarations n ts) j total ts) → HasSpot f all)
         → Gives (IsReceived c k all) it → Gives (IsReceived c k all) (does (P.Combine j total r' ts es) m loop it)
     reductions-give j total r' ts es it o q f a =
         or-cases (puts_to_scalars c loose r' ts es) (folds_to c n loose r' ts es) o
@@ -309,7 +308,7 @@ module _ (c : Layout) (p : image.Program) (fields base : ℕ) (all : List Spot) 
 
     has-all : (o : Option Fault) → Has o (each_spots c n i key test body) → Has o all
     has-all None q = tt
-    has-all (Some f) q = incl (named f) q
+    has-all (Some f) q = incl (spot_of_fault f) q
 
     turn-left : Has (turn e).fault all × Gives (IsReceived c k all) (turn e)
     turn-left = by (value test (view_in loop m start key)) (value-within (view_in loop m start key) test refl (reads c its true loop m home start key test (loosen test able.found) holds)) where
@@ -324,21 +323,21 @@ module _ (c : Layout) (p : image.Program) (fields base : ℕ) (all : List Spot) 
       by : (a : Result Value Fault) → Within a (spots_in test key)
           → Has (with_ok start a (λ z. one_way (is_true z) (does body m loop) as_it_is start)).fault all × Gives (IsReceived c k all) (with_ok start a (λ z. one_way (is_true z) (does body m loop) as_it_is start))
       by (Ok z) w = way (is_true z)
-      by (Err f) w = (incl (named f) (spot-left (named f) (spots_in test key) body_spots w), record { outermost = λ y z. absurd z; inner = λ y z. absurd z })
+      by (Err f) w = (incl (spot_of_fault f) (spot-left (spot_of_fault f) (spots_in test key) body_spots w), record { outermost = λ y z. absurd z; inner = λ y z. absurd z })
 
-  received : (es : List Step) → ((e : Step) → IsIn e es → e.node < node_count g) → (y : Contribution) → IsIn y (given_inside (map turn es)) → IsReceived c k all y
+  received : (es : List Step) → ((e : Step) → IsIn e es → IsInside g e) → (y : Contribution) → IsIn y (given_inside (map turn es)) → IsReceived c k all y
   received [] lt y z = absurd z
   received (e ∷ es) lt y z = split (turn e).with_inner (turn-left e (lt e (inl refl))).1.inner (λ w. received es (λ a b. lt a (inr b)) y w) z where
     split : (ys : List Contribution) → ((a : Contribution) → IsIn a ys → IsReceived c k all a) → (IsIn y (given_inside (map turn es)) → IsReceived c k all y) → IsIn y (ys ++ given_inside (map turn es)) → IsReceived c k all y
     split [] q next z = next z
     split (a ∷ ys) q next z = ⊎_elim (λ (f : y ≡ a). q y (inl f)) (λ (w : IsIn y (ys ++ given_inside (map turn es))). split ys (λ b d. q b (inr d)) next w) z
 
-  fault-spots : (es : List Step) → ((e : Step) → IsIn e es → e.node < node_count g) → (f : Fault) → IsIn f (somes (map (λ t. t.fault) (map turn es))) → HasSpot (named f) all
+  fault-spots : (es : List Step) → ((e : Step) → IsIn e es → IsInside g e) → (f : Fault) → IsIn f (somes (map (λ t. t.fault) (map turn es))) → HasSpot (spot_of_fault f) all
   fault-spots [] lt f z = absurd z
   fault-spots (e ∷ es) lt f z = by (turn e).fault (turn-left e (lt e (inl refl))).0 (λ w. fault-spots es (λ a b. lt a (inr b)) f w) z where
-    by : (o : Option Fault) → Has o all → (IsIn f (somes (map (λ t. t.fault) (map turn es))) → HasSpot (named f) all) → IsIn f (somes (o ∷ map (λ t. t.fault) (map turn es))) → HasSpot (named f) all
+    by : (o : Option Fault) → Has o all → (IsIn f (somes (map (λ t. t.fault) (map turn es))) → HasSpot (spot_of_fault f) all) → IsIn f (somes (o ∷ map (λ t. t.fault) (map turn es))) → HasSpot (spot_of_fault f) all
     by None q next z = next z
-    by (Some a) q next z = ⊎_elim (λ (x : f ≡ a). subst (λ b. HasSpot (named b) all) (sym x) q) (λ (w : IsIn f (somes (map (λ t. t.fault) (map turn es)))). next w) z
+    by (Some a) q next z = ⊎_elim (λ (x : f ≡ a). subst (λ b. HasSpot (spot_of_fault b) all) (sym x) q) (λ (w : IsIn f (somes (map (λ t. t.fault) (map turn es)))). next w) z
 
   -- the properties of the node are in its fields
   held-fields : AreHeld c from fs (here_at c k)
@@ -383,7 +382,7 @@ module _ (c : Layout) (p : image.Program) (fields base : ℕ) (all : List Spot) 
   settles : SettlesAlike c v (length p.places) from fs (here_at c k) inside
   settles = reductions-settle c v base (length p.places) all from fs (here_at c k) inside refl fit held-fields good
 
-  low : (f d : Fault) → HasSpot (named f) all → HasSpot (named d) all → lesser (Some (fault_of v f)) (Some (fault_of v d)) ≡ Some (fault_of v (F.lower f d))
+  low : (f d : Fault) → HasSpot (spot_of_fault f) all → HasSpot (spot_of_fault d) all → lesser (Some (fault_of v f)) (Some (fault_of v d)) ≡ Some (fault_of v (F.lower f d))
   low f d a b = lesser-lower v base all refl f d a b
 
   -- the each, and what it leaves
@@ -527,7 +526,7 @@ module _ (c : Layout) (p : image.Program) (fields base : ℕ) (all : List Spot) 
       (under-mask (term ov mask_key mask) (value mask (view_in loop Outermost begun_at mask_key)) mask-value)
 
   -- what an iteration gives has spots
-  received-out : (es : List Step) → ((e : Step) → IsIn e es → e.node < node_count g) → (y : Contribution) → IsIn y (joined (map (λ t. t.with_outermost) (map turn es))) → IsReceived c k all y
+  received-out : (es : List Step) → ((e : Step) → IsIn e es → IsInside g e) → (y : Contribution) → IsIn y (joined (map (λ t. t.with_outermost) (map turn es))) → IsReceived c k all y
   received-out [] lt y z = absurd z
   received-out (e ∷ es) lt y z = split (turn e).with_outermost (turn-left e (lt e (inl refl))).1.outermost (λ w. received-out es (λ a b. lt a (inr b)) y w) z where
     split : (ys : List Contribution) → ((a : Contribution) → IsIn a ys → IsReceived c k all a) → (IsIn y (joined (map (λ t. t.with_outermost) (map turn es))) → IsReceived c k all y) → IsIn y (ys ++ joined (map (λ t. t.with_outermost) (map turn es))) → IsReceived c k all y
@@ -548,7 +547,7 @@ module _ (c : Layout) (p : image.Program) (fields base : ℕ) (all : List Spot) 
   out-has : (o : Option Fault) → out.fault ≡ o → Has o all
   out-has None e = tt
   out-has (Some f) e = split (somes (map (λ t. t.fault) turns)) (λ d w. fault-spots along (λ x q. within k x q) d w) (least-is (somes (map (λ t. t.fault) turns) ++ total_faults from inside) f e).is_in where
-    split : (ds : List Fault) → ((d : Fault) → IsIn d ds → HasSpot (named d) all) → IsIn f (ds ++ total_faults from inside) → HasSpot (named f) all
+    split : (ds : List Fault) → ((d : Fault) → IsIn d ds → HasSpot (spot_of_fault d) all) → IsIn f (ds ++ total_faults from inside) → HasSpot (spot_of_fault f) all
     split [] q z = total-spot c v base (length p.places) all from fs (here_at c k) inside refl fit held-fields good f z
     split (d ∷ ds) q z = ⊎_elim (λ (x : f ≡ d). q f (inl x)) (λ (w : IsIn f (ds ++ total_faults from inside)). split ds (λ a b. q a (inr b)) w) z
 
@@ -561,7 +560,7 @@ module _ (c : Layout) (p : image.Program) (fields base : ℕ) (all : List Spot) 
   abbrev Spotted : Iteration → Type 0
   Spotted it = Has it.fault all × ((x : Contribution) → IsIn x it.with_outermost → IsPut c all x)
 
-  pub iteration-left : ((f : K.Fault) → HasSpot f (spots_in mask mask_key) → HasSpot f all) → Spotted (iteration loop mask_key mask inner r k)
+  pub iteration-left : ((f : Spot) → HasSpot f (spots_in mask mask_key) → HasSpot f all) → Spotted (iteration loop mask_key mask inner r k)
   iteration-left masks = by (value mask (view_in loop Outermost begun_at mask_key)) (value-within (view_in loop Outermost begun_at mask_key) mask refl (reads c (n ∷ []) false loop Outermost (λ x. k) begun_at mask_key mask outer.found starts)) where
     way : (b : Bool) → Spotted (one_way b (does inner Outermost loop) as_it_is begun_at)
     way true = subst Spotted (sym inner-is) (out-has out.fault refl, put-of)
@@ -569,7 +568,7 @@ module _ (c : Layout) (p : image.Program) (fields base : ℕ) (all : List Spot) 
 
     by : (a : Answer) → Within a (spots_in mask mask_key) → Spotted (answered a)
     by (Ok z) w = way (is_true z)
-    by (Err f) w = (masks (named f) w, λ x z. absurd z)
+    by (Err f) w = (masks (spot_of_fault f) w, λ x z. absurd z)
 
 pub home-steps : HomeStepsAreIterations
 home-steps c p fields base all loop kind mask_key mask key place h test body globals fs k r outer able incl fit shows edges within apart =

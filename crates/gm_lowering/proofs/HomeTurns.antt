@@ -33,14 +33,15 @@ use Rattle.gm_lowering.specs.Terms.{Env, term, each_env}
 use Rattle.gm_lowering.specs.Plans.{loads_in}
 use Rattle.gm_lowering.specs.Bodies.{Site, lines_of}
 use Rattle.gm_lowering.specs.Blocks.{Read, first_use, is_read, is_read_first, reads_scalar, zero_line, zero_lines, each_site}
-use Rattle.gm_lowering.specs.Sites.{finds, given, same_length, is_local, IsInGraph}
+use Rattle.gm_lowering.specs.Sites.{finds, given, same_length, is_local, IsInGraph, IsApart, is_body}
 use Rattle.gm_lowering.specs.OwnLoops.{is_declared, puts_to_scalars}
 use Rattle.gm_lowering.specs.MessageLoops.{sets_nothing, folds_to, receiver_gives, is_to_scalars, is_to_nodes}
 use Rattle.gm_lowering.specs.HomeTurns.{is_at_edge, home_finds, home_lines, IsHomeLoop, HomeGave, EdgeShows, TurnEnds, EachLinesAreTurns}
-use Rattle.gm_lowering.proofs.Bodies.{Ends, Holds, value-of, ends-by, body-ends}
+use Rattle.gm_lowering.specs.Showing.{fault_of}
+use Rattle.gm_lowering.proofs.Bodies.{Ends, Holds, value-of, ends-by, body-ends, Anywhere}
 use Rattle.gm_lowering.proofs.FirstUses.{Good, SameGiven, Near, Out, Known, weaker, ok-near, value-near, does-near}
 use Rattle.gm_lowering.proofs.Givens.{are_scalars, scalars-end}
-use Rattle.gm_lowering.proofs.Homes.{Shows, own-end, home-holds}
+use Rattle.gm_lowering.proofs.Homes.{own-end, home-holds, HomeShows}
 use Rattle.gm_lowering.proofs.Own.{global-no_register}
 use Rattle.gm_lowering.proofs.OwnSteps.{under-ends}
 use Rattle.gm_lowering.proofs.Receivers.{are_kept}
@@ -56,8 +57,33 @@ and-false false b e = refl
 zero-plus : (a b : ℕ) → a < b → a < 0 + b
 zero-plus a b h = omega arith
 
+-- an inner loop that is evaluated at the outer node: its iterators are two and no locals, and its filter reads no locals; registers begin with the first values of their locals
+pub record IsEachLoop (c : Layout) (registers : List VType) (fields : ℕ) (loop : Loop) (i : ℕ) (test : Expr) : Type 0 where
+  pub apart : IsApart c (length registers) fields
+  pub outer : is_register (variable_at c.declarations loop.outer) ≡ false
+  pub inner : is_register (variable_at c.declarations i) ≡ false
+  pub two : nat_eq i loop.outer ≡ false
+  pub types : (x : ℕ) → loop.vtype x ≡ (variable_at c.declarations x).vtype
+  pub depths : (x : ℕ) → loop.depth x ≡ (variable_at c.declarations x).depth
+  pub firsts : (x : ℕ) → is_local c x ≡ true → value_at (map zero_of registers) (c.register x) ≡ zero_of (type_at c.declarations x)
+  pub plain : (x : ℕ) → is_local c x ≡ true → reads_scalar x test ≡ false
+  pub found : home_finds c loop.outer i test ≡ true
+
+-- how its lines end that stand for a turn, by what the turn has given
+abbrev pub TurnAs : Env → (Iteration → VertexState → Type 0) → Iteration → After → Option Fault → Type 0
+TurnAs v Gave it a None = (a.fault ≡ None) × Gave it a.state
+TurnAs v Gave it a (Some f) = (a.fault ≡ Some (fault_of v f)) × Gave it a.state
+
+-- for any site of an each: how it holds, that nothing is given at first, and that what is given is the same for iterations that give the same
 module _ (c : Layout) (seg : Segment) (registers : List VType) (fields : ℕ) (loop : Loop) (i : ℕ) (kind : ℕ) (key : Key) (test : Expr) (body : Stmt) (s : VertexContext) (w : VertexState) (r : Store)
-    (able : IsHomeLoop c registers fields loop i test body) (shows : EdgeShows c loop registers fields s w r) where
+    (able : IsEachLoop c registers fields loop i test) (shows : EdgeShows c loop registers fields s w r)
+    (gives : Reduce → List Target → List Expr → Bool) (fits : is_body c (home_finds c loop.outer i) sets_nothing gives body ≡ true)
+    (Gave : Iteration → VertexState → Type 0) (Placed : ℕ → Stmt → Type 0) (placed : Placed kind body)
+    (holds : Holds (each_site c seg loop.outer i) loop (AtEdge s.near.edge) s (lines_after s) (λ it u. HomeShows c loop i s.node s.near.node s.near.edge (length registers) fields s it u × Gave it u) Gave (home_finds c loop.outer i) sets_nothing gives Placed)
+    (at_first : (it : Iteration) → it.with_inner ≡ [] → it.with_outermost ≡ [] → it.deferred ≡ [] → Gave it w)
+    (late : (r' : Reduce) (ts : List Target) (es : List Expr) → gives r' ts es ≡ true
+    → ((ends_of_all (AtEdge s.near.edge) loop ts ≡ WithInner) ⊎ (ends_of_all (AtEdge s.near.edge) loop ts ≡ WithOutermost)) × (list_all (home_finds c loop.outer i) es ≡ true))
+    (moved : (a b : Iteration) (u : VertexState) → SameGiven a b → Gave b u → Gave a u) where
   abbrev n : ℕ
   n = loop.outer
 
@@ -82,20 +108,11 @@ module _ (c : Layout) (seg : Segment) (registers : List VType) (fields : ℕ) (l
   abbrev found : Expr → Bool
   found = home_finds c n i
 
-  abbrev gives : Reduce → List Target → List Expr → Bool
-  gives = receiver_gives c n found
-
   abbrev run : List Line → ℕ → VertexState → After
   run = lines_after s
 
   abbrev sh : Iteration → VertexState → Type 0
-  sh = Shows c seg loop i s.node j edge (length registers) fields s w able.apart able.outer able.inner able.two able.types able.depths able.own
-
-  abbrev Gave : Iteration → VertexState → Type 0
-  Gave it u = HomeGave c v w it u
-
-  holds : Holds site loop m s run sh Gave found sets_nothing gives
-  holds = home-holds c seg loop i s.node j edge (length registers) fields s w able.apart able.outer able.inner able.two able.types able.depths able.own
+  sh it u = HomeShows c loop i s.node j edge (length registers) fields s it u × Gave it u
 
   -- the turn's beginning, and the same with the locals that the registers hold
   abbrev start : Iteration
@@ -142,7 +159,7 @@ module _ (c : Layout) (seg : Segment) (registers : List VType) (fields : ℕ) (l
       register_count = shows.register_count;
       field_count = shows.field_count;
     },
-    record { puts = sym (append-nil w.puts); folds = sym (append-nil w.folds); scalars = refl; nodes = refl; messages = refl; fields = refl; count = refl; deferred = refl },
+    at_first held refl refl refl,
   )
 
   -- the locals that begin anew
@@ -208,7 +225,7 @@ module _ (c : Layout) (seg : Segment) (registers : List VType) (fields : ℕ) (l
       let z = zero-ends news (locals-of 0 (length c.declarations) (omega arith)) held w begins (ls ++ []) in
       ends-by site loop m s run sh Gave found sets_nothing gives holds (zero_lines c body ++ ls) [] ls [] w z.0 (go held) (go held).fault
       (ap (λ y. run y 0 w) (append_assoc (zero_lines c body) ls []) ∙ z.2) (λ t. refl)
-      (body-ends site loop m s run sh Gave found sets_nothing gives holds body kind able.fits (zeroed news held) z.0 [] z.1)
+      (body-ends site loop m s run sh Gave found sets_nothing gives holds body kind fits placed (zeroed news held) z.0 [] z.1)
 
   held-runs : Ends v run sh Gave lines [] w out_held out_held.fault
   held-runs =
@@ -228,19 +245,6 @@ module _ (c : Layout) (seg : Segment) (registers : List VType) (fields : ℕ) (l
 
   apart : (x : ℕ) → is_local c x ≡ true → nat_eq x n ≡ false
   apart x o = turned n x (unlike x n o able.outer)
-
-  late : (w2 : Reduce) (ts : List Target) (es : List Expr) → gives w2 ts es ≡ true → ((ends_of_all m loop ts ≡ WithInner) ⊎ (ends_of_all m loop ts ≡ WithOutermost)) × (list_all found es ≡ true)
-  late w2 [] es o = absurd (both_ways false refl o)
-  late w2 (t ∷ ts) es o =
-      ⊎_elim
-      (λ (h : puts_to_scalars c found w2 (t ∷ ts) es ≡ true).
-      let x = both-true (are_scalars c (t ∷ ts)) (list_all (is_declared c) (t ∷ ts) && (same_length (t ∷ ts) es && list_all found es)) h in
-      let z = both-true (list_all (is_declared c) (t ∷ ts)) (same_length (t ∷ ts) es && list_all found es) x.1 in
-      (inr (scalars-end c loop m t ts able.depths x.0), (both-true (same_length (t ∷ ts) es) (list_all found es) z.1).1))
-      (λ (h : folds_to c n found w2 (t ∷ ts) es ≡ true).
-      let x = both-true (are_kept c n (t ∷ ts)) (same_length (t ∷ ts) es && list_all found es) h in
-      (inl (own-end c loop edge t ts able.own x.0), (both-true (same_length (t ∷ ts) es) (list_all found es) x.1).1))
-      (or-split (puts_to_scalars c found w2 (t ∷ ts) es) (folds_to c n found w2 (t ∷ ts) es) o)
 
   abbrev NearTo : (ℕ → Type 0) → Iteration → Type 0
   NearTo V b = Near c its n s.node loop m found gives loosen no_local apart late V start b
@@ -306,31 +310,83 @@ module _ (c : Layout) (seg : Segment) (registers : List VType) (fields : ℕ) (l
         way false = (begun_same, λ e. weaker c its n s.node loop m found gives loosen no_local apart late Global None_known start held (λ x z. absurd z) near-held)
         way true =
             let zs = zero-near news Global held (locals-of 0 (length c.declarations) (omega arith)) near-held in
-            let done = does-near c its n s.node loop m found gives loosen no_local apart late body able.fits known (λ x e. inl e) (λ x f. read_known x (is_local c x) refl f) start (zeroed news held)
+            let done = does-near c its n s.node loop m found gives loosen no_local apart late body fits known (λ x e. inl e) (λ x f. read_known x (is_local c x) refl f) start (zeroed news held)
             (zero-same news held begun_same) zs in
             (done.0, λ e. weaker c its n s.node loop m found gives loosen no_local apart late (Known c its n s.node loop m found gives loosen no_local apart late body known) None_known (does body m loop start) (go held) (λ x z. absurd z) (done.1 e)) where
               zero-same : (xs : List ℕ) (b : Iteration) → SameGiven start b → SameGiven start (zeroed xs b)
               zero-same [] b h = h
               zero-same (x ∷ xs) b h = zero-same xs (wrote b (Scalar x, first_value x)) (record { inner = h.inner; outermost = h.outermost; deferred = h.deferred; fault = h.fault })
 
-  gave-moved : (u : VertexState) → HomeGave c v w out_held u → HomeGave c v w out u
-  gave-moved u g = record {
-    puts = g.puts ∙ ap (λ l. w.puts ++ map (given c v) l) alike.0.outermost;
-    folds = g.folds ∙ ap (λ l. w.folds ++ map (given c v) l) alike.0.inner;
-    scalars = ap (list_all is_to_scalars) (sym alike.0.outermost) ∙ g.scalars;
-    nodes = ap (list_all is_to_nodes) (sym alike.0.inner) ∙ g.nodes;
+  ends-as : (f : Option Fault) → Ends v run sh Gave lines [] w out_held f → TurnAs v Gave out (run lines 0 w) f
+  ends-as None e = subst (λ a. TurnAs v Gave out a None) (sym (ap (λ ls. run ls 0 w) (sym (append-nil lines)) ∙ e.2)) (refl, moved out out_held e.0 alike.0 e.1.1)
+  ends-as (Some f) e = subst (λ a. TurnAs v Gave out a (Some f)) (sym (ap (λ ls. run ls 0 w) (sym (append-nil lines)) ∙ e.2)) (refl, moved out out_held e.0 alike.0 e.1)
+
+  pub turn-ends : TurnAs v Gave out (run lines 0 w) out.fault
+  turn-ends = subst (λ f. TurnAs v Gave out (run lines 0 w) f) alike.0.fault (ends-as out_held.fault held-runs)
+
+-- home loops
+module _ (c : Layout) (seg : Segment) (registers : List VType) (fields : ℕ) (loop : Loop) (i : ℕ) (kind : ℕ) (key : Key) (test : Expr) (body : Stmt) (s : VertexContext) (w : VertexState) (r : Store)
+    (able : IsHomeLoop c registers fields loop i test body) (shows : EdgeShows c loop registers fields s w r) where
+  abbrev at_home : Env
+  at_home = each_env c seg loop.outer i
+
+  abbrev finds_here : Expr → Bool
+  finds_here = home_finds c loop.outer i
+
+  is-each : IsEachLoop c registers fields loop i test
+  is-each = record { apart = able.apart; outer = able.outer; inner = able.inner; two = able.two; types = able.types; depths = able.depths; firsts = able.firsts; plain = able.plain; found = able.found }
+
+  late-home : (r' : Reduce) (ts : List Target) (es : List Expr) → receiver_gives c loop.outer finds_here r' ts es ≡ true
+      → ((ends_of_all (AtEdge s.near.edge) loop ts ≡ WithInner) ⊎ (ends_of_all (AtEdge s.near.edge) loop ts ≡ WithOutermost)) × (list_all finds_here es ≡ true)
+  late-home r' [] es o = absurd (both_ways false refl o)
+  late-home r' (t ∷ ts) es o =
+      ⊎_elim
+      (λ (h : puts_to_scalars c finds_here r' (t ∷ ts) es ≡ true).
+      let x = both-true (are_scalars c (t ∷ ts)) (list_all (is_declared c) (t ∷ ts) && (same_length (t ∷ ts) es && list_all finds_here es)) h in
+      let z = both-true (list_all (is_declared c) (t ∷ ts)) (same_length (t ∷ ts) es && list_all finds_here es) x.1 in
+      (inr (scalars-end c loop (AtEdge s.near.edge) t ts able.depths x.0), (both-true (same_length (t ∷ ts) es) (list_all finds_here es) z.1).1))
+      (λ (h : folds_to c loop.outer finds_here r' (t ∷ ts) es ≡ true).
+      let x = both-true (are_kept c loop.outer (t ∷ ts)) (same_length (t ∷ ts) es && list_all finds_here es) h in
+      (inl (own-end c loop s.near.edge t ts able.own x.0), (both-true (same_length (t ∷ ts) es) (list_all finds_here es) x.1).1))
+      (or-split (puts_to_scalars c finds_here r' (t ∷ ts) es) (folds_to c loop.outer finds_here r' (t ∷ ts) es) o)
+
+  none-given : (it : Iteration) → it.with_inner ≡ [] → it.with_outermost ≡ [] → it.deferred ≡ [] → HomeGave c at_home w it w
+  none-given it e f g = record {
+    puts = sym (append-nil w.puts) ∙ ap (λ l. w.puts ++ map (given c at_home) l) (sym f);
+    folds = sym (append-nil w.folds) ∙ ap (λ l. w.folds ++ map (given c at_home) l) (sym e);
+    scalars = ap (list_all is_to_scalars) f;
+    nodes = ap (list_all is_to_nodes) e;
+    messages = refl;
+    fields = refl;
+    count = refl;
+    deferred = g;
+  }
+
+  gave-moved : (a b : Iteration) (u : VertexState) → SameGiven a b → HomeGave c at_home w b u → HomeGave c at_home w a u
+  gave-moved a b u same g = record {
+    puts = g.puts ∙ ap (λ l. w.puts ++ map (given c at_home) l) same.outermost;
+    folds = g.folds ∙ ap (λ l. w.folds ++ map (given c at_home) l) same.inner;
+    scalars = ap (list_all is_to_scalars) (sym same.outermost) ∙ g.scalars;
+    nodes = ap (list_all is_to_nodes) (sym same.inner) ∙ g.nodes;
     messages = g.messages;
     fields = g.fields;
     count = g.count;
-    deferred = sym alike.0.deferred ∙ g.deferred;
+    deferred = sym same.deferred ∙ g.deferred;
   }
 
-  ends-as : (f : Option Fault) → Ends v run sh Gave lines [] w out_held f → TurnEnds c v w out (run lines 0 w) f
-  ends-as None e = subst (λ a. TurnEnds c v w out a None) (sym (ap (λ ls. run ls 0 w) (sym (append-nil lines)) ∙ e.2)) (refl, gave-moved e.0 e.1.1)
-  ends-as (Some f) e = subst (λ a. TurnEnds c v w out a (Some f)) (sym (ap (λ ls. run ls 0 w) (sym (append-nil lines)) ∙ e.2)) (refl, gave-moved e.0 e.1)
+  abbrev home_out : Iteration
+  home_out = turn_at loop (AtEdge s.near.edge) key test (does body (AtEdge s.near.edge) loop) i s.near.node r
 
-  pub each-turn : TurnEnds c v w out (run lines 0 w) out.fault
-  each-turn = subst (λ f. TurnEnds c v w out (run lines 0 w) f) alike.0.fault (ends-as out_held.fault held-runs)
+  by-fault : (it : Iteration) (a : After) (f : Option Fault) → TurnAs at_home (λ x u. HomeGave c at_home w x u) it a f → TurnEnds c at_home w it a f
+  by-fault it a None e = e
+  by-fault it a (Some f) e = e
+
+  pub each-turn : TurnEnds c at_home w home_out (lines_after s (home_lines c seg loop.outer i kind key test body) 0 w) home_out.fault
+  each-turn =
+      by-fault home_out (lines_after s (home_lines c seg loop.outer i kind key test body) 0 w) home_out.fault
+      (turn-ends c seg registers fields loop i kind key test body s w r is-each shows (receiver_gives c loop.outer finds_here) able.fits (λ x u. HomeGave c at_home w x u) Anywhere tt
+      (home-holds c seg loop i s.node s.near.node s.near.edge (length registers) fields s w able.apart able.outer able.inner able.two able.types able.depths able.own)
+      none-given late-home gave-moved)
 
 pub each-turns : EachLinesAreTurns
 each-turns c seg registers fields loop i kind key test body s w r able shows = each-turn c seg registers fields loop i kind key test body s w r able shows

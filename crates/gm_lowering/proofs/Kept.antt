@@ -8,7 +8,6 @@ use Rattle.gm_ast.specs.declared.tree.Key.{Key}
 use Rattle.gm_ast.specs.declared.tree.Target.{Target}
 use Rattle.gm_ast.specs.declared.tree.Target.TheVariants as T
 use Rattle.gm_ast.specs.declared.tree.TotalKey.{TotalKey}
-use Rattle.gm_ast.specs.Keys as K
 use Rattle.gm_ast.specs.Program as S
 use Rattle.gm_ast.specs.Program.{Expr, Stmt}
 use Rattle.gm_forms.proofs.Named.{both-true}
@@ -32,7 +31,7 @@ pub record Gives (Good : Contribution → Type 0) (it : Iteration) : Type 0 wher
 module _ (c : Layout) (node : ℕ) (its : List ℕ) (at_once : Bool) (loop : Loop) (m : Mode) (found : Expr → Bool) (sets : ℕ → ℕ → Bool) (gives : Reduce → List Target → List Expr → Bool) (Good : Contribution → Type 0) (all : List Spot) (Holds : Iteration → Type 0)
     (holds : (st : Stmt) → is_body c found sets gives st ≡ true → (it : Iteration) → it.fault ≡ None → Holds it → Holds (does st m loop it))
     (reductions : (k : Key) (total : TotalKey) (r : Reduce) (ts : List Target) (es : List Expr) (it : Iteration) → gives r ts es ≡ true → Holds it
-    → ((f : K.Fault) → HasSpot f (reduce_spots at_once its (way_of c.declarations node ts) k total ts) → HasSpot f all) → Gives Good it → Gives Good (does (S.Combine k total r ts es) m loop it)) where
+    → ((f : Spot) → HasSpot f (reduce_spots at_once its (way_of c.declarations node ts) k total ts) → HasSpot f all) → Gives Good it → Gives Good (does (S.Combine k total r ts es) m loop it)) where
   with-gives : {A : Type 0} (it : Iteration) (r : Result A Fault) (next : A → Iteration) → Gives Good it → ((a : A) → Gives Good (next a)) → Gives Good (with_ok it r next)
   with-gives it (Ok a) next h go = go a
   with-gives it (Err f) next h go = record { outermost = h.outermost; inner = h.inner }
@@ -45,7 +44,7 @@ module _ (c : Layout) (node : ℕ) (its : List ℕ) (at_once : Bool) (loop : Loo
   way-gives true go other it h k = h
   way-gives false go other it h k = k
 
-  pub body-gives : (st : Stmt) → is_body c found sets gives st ≡ true → ((f : K.Fault) → HasSpot f (spots_of c node its at_once st) → HasSpot f all) → (it : Iteration) → it.fault ≡ None → Holds it → Gives Good it → Gives Good (does st m loop it)
+  pub body-gives : (st : Stmt) → is_body c found sets gives st ≡ true → ((f : Spot) → HasSpot f (spots_of c node its at_once st) → HasSpot f all) → (it : Iteration) → it.fault ≡ None → Holds it → Gives Good it → Gives Good (does st m loop it)
   body-gives S.Skip o i it n q h = h
   body-gives (S.Then a b) o i it n q h =
       let t = both-true (is_body c found sets gives a) (is_body c found sets gives b) o in

@@ -32,3 +32,8 @@ pub mod HomeSteps
 pub mod HomeLoops
 pub mod Registers
 pub mod Takings
+pub mod Made
+pub mod TakingSteps
+pub mod SenderTurns
+pub mod SenderSteps
+pub mod SenderSupersteps

@@ -6,8 +6,6 @@ use Rattle.gm_value.specs.declared.values.VType.{VType}
 use Rattle.gm_value.specs.declared.values.Value.{Value}
 use Rattle.gm_value.specs.Numbers.{zero_of}
 use Rattle.gm_ast.specs.declared.tree.Key.{Key}
-use Rattle.gm_ast.specs.declared.tree.Sort.TheVariants as Sorts
-use Rattle.gm_ast.specs.Names.{is}
 use Rattle.gm_ast.specs.Program as S
 use Rattle.gm_ast.specs.Program.{Expr}
 use Rattle.gm_forms.proofs.Named.{both-true}
@@ -15,14 +13,14 @@ use Rattle.gm_semantics.specs.Statements.{Run, State, variable_at, view_of}
 use Rattle.gm_image.specs.Term as M
 use Rattle.gm_machine.specs.Expressions.{value as term_value, value_at}
 use Rattle.gm_machine.specs.Machine.{Nodes, master_view}
-use Rattle.gm_lowering.specs.Layouts.{Layout, is_global, is_register}
+use Rattle.gm_lowering.specs.Layouts.{Layout, is_global, is_register, has_value}
 use Rattle.gm_lowering.specs.Places.{Segment}
 use Rattle.gm_lowering.specs.Masters.{phase_finds, PhaseTermsHaveValues}
 use Rattle.gm_lowering.specs.Phases.{NodesInGraph, Shown}
 use Rattle.gm_lowering.specs.Showing.{Tells}
 use Rattle.gm_lowering.specs.Sites.{phase_value}
 use Rattle.gm_lowering.specs.Terms.{Env, master_env, phase_scalar}
-use Rattle.gm_lowering.proofs.Own.{live-same, global-no_graph, global-no_register}
+use Rattle.gm_lowering.proofs.Own.{live-same, global-has_value, global-no_register}
 use Rattle.gm_lowering.proofs.Terms.{terms-have-values, live-has-its-value}
 
 module _ (c : Layout) (seg : Segment) (registers : List VType) (fields : ℕ) (globals : List Value) (nodes : Nodes) (run : Run) (state : State) (key : Key)
@@ -36,15 +34,15 @@ module _ (c : Layout) (seg : Segment) (registers : List VType) (fields : ℕ) (g
     by true = refl
     by false = refl
 
-  scalar-is : (x : ℕ) → x < length c.declarations → is_register (variable_at c.declarations x) ≡ false → is Sorts.Graph (variable_at c.declarations x) ≡ false → term_value (master_view run.graph globals) (v.scalar x) ≡ Ok (state.store.scalar x)
+  scalar-is : (x : ℕ) → x < length c.declarations → is_register (variable_at c.declarations x) ≡ false → has_value (variable_at c.declarations x) ≡ true → term_value (master_view run.graph globals) (v.scalar x) ≡ Ok (state.store.scalar x)
   scalar-is x lt e f = phase-term x ∙ ap Ok (shown.scalars x lt e f)
 
   pub tells : (e : Expr) → phase_finds c e ≡ true → Tells v (view_of run state key) (master_view run.graph globals) e
   tells (S.Const a) o = tt
   tells (S.Var x at) o =
-      let t = both-true (nat_lt x (length c.declarations)) (not (is_register (variable_at c.declarations x)) && not (is Sorts.Graph (variable_at c.declarations x))) o in
-      let u = both-true (not (is_register (variable_at c.declarations x))) (not (is Sorts.Graph (variable_at c.declarations x))) t.1 in
-      scalar-is x (ltb-true x (length c.declarations) t.0) (not-true (is_register (variable_at c.declarations x)) u.0) (not-true (is Sorts.Graph (variable_at c.declarations x)) u.1)
+      let t = both-true (nat_lt x (length c.declarations)) (not (is_register (variable_at c.declarations x)) && has_value (variable_at c.declarations x)) o in
+      let u = both-true (not (is_register (variable_at c.declarations x))) (has_value (variable_at c.declarations x)) t.1 in
+      scalar-is x (ltb-true x (length c.declarations) t.0) (not-true (is_register (variable_at c.declarations x)) u.0) (u.1)
   tells (S.Property x p at) o = absurd (both_ways false refl o)
   tells (S.EdgeProperty x p at) o = absurd (both_ways false refl o)
   tells (S.Degree d x at) o = absurd (both_ways false refl o)
@@ -53,7 +51,7 @@ module _ (c : Layout) (seg : Segment) (registers : List VType) (fields : ℕ) (g
   tells (S.Live x at) o =
       let t = both-true (nat_lt x (length c.declarations)) (is_global (variable_at c.declarations x)) o in
       let lt = ltb-true x (length c.declarations) t.0 in (
-        scalar-is x lt (global-no_register (variable_at c.declarations x) t.1) (global-no_graph (variable_at c.declarations x) t.1),
+        scalar-is x lt (global-no_register (variable_at c.declarations x) t.1) (global-has_value (variable_at c.declarations x) t.1),
         live-same v (view_of run state key) at (state.store.scalar x) (in_graph x lt t.1),
       )
   tells (S.Unary op at a) o = tells a o

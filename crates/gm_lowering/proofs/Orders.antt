@@ -1,5 +1,5 @@
 -- Within a segment the indices of places are in the order of faults.
-use Rattle.std.proofs.Common.{◌≡◌, ◌<◌, ◌≤◌, inl, inr, ℕ, zero, suc, Bool, true, false, cond, Some, List, [], ◌∷◌, length, refl, ap, ◌∙◌, sym, subst, arith, ⊎_elim}
+use Rattle.std.proofs.Common.{◌≡◌, ◌⊎◌, ◌<◌, ◌≤◌, inl, inr, ℕ, zero, suc, Bool, true, false, cond, Some, List, [], ◌∷◌, length, refl, ap, ◌∙◌, sym, subst, arith, ⊎_elim}
 use Rattle.std.specs.Prelude.{◌&&◌, ◌||◌, nat_lt, nat_eq, if◌then◌else◌, filter}
 use Rattle.std.proofs.lemmas.Bool.{both_ways, lt-ltb, le-ltb, eqb-true, eq-eqb, ne_eqb}
 use Rattle.std.proofs.lemmas.Bool.Decides.{nat_tests}
@@ -20,7 +20,7 @@ use Rattle.gm_machine.specs.Faults.{is_earlier, lesser}
 use Rattle.gm_lowering.specs.Places.{Spot, Segment, segment, spot_lt, spot_at, inserted, ascending, place_index}
 use Rattle.gm_lowering.specs.Terms.{Env}
 use Rattle.gm_lowering.specs.Showing.{fault_of}
-use Rattle.gm_lowering.specs.Settles.{HasSpot}
+use Rattle.gm_lowering.specs.Settles.{HasSpot, spot_of_fault}
 
 -- where a fault stands, as numbers
 abbrev pub rank4 : K.Fault → List ℕ
@@ -116,41 +116,50 @@ kept-one-more p q (x ∷ xs) m h i e f = by (p x) (q x) refl refl (λ j. kept-on
       → length (cond b (x ∷ filter p xs) (filter p xs)) < length (cond d (x ∷ filter q xs) (filter q xs))
   by b d g k go = ⊎_elim (λ (j : m ≡ x). here j b d g k) (λ (j : IsIn m xs). there (go j) b d g k) i
 
-inserted-first : (s : Spot) (xs : List Spot) → HasSpot s.fault (inserted s xs)
+-- a spot of a fault
+abbrev pub HasFault : K.Fault → List Spot → Type 0
+HasFault f [] = ⊥
+HasFault f (s ∷ ss) = (s.fault ≡ f) ⊎ HasFault f ss
+
+pub fault-has : (z : Spot) (spots : List Spot) → HasSpot z spots → HasFault z.fault spots
+fault-has z [] h = h
+fault-has z (s ∷ ss) h = ⊎_elim (λ (e : s ≡ z). inl (ap (λ t. t.fault) e)) (λ (j : HasSpot z ss). inr (fault-has z ss j)) h
+
+inserted-first : (s : Spot) (xs : List Spot) → HasFault s.fault (inserted s xs)
 inserted-first s [] = inl refl
 inserted-first s (x ∷ xs) = by (spot_lt s x) (spot_lt x s) refl refl (inserted-first s xs) where
-  by : (b d : Bool) → spot_lt s x ≡ b → spot_lt x s ≡ d → HasSpot s.fault (inserted s xs) → HasSpot s.fault (if b then s ∷ (x ∷ xs) else (if d then x ∷ inserted s xs else x ∷ xs))
+  by : (b d : Bool) → spot_lt s x ≡ b → spot_lt x s ≡ d → HasFault s.fault (inserted s xs) → HasFault s.fault (if b then s ∷ (x ∷ xs) else (if d then x ∷ inserted s xs else x ∷ xs))
   by true d e f rest = inl refl
   by false true e f rest = inr rest
   by false false e f rest = inl (lt-tie x.fault s.fault f e)
 
-inserted-more : (s : Spot) (xs : List Spot) (f : K.Fault) → HasSpot f xs → HasSpot f (inserted s xs)
+inserted-more : (s : Spot) (xs : List Spot) (f : K.Fault) → HasFault f xs → HasFault f (inserted s xs)
 inserted-more s [] f h = absurd h
 inserted-more s (x ∷ xs) f h = by (spot_lt s x) (spot_lt x s) (λ j. inserted-more s xs f j) where
-  by : (b d : Bool) → (HasSpot f xs → HasSpot f (inserted s xs)) → HasSpot f (if b then s ∷ (x ∷ xs) else (if d then x ∷ inserted s xs else x ∷ xs))
+  by : (b d : Bool) → (HasFault f xs → HasFault f (inserted s xs)) → HasFault f (if b then s ∷ (x ∷ xs) else (if d then x ∷ inserted s xs else x ∷ xs))
   by true d go = inr h
-  by false true go = ⊎_elim (λ (e : x.fault ≡ f). inl e) (λ (j : HasSpot f xs). inr (go j)) h
+  by false true go = ⊎_elim (λ (e : x.fault ≡ f). inl e) (λ (j : HasFault f xs). inr (go j)) h
   by false false go = h
 
-pub ascending-has : (f : K.Fault) (spots : List Spot) → HasSpot f spots → HasSpot f (ascending spots)
+pub ascending-has : (f : K.Fault) (spots : List Spot) → HasFault f spots → HasFault f (ascending spots)
 ascending-has f [] h = h
 ascending-has f (s ∷ ss) h =
     ⊎_elim
-    (λ (e : s.fault ≡ f). subst (λ x. HasSpot x (inserted s (ascending ss))) e (inserted-first s (ascending ss)))
-    (λ (j : HasSpot f ss). inserted-more s (ascending ss) f (ascending-has f ss j))
+    (λ (e : s.fault ≡ f). subst (λ x. HasFault x (inserted s (ascending ss))) e (inserted-first s (ascending ss)))
+    (λ (j : HasFault f ss). inserted-more s (ascending ss) f (ascending-has f ss j))
     h
 
-pub spot-in : (f : K.Fault) (spots : List Spot) → HasSpot f spots → (s : Spot) × (s.fault ≡ f) × IsIn s spots
+pub spot-in : (f : K.Fault) (spots : List Spot) → HasFault f spots → (s : Spot) × (s.fault ≡ f) × IsIn s spots
 spot-in f [] h = absurd h
 spot-in f (s ∷ ss) h =
-    ⊎_elim (λ (e : s.fault ≡ f). (s, e, inl refl)) (λ (j : HasSpot f ss). let q = spot-in f ss j in (q.0, q.1, inr q.2)) h
+    ⊎_elim (λ (e : s.fault ≡ f). (s, e, inl refl)) (λ (j : HasFault f ss). let q = spot-in f ss j in (q.0, q.1, inr q.2)) h
 
 -- a fault's index
 abbrev pub index_of : Segment → K.Fault → ℕ
 index_of g f = place_index g f.key f.place
 
 -- a fault that has a spot and comes before another has a lesser index
-pub index-order : (base : ℕ) (spots : List Spot) (f g : K.Fault) → HasSpot f spots → fault_lt f g ≡ true → index_of (segment base spots) f < index_of (segment base spots) g
+pub index-order : (base : ℕ) (spots : List Spot) (f g : K.Fault) → HasFault f spots → fault_lt f g ≡ true → index_of (segment base spots) f < index_of (segment base spots) g
 index-order base spots f g h lt =
     let all = ascending spots in
     let q = spot-in f all (ascending-has f spots h) in
@@ -225,13 +234,13 @@ module _ (v : Env) (base : ℕ) (spots : List Spot) (places : v.place ≡ place_
   place-of : (f : Fault) → (fault_of v f).place ≡ index_of (segment base spots) (named f)
   place-of f = ap (λ p. p f.key f.place) places
 
-  pub lesser-lower : (f g : Fault) → HasSpot (named f) spots → HasSpot (named g) spots → lesser (Some (fault_of v f)) (Some (fault_of v g)) ≡ Some (fault_of v (lower f g))
+  pub lesser-lower : (f g : Fault) → HasSpot (spot_of_fault f) spots → HasSpot (spot_of_fault g) spots → lesser (Some (fault_of v f)) (Some (fault_of v g)) ≡ Some (fault_of v (lower f g))
   lesser-lower f g h k = by (fault_lt (named f) (named g)) (fault_lt (named g) (named f)) refl refl where
     picks : (b d : Bool) → is_earlier (fault_of v g) (fault_of v f) ≡ b → comes_before (rank_of g) (rank_of f) ≡ b → lesser (Some (fault_of v f)) (Some (fault_of v g)) ≡ Some (fault_of v (lower f g))
     picks true d e i = ap (λ x. if x then Some (fault_of v g) else Some (fault_of v f)) e ∙ ap (λ x. Some (fault_of v x)) (sym (lower-second f g i))
     picks false d e i = ap (λ x. if x then Some (fault_of v g) else Some (fault_of v f)) e ∙ ap (λ x. Some (fault_of v x)) (sym (lower-first f g i))
 
-    less : (x y : Fault) → HasSpot (named x) spots → fault_lt (named x) (named y) ≡ true → (fault_of v x).place < (fault_of v y).place
+    less : (x y : Fault) → HasFault (named x) spots → fault_lt (named x) (named y) ≡ true → (fault_of v x).place < (fault_of v y).place
     less x y o e = subst (λ a. a < (fault_of v y).place) (sym (place-of x)) (subst (λ b. index_of (segment base spots) (named x) < b) (sym (place-of y)) (index-order base spots (named x) (named y) o e))
 
     tie : named f ≡ named g → lesser (Some (fault_of v f)) (Some (fault_of v g)) ≡ Some (fault_of v (lower f g))
@@ -261,6 +270,6 @@ module _ (v : Env) (base : ℕ) (spots : List Spot) (places : v.place ≡ place_
                 either false p w = ap (λ x. Some (fault_of v x)) (sym (lower-first f g p))
 
     by : (b d : Bool) → fault_lt (named f) (named g) ≡ b → fault_lt (named g) (named f) ≡ d → lesser (Some (fault_of v f)) (Some (fault_of v g)) ≡ Some (fault_of v (lower f g))
-    by true d e i = picks false true (earlier-lt (fault_of v f) (fault_of v g) (less f g h e)).1 (fault-order f g e)
-    by false true e i = picks true true (earlier-lt (fault_of v g) (fault_of v f) (less g f k i)).0 (fault-before g f i)
+    by true d e i = picks false true (earlier-lt (fault_of v f) (fault_of v g) (less f g (fault-has (spot_of_fault f) spots h) e)).1 (fault-order f g e)
+    by false true e i = picks true true (earlier-lt (fault_of v g) (fault_of v f) (less g f (fault-has (spot_of_fault g) spots k) i)).0 (fault-before g f i)
     by false false e i = tie (lt-tie (named f) (named g) e i)

@@ -3,7 +3,7 @@ use Rattle.std.proofs.Common.{◌≡◌, ◌<◌, ℕ, Bool, true, false, Option
 use Rattle.std.specs.Prelude.{if◌then◌else◌, ◌&&◌, ◌||◌, not, nat_eq, nat_lt, slice_set, pos}
 use Rattle.std.specs.List.{list_all, list_any}
 use Rattle.std.proofs.lemmas.List.{get_or-set_same, get_or-set_other, length-set}
-use Rattle.std.proofs.lemmas.Bool.{both_ways, eqb-true, eqb-false, ne_eqb, eq-eqb, ltb-true, lt-ltb, not-true}
+use Rattle.std.proofs.lemmas.Bool.{both_ways, eqb-true, eqb-false, ne_eqb, eq-eqb, ltb-true, lt-ltb}
 use Rattle.gm_base.specs.declared.places.Place.{Place}
 use Rattle.gm_value.specs.declared.values.Value.{Value}
 use Rattle.gm_value.specs.declared.values.Value.TheVariants.{I32, I64, Flag, At}
@@ -17,11 +17,10 @@ use Rattle.gm_ast.specs.declared.tree.Sort.TheVariants as Sorts
 use Rattle.gm_ast.specs.declared.tree.Target.{Target}
 use Rattle.gm_ast.specs.declared.tree.Target.TheVariants as T
 use Rattle.gm_ast.specs.declared.tree.TotalKey.{TotalKey}
-use Rattle.gm_ast.specs.declared.tree.Sort.{Sort}
 use Rattle.gm_ast.specs.declared.tree.Variable.{Variable}
-use Rattle.gm_ast.specs.Names.{is, sort_eq}
+use Rattle.gm_ast.specs.Names.{is}
 use Rattle.gm_ast.specs.Program as S
-use Rattle.gm_ast.specs.Program.{Expr, Stmt}
+use Rattle.gm_ast.specs.Program.{Expr}
 use Rattle.gm_ast.specs.Ways.{is_in}
 use Rattle.gm_forms.proofs.Named.{both-true}
 use Rattle.gm_semantics.specs.Statements.{variable_at}
@@ -39,7 +38,7 @@ use Rattle.gm_image.specs.Program.{Line, SetField}
 use Rattle.gm_machine.specs.Expressions.{value as term_value, value_at, live}
 use Rattle.gm_machine.specs.Vertex.{VertexContext, VertexState, After, view, line_ends, leaves, goes_on, body_after}
 use Rattle.gm_machine.proofs.BagLemmas.{map-push}
-use Rattle.gm_lowering.specs.Layouts.{Layout, is_global, is_register}
+use Rattle.gm_lowering.specs.Layouts.{Layout, is_global, is_register, has_value}
 use Rattle.gm_lowering.specs.Places.{Segment}
 use Rattle.gm_lowering.specs.Terms.{Env, term, phase_scalar, vertex_scalar, own_degree, own_env}
 use Rattle.gm_lowering.specs.Plans.{Puts, Folds, Sends, Picks, is_property_of, is_property_off, way_of}
@@ -49,7 +48,7 @@ use Rattle.gm_lowering.specs.Showing.{answer_of, Tells}
 use Rattle.gm_lowering.specs.Sites.{are_of_scalars, finds_scalar, finds_node, same_length, is_local, given, phase_value, IsInGraph, IsApart, OwnShows, OwnGave}
 use Rattle.gm_lowering.specs.OwnLoops.{is_declared, own_finds, own_sets, puts_to_scalars}
 use Rattle.gm_lowering.proofs.Terms.{rest-term, hoisted-parallel}
-use Rattle.gm_lowering.proofs.Bodies.{Ends as Ending, Holds}
+use Rattle.gm_lowering.proofs.Bodies.{Ends as Ending, Holds, Anywhere}
 use Rattle.gm_lowering.proofs.Givens.{AllTell, are_scalars, put-ends}
 
 -- a slot of a list that is set
@@ -79,16 +78,9 @@ phase-term c s w x = by (is_global (variable_at c.declarations x)) where
   by true = refl
   by false = refl
 
--- scalars of the procedure are neither the graph nor locals
-pub global-no_graph : (x : Variable) → is_global x ≡ true → is Sorts.Graph x ≡ false
-global-no_graph x h = by x.sort (both-true (nat_eq x.depth 0) (is Sorts.Scalar x || is Sorts.Iterator x) h).1 where
-  by : (sort : Sort) → sort_eq Sorts.Scalar sort || sort_eq Sorts.Iterator sort ≡ true → sort_eq Sorts.Graph sort ≡ false
-  by Sorts.Graph e = absurd (both_ways false refl e)
-  by Sorts.Iterator e = refl
-  by Sorts.Scalar e = refl
-  by Sorts.Edge e = refl
-  by Sorts.NodeProperty e = refl
-  by Sorts.EdgeProperty e = refl
+-- scalars of the procedure have values and are no locals
+pub global-has_value : (x : Variable) → is_global x ≡ true → has_value x ≡ true
+global-has_value x h = (both-true (nat_eq x.depth 0) (has_value x) h).1
 
 pub global-no_register : (x : Variable) → is_global x ≡ true → is_register x ≡ false
 global-no_register x h =
@@ -117,20 +109,20 @@ module _ (c : Layout) (seg : Segment) (loop : Loop) (n k registers fields places
   -- a scalar is found
   scalar-is : (it : Iteration) (w : VertexState) (x : ℕ) → finds_scalar c (n ∷ []) x ≡ true → Shows it w → term_value (view s w) (v.scalar x) ≡ Ok (it.store.scalar x)
   scalar-is it w x o q = by (nat_eq x n) refl where
-    other : (b : Bool) → is_register (variable_at c.declarations x) ≡ b → nat_eq x n ≡ false → nat_lt x (length c.declarations) && not (is Sorts.Graph (variable_at c.declarations x)) ≡ true
+    other : (b : Bool) → is_register (variable_at c.declarations x) ≡ b → nat_eq x n ≡ false → nat_lt x (length c.declarations) && has_value (variable_at c.declarations x) ≡ true
         → term_value (view s w) (if b then M.Register (c.register x) else phase_scalar c x) ≡ Ok (it.store.scalar x)
     other true e f d =
-        let t = both-true (nat_lt x (length c.declarations)) (not (is Sorts.Graph (variable_at c.declarations x))) d in
+        let t = both-true (nat_lt x (length c.declarations)) (has_value (variable_at c.declarations x)) d in
         ap Ok (q.0.locals x (ltb-true x (length c.declarations) t.0) e)
     other false e f d =
-        let t = both-true (nat_lt x (length c.declarations)) (not (is Sorts.Graph (variable_at c.declarations x))) d in
-        phase-term c s w x ∙ ap Ok (q.0.phase x f (ltb-true x (length c.declarations) t.0) e (not-true (is Sorts.Graph (variable_at c.declarations x)) t.1))
+        let t = both-true (nat_lt x (length c.declarations)) (has_value (variable_at c.declarations x)) d in
+        phase-term c s w x ∙ ap Ok (q.0.phase x f (ltb-true x (length c.declarations) t.0) e t.1)
 
     by : (b : Bool) → nat_eq x n ≡ b → term_value (view s w) (if b then M.Self else vertex_scalar c x) ≡ Ok (it.store.scalar x)
     by true e = ap (λ j. Ok (At (Some j))) q.0.node ∙ ap Ok (sym q.0.at_node) ∙ ap (λ y. Ok (it.store.scalar y)) (sym (eqb-true x n e))
     by false e =
         other (is_register (variable_at c.declarations x)) refl e
-        (or-false (nat_eq x n || false) (nat_lt x (length c.declarations) && not (is Sorts.Graph (variable_at c.declarations x))) (ap (λ b. b || false) e) o)
+        (or-false (nat_eq x n || false) (nat_lt x (length c.declarations) && has_value (variable_at c.declarations x)) (ap (λ b. b || false) e) o)
 
   -- what stands at the iterator's node
   here : (it : Iteration) (w : VertexState) (u : View) (x : ℕ) (at : Place) (f : ℕ → Value) → u.graph ≡ loop.graph → u.store ≡ it.store → is_in (n ∷ []) x ≡ true → Shows it w
@@ -176,7 +168,7 @@ module _ (c : Layout) (seg : Segment) (loop : Loop) (n k registers fields places
     globals : (b : Bool) → is_register (variable_at c.declarations x) ≡ b → nat_eq x n ≡ false → x < length c.declarations → is_global (variable_at c.declarations x) ≡ true
         → term_value (view s w) (if b then M.Register (c.register x) else phase_scalar c x) ≡ Ok (it.store.scalar x)
     globals true e f lt g = ap Ok (q.0.locals x lt e)
-    globals false e f lt g = phase-term c s w x ∙ ap Ok (q.0.phase x f lt e (global-no_graph (variable_at c.declarations x) g))
+    globals false e f lt g = phase-term c s w x ∙ ap Ok (q.0.phase x f lt e (global-has_value (variable_at c.declarations x) g))
 
     by : (b : Bool) → nat_eq x n ≡ b → term_value (view s w) (if b then M.Self else vertex_scalar c x) ≡ Ok (it.store.scalar x)
     by true e = ap (λ j. Ok (At (Some j))) q.0.node ∙ ap Ok (sym q.0.at_node) ∙ ap (λ y. Ok (it.store.scalar y)) (sym (eqb-true x n e))
@@ -375,7 +367,7 @@ module _ (c : Layout) (seg : Segment) (loop : Loop) (n k registers fields places
         puts-way us e = ap (λ b. if b then Puts else (if list_all (is_property_of n) us then Folds else (if list_any (is_property_off n) us then Sends else Picks))) e
 
   -- an own site holds
-  pub own-holds : Holds (own_site c seg n) loop Outermost s run Shows (OwnGave c v) (own_finds c n) (own_sets c n) (puts_to_scalars c (own_finds c n))
+  pub own-holds : Holds (own_site c seg n) loop Outermost s run Shows (OwnGave c v) (own_finds c n) (own_sets c n) (puts_to_scalars c (own_finds c n)) Anywhere
   own-holds = record {
     type_is = type_is;
     skipped = λ l ls j w. refl;
@@ -387,5 +379,9 @@ module _ (c : Layout) (seg : Segment) (loop : Loop) (n k registers fields places
     tells = tells;
     local = local;
     property = property;
-    reduce = reduce;
+    placed_first = λ kind a b h. tt;
+    placed_second = λ kind a b h. tt;
+    placed_yes = λ kind k e a b h. tt;
+    placed_no = λ kind k e a b h. tt;
+    reduce = λ kind key total r ts es it w rest o h q. reduce kind key total r ts es it w rest o q;
   }

@@ -23,13 +23,13 @@ use Rattle.gm_image.specs.Program as image
 use Rattle.gm_machine.specs.Machine.{Nodes, context_at, block_at, superstep}
 use Rattle.gm_machine.specs.Vertex.{After, vertex_after}
 use Rattle.gm_lowering.specs.Layouts.{Layout, is_register}
-use Rattle.gm_lowering.specs.Places.{Spot, Segment, segment, ascending, spots_in}
+use Rattle.gm_lowering.specs.Places.{Spot, Segment, segment, spots_in}
 use Rattle.gm_lowering.specs.Terms.{Env, own_env}
 use Rattle.gm_lowering.specs.Bodies.{spots_of}
 use Rattle.gm_lowering.specs.OwnLoops.{own_finds, own_sets, puts_to_scalars, own_block, IsOwnLoop, NodeShows, StepEnds}
 use Rattle.gm_lowering.specs.Phases.{GlobalsApart, NodesInGraph, Shown, StepIs, GivesApart, given_in, own_spots, OwnLoopsAreSupersteps}
+use Rattle.gm_lowering.specs.Settles.{spot_of_fault, HaveRoom}
 use Rattle.gm_lowering.proofs.Kept.{Gives, body-gives}
-use Rattle.gm_lowering.proofs.Orders.{named}
 use Rattle.gm_lowering.proofs.OwnSteps.{own-steps}
 use Rattle.gm_lowering.proofs.PutFacts.{IsPut, put-left, put-gives}
 use Rattle.gm_lowering.proofs.Spots.{Has, HoldNodes, Left, Within, spot-left, spot-right, has-right, reads, value-within, body-left}
@@ -38,7 +38,7 @@ use Rattle.gm_lowering.proofs.Supersteps.{loop-of-steps}
 module _ (c : Layout) (p : image.Program) (fields base q kind : ℕ) (loop : Loop) (key : Key) (test : Expr) (body : Stmt) (globals : List Value) (s : Nodes) (r : Store)
     (able : IsOwnLoop c p.registers fields loop test body)
     (gs : GlobalsApart c (length globals))
-    (fit : base + length (ascending (own_spots c loop.outer key test body)) ≤ length p.places)
+    (fit : HaveRoom base (own_spots c loop.outer key test body) (length p.places))
     (block : block_at p q ≡ own_block c (segment base (own_spots c loop.outer key test body)) loop.outer kind key test body)
     (shown : Shown c p.registers fields loop.graph globals s r)
     (in_graph : NodesInGraph c loop.graph r)
@@ -132,9 +132,9 @@ module _ (c : Layout) (p : image.Program) (fields base q kind : ℕ) (loop : Loo
     by : (a : Result Value Fault) → Within a (spots_in test key)
         → Has (with_ok start a (λ z. one_way (is_true z) (does body Outermost loop) as_it_is start)).fault all × Gives (IsPut c all) (with_ok start a (λ z. one_way (is_true z) (does body Outermost loop) as_it_is start))
     by (Ok z) w = way (is_true z)
-    by (Err f) w = (spot-left (named f) (spots_in test key) body_spots w, record { outermost = λ x i. absurd i; inner = λ x i. absurd i })
+    by (Err f) w = (spot-left (spot_of_fault f) (spots_in test key) body_spots w, record { outermost = λ x i. absurd i; inner = λ x i. absurd i })
 
-  pub own-loop : StepIs c v p.registers fields g globals (parallel loop key test body (nodes g) r) (superstep p g q globals s)
+  pub own-loop : StepIs c v all p.registers fields g globals (parallel loop key test body (nodes g) r) (superstep p g q globals s)
   own-loop =
       loop-of-steps c p fields base q loop all (own_block c seg n kind key test body) key test body globals s r gs fit block shown apart ends
       (λ k lt. let t = iteration-left k lt in (t.0, t.1.outermost))

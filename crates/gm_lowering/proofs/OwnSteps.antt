@@ -38,7 +38,7 @@ use Rattle.gm_lowering.specs.OwnLoops.{own_finds, own_sets, puts_to_scalars, own
 use Rattle.gm_lowering.proofs.Own.{Shows, own-holds}
 use Rattle.gm_lowering.proofs.Bodies.{Ends, Holds, past, skips, skip-faults, value-of, ends-by, body-ends}
 
-module _ (site : Site) (loop : Loop) (m : Mode) (s : VertexContext) (run : List Line → ℕ → VertexState → After) (Shows Gave : Iteration → VertexState → Type 0) (found : Expr → Bool) (sets : ℕ → ℕ → Bool) (gives : Reduce → List Target → List Expr → Bool) (h : Holds site loop m s run Shows Gave found sets gives) where
+module _ (site : Site) (loop : Loop) (m : Mode) (s : VertexContext) (run : List Line → ℕ → VertexState → After) (Shows Gave : Iteration → VertexState → Type 0) (found : Expr → Bool) (sets : ℕ → ℕ → Bool) (gives : Reduce → List Target → List Expr → Bool) {Placed : ℕ → Stmt → Type 0} (h : Holds site loop m s run Shows Gave found sets gives Placed) where
   abbrev Ending : List Line → List Line → VertexState → Iteration → Option Fault → Type 0
   Ending = Ends site.env run Shows Gave
 
@@ -96,13 +96,13 @@ module _ (site : Site) (loop : Loop) (m : Mode) (s : VertexContext) (run : List 
   under-ends ls rest w t r go it o e q = head-ends ls rest w t r go it o e q
 
   -- the lines of a body under its filter
-  pub filtered-ends : (key : Key) (test : Expr) (body : Stmt) (kind : ℕ) → found test ≡ true → is_body site.layout found sets gives body ≡ true → (it : Iteration) (w : VertexState) (rest : List Line) → Shows it w
+  pub filtered-ends : (key : Key) (test : Expr) (body : Stmt) (kind : ℕ) → found test ≡ true → is_body site.layout found sets gives body ≡ true → Placed kind body → (it : Iteration) (w : VertexState) (rest : List Line) → Shows it w
       → let out = with_ok it (value test (view_in loop m it key)) (λ z. one_way (is_true z) (does body m loop) as_it_is it) in
       Ending (under (term site.env key test) (lines_of site kind body)) rest w out out.fault
-  filtered-ends key test body kind o i it w rest q =
+  filtered-ends key test body kind o i here it w rest q =
       under-ends (lines_of site kind body) rest w (term site.env key test) (value test (view_in loop m it key)) (does body m loop) it q
       (value-of site loop m s run Shows Gave found sets gives h it w key test o q)
-      (body-ends site loop m s run Shows Gave found sets gives h body kind i it w rest q)
+      (body-ends site loop m s run Shows Gave found sets gives h body kind i here it w rest q)
 
 -- a vertex with no handlers and no messages begins with its body
 pub body-alone : (p : image.Program) (s : VertexContext) (body : List Line) (fields : List Value)
@@ -176,7 +176,7 @@ module _ (c : Layout) (seg : Segment) (p : image.Program) (fields : ℕ) (loop :
       ends-as out.fault (
       filtered-ends (own_site c seg n) loop Outermost s (body_after (length p.places) s) sh (OwnGave c v) (own_finds c n) (own_sets c n) (puts_to_scalars c (own_finds c n))
       (own-holds c seg loop n k (length p.registers) fields (length p.places) s is.apart is.iterator is.types is.depths)
-      key test body kind is.found is.fits start first [] begins)
+      key test body kind is.found is.fits tt start first [] begins)
 
 pub own-steps : OwnStepsAreIterations
 own-steps c seg p fields loop kind key test body globals values k r is shows = own-step c seg p fields loop kind key test body globals values k r is shows

@@ -10,7 +10,6 @@ use Rattle.gm_ast.specs.declared.tree.Key.{Key}
 use Rattle.gm_ast.specs.declared.tree.Target.{Target}
 use Rattle.gm_ast.specs.declared.tree.Target.TheVariants as T
 use Rattle.gm_ast.specs.declared.tree.TotalKey.{TotalKey}
-use Rattle.gm_ast.specs.Keys as K
 use Rattle.gm_ast.specs.Program as S
 use Rattle.gm_ast.specs.Program.{Expr}
 use Rattle.gm_forms.proofs.Named.{both-true}
@@ -23,7 +22,7 @@ use Rattle.gm_semantics.specs.Faults.{then_with}
 use Rattle.gm_semantics.specs.Iterations.{Loop, Mode, Iteration, view_in, with_ok, contribution, gave_outermost, reduced, does}
 use Rattle.gm_semantics.specs.Statements.{variable_at}
 use Rattle.gm_lowering.specs.Layouts.{Layout, is_global}
-use Rattle.gm_lowering.specs.Places.{Spot, spots_in_all}
+use Rattle.gm_lowering.specs.Places.{Spot, spots_in_all, spot_of_total}
 use Rattle.gm_lowering.specs.Plans.{Puts, Folds, Sends, Picks, is_property_of, is_property_off, way_of}
 use Rattle.gm_lowering.specs.Bodies.{reduce_spots}
 use Rattle.gm_lowering.specs.OwnLoops.{is_declared, puts_to_scalars}
@@ -42,7 +41,7 @@ here c (slots.Node p n) = false
 pub record IsPut (c : Layout) (spots : List Spot) (x : Contribution) : Type 0 where
   pub here_all : list_all (here c) x.slots ≡ true
   pub not_empty : is_some_list x.slots ≡ true
-  pub spotted : HasSpot (K.total_fault x.total) spots
+  pub spotted : HasSpot (spot_of_total x.total) spots
 
 slots-here : (c : Layout) (ts : List Target) → are_scalars c ts ≡ true → list_all (is_declared c) ts ≡ true → list_all (here c) (scalar_slots ts) ≡ true
 slots-here c [] o d = refl
@@ -100,7 +99,7 @@ module _ (c : Layout) (its : List ℕ) (edge at_once : Bool) (node : ℕ) (loop 
   -- and what is given is a contribution to scalars of the procedure, which is good where each such one is
   pub put-gives-at : (all : List Spot) (Good : Contribution → Type 0) → ((x : Contribution) → IsPut c all x → Good x)
       → (k : Key) (total : TotalKey) (r : Reduce) (ts : List Target) (es : List Expr) (it : Iteration) → puts_to_scalars c (finds c its edge) r ts es ≡ true → HoldNodes loop.graph its home it
-      → ((f : K.Fault) → HasSpot f (reduce_spots at_once its (way_of c.declarations node ts) k total ts) → HasSpot f all)
+      → ((f : Spot) → HasSpot f (reduce_spots at_once its (way_of c.declarations node ts) k total ts) → HasSpot f all)
       → Gives Good it → Gives Good (does (S.Combine k total r ts es) m loop it)
   put-gives-at all Good good k total r [] es it o n i h = absurd (both_ways false refl o)
   put-gives-at all Good good k total r (t ∷ ts) es it o n i h =
@@ -108,12 +107,12 @@ module _ (c : Layout) (its : List ℕ) (edge at_once : Bool) (node : ℕ) (loop 
       let z = both-true (list_all (is_declared c) (t ∷ ts)) (same_length (t ∷ ts) es && list_all (finds c its edge) es) x.1 in
       let y = both-true (same_length (t ∷ ts) es) (list_all (finds c its edge) es) z.1 in
       let a = all-read c its edge loop m home it k es y.1 n in
-      let spot : HasSpot (K.total_fault total) all = i (K.total_fault total) (subst (λ w. HasSpot (K.total_fault total) (reduce_spots at_once its w k total (t ∷ ts))) (sym (puts-way c node (t ∷ ts) x.0)) (inl refl)) in
+      let spot : HasSpot (spot_of_total total) all = i (spot_of_total total) (subst (λ w. HasSpot (spot_of_total total) (reduce_spots at_once its w k total (t ∷ ts))) (sym (puts-way c node (t ∷ ts) x.0)) (inl refl)) in
       subst (Gives Good) (sym (does-put k total r t ts es it x.0 a))
       (put-gives-by Good total r (scalar_slots (t ∷ ts)) (evaluated_all es (view_in loop m it k)).rest it
       (λ vs. good (contribution total r (scalar_slots (t ∷ ts), vs)) (record { here_all = slots-here c (t ∷ ts) x.0 z.0; not_empty = some-slots c t ts x.0; spotted = spot })) h)
 
   pub put-gives : (all : List Spot) (k : Key) (total : TotalKey) (r : Reduce) (ts : List Target) (es : List Expr) (it : Iteration) → puts_to_scalars c (finds c its edge) r ts es ≡ true → HoldNodes loop.graph its home it
-      → ((f : K.Fault) → HasSpot f (reduce_spots at_once its (way_of c.declarations node ts) k total ts) → HasSpot f all)
+      → ((f : Spot) → HasSpot f (reduce_spots at_once its (way_of c.declarations node ts) k total ts) → HasSpot f all)
       → Gives (IsPut c all) it → Gives (IsPut c all) (does (S.Combine k total r ts es) m loop it)
   put-gives all k total r ts es it o n i h = put-gives-at all (IsPut c all) (λ x g. g) k total r ts es it o n i h

@@ -3,7 +3,7 @@ use Rattle.std.proofs.Common.{◌≡◌, ◌<◌, ℕ, suc, Bool, true, false, c
 use Rattle.std.specs.Prelude.{if◌then◌else◌, ◌&&◌, ◌||◌, not, nat_eq, nat_lt, slice_set, pos, filter}
 use Rattle.std.specs.List.{list_all, list_any}
 use Rattle.std.proofs.lemmas.List.{length-set, append-nil}
-use Rattle.std.proofs.lemmas.Bool.{both_ways, eqb-true, eqb-false, ne_eqb, eq-eqb, ltb-true, not-true}
+use Rattle.std.proofs.lemmas.Bool.{both_ways, eqb-true, eqb-false, ne_eqb, eq-eqb, ltb-true}
 use Rattle.gm_base.specs.declared.places.Place.{Place}
 use Rattle.gm_value.specs.declared.values.VType.{VType}
 use Rattle.gm_value.specs.declared.values.Value.{Value}
@@ -14,12 +14,10 @@ use Rattle.gm_model.specs.Graphs.{node_count, out_steps, in_steps}
 use Rattle.gm_ast.specs.declared.tree.Direction.{Direction}
 use Rattle.gm_ast.specs.declared.tree.Direction.TheVariants.{Out, In}
 use Rattle.gm_ast.specs.declared.tree.Key.{Key}
-use Rattle.gm_ast.specs.declared.tree.Sort.TheVariants as Sorts
 use Rattle.gm_ast.specs.declared.tree.Stage.TheVariants.{Operator}
 use Rattle.gm_ast.specs.declared.tree.Target.{Target}
 use Rattle.gm_ast.specs.declared.tree.Target.TheVariants as T
 use Rattle.gm_ast.specs.declared.tree.TotalKey.{TotalKey}
-use Rattle.gm_ast.specs.Names.{is}
 use Rattle.gm_ast.specs.Program as S
 use Rattle.gm_ast.specs.Program.{Expr, Stmt}
 use Rattle.gm_ast.specs.Ways.{is_in}
@@ -43,7 +41,7 @@ use Rattle.gm_machine.specs.Expressions.{value as term_value, values, value_at}
 use Rattle.gm_machine.specs.Faults.{then_go}
 use Rattle.gm_machine.specs.Taking.{Contribution as Given, contributed}
 use Rattle.gm_machine.specs.Vertex.{VertexContext, VertexState, After, view, gives, line_ends, leaves, goes_on, lines_after, begun as begin}
-use Rattle.gm_lowering.specs.Layouts.{Layout, is_global, is_register}
+use Rattle.gm_lowering.specs.Layouts.{Layout, is_global, is_register, has_value}
 use Rattle.gm_lowering.specs.Places.{Segment}
 use Rattle.gm_lowering.specs.Terms.{Env, term, phase_scalar, vertex_scalar, own_degree, own_env}
 use Rattle.gm_lowering.specs.Plans.{Load, SenderItself, SenderProperty, SenderDegree, EdgeValue, load_if, loads_in, Folds, Sends, Picks, is_property_of, is_property_off, way_of}
@@ -53,9 +51,9 @@ use Rattle.gm_lowering.specs.Showing.{answer_of, Tells}
 use Rattle.gm_lowering.specs.Sites.{are_of_scalars, finds, finds_scalar, finds_node, same_length, is_local, slot_at, given, phase_value, IsInGraph, HoldLocals, HoldProperties, IsApart}
 use Rattle.gm_lowering.specs.OwnLoops.{is_declared, puts_to_scalars}
 use Rattle.gm_lowering.specs.MessageLoops.{has_load, receiver_finds, sets_nothing, is_kept_property, folds_to, receiver_gives, handler_lines, IsMessageLoop, load_value, Carries, is_to_scalars, is_to_nodes, ReceiverGave, MessageShows, RunEnds, HandlersAreTurns}
-use Rattle.gm_lowering.proofs.Bodies.{Ends as Ending, Holds}
+use Rattle.gm_lowering.proofs.Bodies.{Ends as Ending, Holds, Anywhere}
 use Rattle.gm_lowering.proofs.Givens.{AllTell, are_scalars, values-all, none-hoisted, terms-of, slots-of, assigned-is, put-ends}
-use Rattle.gm_lowering.proofs.Own.{after-set, node-in, live-same, phase-term, global-no_graph, global-no_register}
+use Rattle.gm_lowering.proofs.Own.{after-set, node-in, live-same, phase-term, global-has_value, global-no_register}
 use Rattle.gm_lowering.proofs.OwnSteps.{filtered-ends}
 use Rattle.gm_lowering.proofs.PutFacts.{puts-way}
 
@@ -184,7 +182,7 @@ pub record ReceiverShows (c : Layout) (loop : Loop) (i k j edge registers fields
   pub inside : j < node_count loop.graph
   pub at_sender : it.store.scalar loop.outer ≡ At (Some k)
   pub at_node : it.store.scalar i ≡ At (Some j)
-  pub phase : (x : ℕ) → nat_eq x loop.outer ≡ false → nat_eq x i ≡ false → x < length c.declarations → is_register (variable_at c.declarations x) ≡ false → is Sorts.Graph (variable_at c.declarations x) ≡ false
+  pub phase : (x : ℕ) → nat_eq x loop.outer ≡ false → nat_eq x i ≡ false → x < length c.declarations → is_register (variable_at c.declarations x) ≡ false → has_value (variable_at c.declarations x) ≡ true
       → phase_value c s.globals x ≡ it.store.scalar x
   pub in_graph : (x : ℕ) → nat_eq x loop.outer ≡ false → nat_eq x i ≡ false → x < length c.declarations → is_global (variable_at c.declarations x) ≡ true → IsInGraph loop.graph (it.store.scalar x)
   pub locals : HoldLocals c w.registers it.store
@@ -235,14 +233,14 @@ module _ (c : Layout) (seg : Segment) (loop : Loop) (i k j edge registers fields
   not-in x b e f o = or-false (is_in its x) b (ap (λ z. z || (nat_eq x i || false)) e ∙ ap (λ z. z || false) f) o
 
   -- a scalar that is no iterator
-  plain-is : (it : Iteration) (w : VertexState) (x : ℕ) (b : Bool) → is_register (variable_at c.declarations x) ≡ b → nat_eq x n ≡ false → nat_eq x i ≡ false → x < length c.declarations → is Sorts.Graph (variable_at c.declarations x) ≡ false → Shows it w
+  plain-is : (it : Iteration) (w : VertexState) (x : ℕ) (b : Bool) → is_register (variable_at c.declarations x) ≡ b → nat_eq x n ≡ false → nat_eq x i ≡ false → x < length c.declarations → has_value (variable_at c.declarations x) ≡ true → Shows it w
       → term_value (view s w) (if b then M.Register (c.register x) else phase_scalar c x) ≡ Ok (it.store.scalar x)
   plain-is it w x true e f g lt d q = ap Ok (q.0.locals x lt e)
   plain-is it w x false e f g lt d q = phase-term c s w x ∙ ap Ok (q.0.phase x f g lt e d)
 
   -- a scalar by what it is
   scalar-by : (it : Iteration) (w : VertexState) (x : ℕ) → Shows it w → (nat_eq x n ≡ true → has_load loads SenderItself ≡ true)
-      → (nat_eq x n ≡ false → nat_eq x i ≡ false → (x < length c.declarations) × (is Sorts.Graph (variable_at c.declarations x) ≡ false))
+      → (nat_eq x n ≡ false → nat_eq x i ≡ false → (x < length c.declarations) × (has_value (variable_at c.declarations x) ≡ true))
       → term_value (view s w) (v.scalar x) ≡ Ok (it.store.scalar x)
   scalar-by it w x q sender plain = by (nat_eq x n) refl where
     other : (b : Bool) → nat_eq x i ≡ b → nat_eq x n ≡ false → term_value (view s w) (if b then M.Self else vertex_scalar c x) ≡ Ok (it.store.scalar x)
@@ -259,16 +257,16 @@ module _ (c : Layout) (seg : Segment) (loop : Loop) (i k j edge registers fields
   scalar-is : (it : Iteration) (w : VertexState) (x : ℕ) → finds_scalar c its x ≡ true → list_all (has_load loads) (load_if n x SenderItself) ≡ true → Shows it w → term_value (view s w) (v.scalar x) ≡ Ok (it.store.scalar x)
   scalar-is it w x o l q =
       scalar-by it w x q (load-there x SenderItself l) (λ e f.
-      let d = not-in x (nat_lt x (length c.declarations) && not (is Sorts.Graph (variable_at c.declarations x))) e f o in
-      let t = both-true (nat_lt x (length c.declarations)) (not (is Sorts.Graph (variable_at c.declarations x))) d in
-      (ltb-true x (length c.declarations) t.0, not-true (is Sorts.Graph (variable_at c.declarations x)) t.1))
+      let d = not-in x (nat_lt x (length c.declarations) && has_value (variable_at c.declarations x)) e f o in
+      let t = both-true (nat_lt x (length c.declarations)) (has_value (variable_at c.declarations x)) d in
+      (ltb-true x (length c.declarations) t.0, t.1))
 
   node-scalar : (it : Iteration) (w : VertexState) (x : ℕ) → finds_node c its x ≡ true → list_all (has_load loads) (load_if n x SenderItself) ≡ true → Shows it w → term_value (view s w) (v.scalar x) ≡ Ok (it.store.scalar x)
   node-scalar it w x o l q =
       scalar-by it w x q (load-there x SenderItself l) (λ e f.
       let d = not-in x (nat_lt x (length c.declarations) && is_global (variable_at c.declarations x)) e f o in
       let t = both-true (nat_lt x (length c.declarations)) (is_global (variable_at c.declarations x)) d in
-      (ltb-true x (length c.declarations) t.0, global-no_graph (variable_at c.declarations x) t.1))
+      (ltb-true x (length c.declarations) t.0, global-has_value (variable_at c.declarations x) t.1))
 
   is-node : (a : Value) (z : ℕ) → a ≡ At (Some z) → z < node_count loop.graph → IsInGraph loop.graph a
   is-node a z e lt y h = subst (λ b. b < node_count loop.graph) (ap node_or (sym e ∙ h)) lt where
@@ -527,7 +525,7 @@ module _ (c : Layout) (seg : Segment) (loop : Loop) (i k j edge registers fields
     by false e = fold-case kind key total r ts es it w rest (or-false (puts_to_scalars c found r ts es) (folds_to c i found r ts es) e o) q
 
   -- a receiver's site holds
-  pub receiver-holds : Holds (receiver_site c seg n i loads) loop m s run Shows (ReceiverGave c v) found sets_nothing (receiver_gives c i found)
+  pub receiver-holds : Holds (receiver_site c seg n i loads) loop m s run Shows (ReceiverGave c v) found sets_nothing (receiver_gives c i found) Anywhere
   receiver-holds = record {
     type_is = type_is;
     skipped = λ l ls a w. refl;
@@ -539,7 +537,11 @@ module _ (c : Layout) (seg : Segment) (loop : Loop) (i k j edge registers fields
     tells = tells;
     local = local;
     property = λ key x p at e it w rest o f q. absurd (both_ways false refl o);
-    reduce = reduce;
+    placed_first = λ kind a b h. tt;
+    placed_second = λ kind a b h. tt;
+    placed_yes = λ kind k e a b h. tt;
+    placed_no = λ kind k e a b h. tt;
+    reduce = λ kind key total r ts es it w rest o h q. reduce kind key total r ts es it w rest o q;
   }
 
 -- a handler's run
@@ -613,7 +615,7 @@ module _ (c : Layout) (seg : Segment) (registers : List VType) (fields : ℕ) (l
       ends-as out.fault (
       filtered-ends (receiver_site c seg loop.outer i loads) loop (AtEdge edge) s (lines_after s) sh (ReceiverGave c w_env) (receiver_finds c loop.outer i loads) sets_nothing (receiver_gives c i (receiver_finds c loop.outer i loads))
       (receiver-holds c seg loop i k s.node edge (length registers) fields loads s able.apart able.outer able.inner able.two able.types able.depths)
-      key test body kind able.found able.fits start first [] begins)
+      key test body kind able.found able.fits tt start first [] begins)
 
 pub handlers-are-turns : HandlersAreTurns
 handlers-are-turns c seg registers fields loop i loads kind key test body s fs k edge r able graph shows = handler-run c seg registers fields loop i loads kind key test body s fs k edge r able graph shows

@@ -11,7 +11,6 @@ use Rattle.gm_value.specs.Operations.{is_true}
 use Rattle.gm_model.specs.Graphs.{NumberedGraph, Step, node_count}
 use Rattle.gm_ast.specs.declared.tree.Key.{Key}
 use Rattle.gm_ast.specs.declared.tree.Target.{Target}
-use Rattle.gm_ast.specs.Keys as K
 use Rattle.gm_ast.specs.declared.tree.TotalKey.{TotalKey}
 use Rattle.gm_ast.specs.Program as P
 use Rattle.gm_ast.specs.Program.{Expr, Stmt}
@@ -22,7 +21,7 @@ use Rattle.gm_semantics.specs.declared.slots.Slot.{Slot}
 use Rattle.gm_semantics.specs.declared.slots.Slot.TheVariants as slots
 use Rattle.gm_semantics.specs.Contributions.{Contribution, total_faults}
 use Rattle.gm_semantics.specs.Expressions.{value}
-use Rattle.gm_semantics.specs.Faults.{least, somes, joined}
+use Rattle.gm_semantics.specs.Faults.{least, somes}
 use Rattle.gm_semantics.specs.Faults as F
 use Rattle.gm_semantics.specs.Iterations.{Loop, Mode, AtEdge, Iteration, begun, view_in, with_ok, one_way, as_it_is, turn_at, does}
 use Rattle.gm_semantics.specs.Levels.{node_in}
@@ -38,7 +37,7 @@ use Rattle.gm_machine.specs.Taking.{settled}
 use Rattle.gm_machine.specs.Vertex.{Message, VertexContext, VertexState, After, lines_of, goes_on, lines_after, ended, body_after, handler_run, gathered, begun as begin, vertex_after}
 use Rattle.gm_machine.proofs.LeastLaws.{least_right, least_from-right}
 use Rattle.gm_lowering.specs.Layouts.{Layout, is_register}
-use Rattle.gm_lowering.specs.Places.{Spot, Segment, segment, ascending, spots_in, spots_in_all}
+use Rattle.gm_lowering.specs.Places.{Spot, Segment, segment, spots_in, spots_in_all}
 use Rattle.gm_lowering.specs.Terms.{Env}
 use Rattle.gm_lowering.specs.Plans.{Load, loads_in, way_of}
 use Rattle.gm_lowering.specs.Bodies.{spots_of, reduce_spots}
@@ -49,11 +48,11 @@ use Rattle.gm_lowering.specs.OwnLoops.{NodeShows, puts_to_scalars, is_declared, 
 use Rattle.gm_lowering.specs.MessageLoops.{has_load, receiver_finds, sets_nothing, receiver_gives, folds_to, handler_lines, IsMessageLoop, MessageShows, is_to_scalars, is_to_nodes, ReceiverGave, RunEnds}
 use Rattle.gm_lowering.specs.Phases.{GivesApart}
 use Rattle.gm_lowering.specs.Receiving.{receive_block, turn_of, given_by, faults_by, IsMessageOf, Receives, inner_spots, ReceivingStepsAreTurns}
-use Rattle.gm_lowering.specs.Settles.{HasSpot, fault_or_none, AreHeld, AreGiven, SettlesAlike}
+use Rattle.gm_lowering.specs.Settles.{HasSpot, fault_or_none, AreHeld, AreGiven, SettlesAlike, spot_of_fault, HaveRoom}
 use Rattle.gm_lowering.proofs.FoldFacts.{here_at, IsReceived, put-received, body-weaker, fold-left, fold-gives}
 use Rattle.gm_lowering.proofs.Givens.{are_scalars}
 use Rattle.gm_lowering.proofs.Kept.{Gives, body-gives}
-use Rattle.gm_lowering.proofs.Orders.{named, lesser-lower}
+use Rattle.gm_lowering.proofs.Orders.{lesser-lower}
 use Rattle.gm_lowering.proofs.Own.{node-in}
 use Rattle.gm_lowering.proofs.Supersteps.{least-parts, least-two}
 use Rattle.gm_lowering.proofs.PutFacts.{put-left, put-gives-at}
@@ -111,8 +110,8 @@ filter-both p (x ∷ xs) ys = by (p x) (filter-both p xs ys) where
 module _ (c : Layout) (p : image.Program) (fields base : ℕ) (all : List Spot) (loop : Loop) (i : ℕ) (loads : List Load) (kind : ℕ) (key : Key) (test : Expr) (body : Stmt)
     (globals fs : List Value) (j : ℕ) (r : Store) (message : ℕ × Step → Message)
     (able : IsMessageLoop c p.registers fields loop i loads test body)
-    (incl : (f : K.Fault) → HasSpot f (inner_spots c loop.outer i key test body) → HasSpot f all)
-    (fit : base + length (ascending all) ≤ length p.places)
+    (incl : (f : Spot) → HasSpot f (inner_spots c loop.outer i key test body) → HasSpot f all)
+    (fit : HaveRoom base all (length p.places))
     (shows : NodeShows c loop.graph p.registers fields globals fs j r) where
   abbrev n : ℕ
   n = loop.outer
@@ -297,7 +296,7 @@ module _ (c : Layout) (p : image.Program) (fields base : ℕ) (all : List Spot) 
         reductions-left st o it e h
 
     reductions-give : (k : Key) (total : TotalKey) (r' : Reduce) (ts : List Target) (es : List Expr) (it : Iteration) → receiver_gives c i loose r' ts es ≡ true → HoldNodes g its home it
-        → ((f : K.Fault) → HasSpot f (reduce_spots false its (way_of c.declarations i ts) k total ts) → HasSpot f all)
+        → ((f : Spot) → HasSpot f (reduce_spots false its (way_of c.declarations i ts) k total ts) → HasSpot f all)
         → Gives (IsReceived c j all) it → Gives (IsReceived c j all) (does (P.Combine k total r' ts es) m loop it)
     reductions-give k total r' ts es it o h e q =
         or-cases (puts_to_scalars c loose r' ts es) (folds_to c i loose r' ts es) o
@@ -313,7 +312,7 @@ module _ (c : Layout) (p : image.Program) (fields base : ℕ) (all : List Spot) 
 
     has-all : (o : Option Fault) → Has o (inner_spots c n i key test body) → Has o all
     has-all None h = tt
-    has-all (Some f) h = incl (named f) h
+    has-all (Some f) h = incl (spot_of_fault f) h
 
     pub turn-left : Has (turn x).fault all × Gives (IsReceived c j all) (turn x)
     turn-left = by (value test (view_in loop m start key)) (value-within (view_in loop m start key) test refl (reads c its true loop m home start key test (loosen test able.found) holds)) where
@@ -328,7 +327,7 @@ module _ (c : Layout) (p : image.Program) (fields base : ℕ) (all : List Spot) 
       by : (a : Result Value Fault) → Within a (spots_in test key)
           → Has (with_ok start a (λ z. one_way (is_true z) (does body m loop) as_it_is start)).fault all × Gives (IsReceived c j all) (with_ok start a (λ z. one_way (is_true z) (does body m loop) as_it_is start))
       by (Ok z) w = way (is_true z)
-      by (Err f) w = (incl (named f) (spot-left (named f) (spots_in test key) body_spots w), record { outermost = λ y z. absurd z; inner = λ y z. absurd z })
+      by (Err f) w = (incl (spot_of_fault f) (spot-left (spot_of_fault f) (spots_in test key) body_spots w), record { outermost = λ y z. absurd z; inner = λ y z. absurd z })
 
   -- what turns give is received
   pub received : (xs : List (ℕ × Step)) → AllIs xs → (y : Contribution) → IsIn y (given_by turn xs) → IsReceived c j all y
@@ -338,12 +337,12 @@ module _ (c : Layout) (p : image.Program) (fields base : ℕ) (all : List Spot) 
     split [] q go z = go z
     split (a ∷ ys) q go z = ⊎_elim (λ (e : y ≡ a). q y (inl e)) (λ (w : IsIn y (ys ++ given_by turn xs)). split ys (λ b d. q b (inr d)) go w) z
 
-  pub fault-spots : (xs : List (ℕ × Step)) → AllIs xs → (f : Fault) → IsIn f (faults_by turn xs) → HasSpot (named f) all
+  pub fault-spots : (xs : List (ℕ × Step)) → AllIs xs → (f : Fault) → IsIn f (faults_by turn xs) → HasSpot (spot_of_fault f) all
   fault-spots [] h f z = absurd z
   fault-spots (x ∷ xs) h f z = by (turn x).fault (turn-left x (h x (inl refl))).0 (λ w. fault-spots xs (λ a b. h a (inr b)) f w) z where
-    by : (o : Option Fault) → Has o all → (IsIn f (faults_by turn xs) → HasSpot (named f) all) → IsIn f (somes (o ∷ map (λ y. (turn y).fault) xs)) → HasSpot (named f) all
+    by : (o : Option Fault) → Has o all → (IsIn f (faults_by turn xs) → HasSpot (spot_of_fault f) all) → IsIn f (somes (o ∷ map (λ y. (turn y).fault) xs)) → HasSpot (spot_of_fault f) all
     by None q go z = go z
-    by (Some a) q go z = ⊎_elim (λ (e : f ≡ a). subst (λ b. HasSpot (named b) all) (sym e) q) (λ (w : IsIn f (faults_by turn xs)). go w) z
+    by (Some a) q go z = ⊎_elim (λ (e : f ≡ a). subst (λ b. HasSpot (spot_of_fault b) all) (sym e) q) (λ (w : IsIn f (faults_by turn xs)). go w) z
 
   -- the properties of the node are in its fields
   held-fields : AreHeld c r fs (here_at c j)
@@ -387,7 +386,7 @@ module _ (c : Layout) (p : image.Program) (fields base : ℕ) (all : List Spot) 
     settles : SettlesAlike c v (length p.places) r fs (here_at c j) to_nodes
     settles = reductions-settle c v base (length p.places) all r fs (here_at c j) to_nodes refl fit held-fields good
 
-    low : (f k : Fault) → HasSpot (named f) all → HasSpot (named k) all → lesser (Some (fault_of v f)) (Some (fault_of v k)) ≡ Some (fault_of v (F.lower f k))
+    low : (f k : Fault) → HasSpot (spot_of_fault f) all → HasSpot (spot_of_fault k) all → lesser (Some (fault_of v f)) (Some (fault_of v k)) ≡ Some (fault_of v (F.lower f k))
     low f k a b = lesser-lower v base all refl f k a b
 
     abbrev whole : After
@@ -423,9 +422,9 @@ module _ (c : Layout) (p : image.Program) (fields base : ℕ) (all : List Spot) 
           none-first o = refl
 
     -- the faults at the node have spots
-    pub spots-at : (f : Fault) → IsIn f (faults_by turn xs ++ total_faults r to_nodes) → HasSpot (named f) all
+    pub spots-at : (f : Fault) → IsIn f (faults_by turn xs ++ total_faults r to_nodes) → HasSpot (spot_of_fault f) all
     spots-at f z = split (faults_by turn xs) (λ g w. fault-spots xs h g w) z where
-      split : (ds : List Fault) → ((g : Fault) → IsIn g ds → HasSpot (named g) all) → IsIn f (ds ++ total_faults r to_nodes) → HasSpot (named f) all
+      split : (ds : List Fault) → ((g : Fault) → IsIn g ds → HasSpot (spot_of_fault g) all) → IsIn f (ds ++ total_faults r to_nodes) → HasSpot (spot_of_fault f) all
       split [] k z = total-spot c v base (length p.places) all r fs (here_at c j) to_nodes refl fit held-fields good f z
       split (g ∷ gs) k z = ⊎_elim (λ (e : f ≡ g). k f (inl e)) (λ (w : IsIn f (gs ++ total_faults r to_nodes)). split gs (λ a b. k a (inr b)) w) z
 

@@ -22,7 +22,7 @@ use Rattle.gm_forms.proofs.Named.{both-true}
 use Rattle.gm_semantics.specs.declared.faults.Fault.{Fault}
 use Rattle.gm_semantics.specs.declared.slots.Slot.{Slot}
 use Rattle.gm_semantics.specs.Contributions as S
-use Rattle.gm_semantics.specs.Contributions.{Contribution, statement_of, statement_bound, close_by, taken_onto, values_or, fault_in, target_of, target_taken, value_among, target_fault, total_faults}
+use Rattle.gm_semantics.specs.Contributions.{Contribution, statement_of, statement_bound, close_by, taken_onto, values_or, fault_in, target_taken, value_among, target_fault, total_faults}
 use Rattle.gm_semantics.specs.Faults.{least, somes}
 use Rattle.gm_semantics.specs.Faults as F
 use Rattle.gm_semantics.specs.Stores.{Store, slot_eq, slots_eq, has_slot, read, reads}
@@ -35,15 +35,15 @@ use Rattle.gm_machine.specs.declared.faults.Fault as M
 use Rattle.gm_machine.specs.Expressions.{value_at}
 use Rattle.gm_machine.specs.Faults.{then_go, lesser}
 use Rattle.gm_machine.specs.Taking as T
-use Rattle.gm_machine.specs.Taking.{closed, reduction_of, first_reduction, overflow_at, target_after, entry_of, slot_by, slot_after, fault_after, settled}
+use Rattle.gm_machine.specs.Taking.{closed, reduction_of, overflow_at, target_after, entry_of, slot_by, slot_after, fault_after, settled}
 use Rattle.gm_machine.proofs.LeastLaws.{lesser-comm, lesser-assoc, least_right, least_from-right}
 use Rattle.gm_lowering.specs.Layouts.{Layout}
-use Rattle.gm_lowering.specs.Places.{Spot, segment, ascending, place_index}
+use Rattle.gm_lowering.specs.Places.{Spot, segment, ascending, place_index, spot_of_total}
 use Rattle.gm_lowering.specs.Terms.{Env}
 use Rattle.gm_lowering.specs.Showing.{fault_of}
 use Rattle.gm_lowering.specs.Sites.{slot_at, given}
-use Rattle.gm_lowering.specs.Settles.{HasSpot, fault_or_none, is_some_list, AreHeld, AreGiven, SettlesAlike, ReductionsSettle}
-use Rattle.gm_lowering.proofs.Orders.{lt-itself, kept-more, kept-one-more, ascending-has, spot-in, named, lesser-lower}
+use Rattle.gm_lowering.specs.Settles.{HasSpot, fault_or_none, is_some_list, AreHeld, AreGiven, SettlesAlike, ReductionsSettle, spot_of_fault, HaveRoom}
+use Rattle.gm_lowering.proofs.Orders.{lt-itself, kept-more, kept-one-more, ascending-has, fault-has, spot-in, lesser-lower}
 
 -- taking what is seen through a function
 pub filter-map : {A C : Type 0} (f : A → C) (test : C → Bool) (ys : List A) → filter test (map f ys) ≡ map f (filter (λ x. test (f x)) ys)
@@ -168,10 +168,10 @@ module _ (v : Env) (base : ℕ) (spots : List Spot) (places : v.place ≡ place_
   new-is : (x : Contribution) → new x ≡ base + length (filter (λ s. fault_lt s.fault (total_fault x.total)) (ascending spots))
   new-is x = ap (λ p. p x.total.key x.total.place) places
 
-  below : (x : Contribution) → HasSpot (total_fault x.total) spots → (b : ℕ) → statement_of x < b → new x < cut b
+  below : (x : Contribution) → HasSpot (spot_of_total x.total) spots → (b : ℕ) → statement_of x < b → new x < cut b
   below x o b lt =
       let all = ascending spots in
-      let q = spot-in (total_fault x.total) all (ascending-has (total_fault x.total) spots o) in
+      let q = spot-in (total_fault x.total) all (ascending-has (total_fault x.total) spots (fault-has (spot_of_total x.total) spots o)) in
       let less : length (filter (λ s. fault_lt s.fault (total_fault x.total)) all) < length (filter (λ s. nat_lt s.fault.key.statement b) all) =
       kept-one-more (λ s. fault_lt s.fault (total_fault x.total)) (λ s. nat_lt s.fault.key.statement b) all q.0
       (λ s e. let l = before-statement s.fault (total_fault x.total) e in lt-ltb s.fault.key.statement b (omega arith)) q.2
@@ -202,15 +202,15 @@ module _ (v : Env) (base : ℕ) (spots : List Spot) (places : v.place ≡ place_
       by false l = omega arith
 
   -- contributions to one target, of which those of one statement are of one total, are taken alike
-  pub taken-alike : (c : Layout) (most : ℕ) (r : Reduce) (held : List Value) (x : Contribution) (ds : List Contribution) → base + length (ascending spots) ≤ most
-      → ((y : Contribution) → IsIn y (x ∷ ds) → HasSpot (total_fault y.total) spots)
+  pub taken-alike : (c : Layout) (most : ℕ) (r : Reduce) (held : List Value) (x : Contribution) (ds : List Contribution) → HaveRoom base spots most
+      → ((y : Contribution) → IsIn y (x ∷ ds) → HasSpot (spot_of_total y.total) spots)
       → ((y z : Contribution) → IsIn y (x ∷ ds) → IsIn z (x ∷ ds) → statement_of y ≡ statement_of z → y.total ≡ z.total)
       → taken (λ g. g.place) (closed r) most held (map (given c v) (x ∷ ds))
       ≡ rank_by (number_by statement_of new (x ∷ ds)) (taken statement_of (close_by r) (statement_bound (x ∷ ds)) held (x ∷ ds))
   taken-alike c most r held x ds le o one =
       let cs = x ∷ ds in
       let b = statement_bound cs in
-      let low : cut b ≤ most = (let l = cut-within b in omega arith) in
+      let low : cut b ≤ most = (let l = cut-within b in let m : base + length (ascending spots) ≤ most = le (spot_of_total x.total) (o x (inl refl)) in omega arith) in
       taken-map (given c v) (λ g. g.place) (closed r) most held cs
       ∙ taken-close new (λ u ys. closed r u (map (given c v) ys)) (close_by r) most held cs (λ u ys. ap (close_slots r u) (map-map (given c v) (λ (g : T.Contribution). g.values) ys))
       ∙ taken-bound new (close_by r) (cut b) most held cs low (all-below new (cut b) cs (λ y i. below y (o y i) b (below-bound cs y i)))
@@ -402,7 +402,7 @@ slot-in slot (x ∷ xs) h = by (slot_eq slot x) refl h (λ j. slot-in slot xs j)
   by false e j go = inr (go j)
 
 module _ (c : Layout) (v : Env) (base most : ℕ) (spots : List Spot) (s : Store) (held : List Value) (here : Slot → Bool) (cs : List Contribution)
-    (places : v.place ≡ place_index (segment base spots)) (le : base + length (ascending spots) ≤ most) (h : AreHeld c s held here) (g : AreGiven cs here spots) where
+    (places : v.place ≡ place_index (segment base spots)) (le : HaveRoom base spots most) (h : AreHeld c s held here) (g : AreGiven cs here spots) where
   abbrev at : Slot → ℕ
   at = slot_at c
 
@@ -630,21 +630,21 @@ module _ (c : Layout) (v : Env) (base most : ℕ) (spots : List Spot) (s : Store
               ∙ ap (λ slots. fault_or_none v (target_fault s cs slots)) same
 
   -- a fault of totals is that of a contribution, and so it has a spot
-  pub total-spot : (f : Fault) → IsIn f (total_faults s cs) → HasSpot (named f) spots
+  pub total-spot : (f : Fault) → IsIn f (total_faults s cs) → HasSpot (spot_of_fault f) spots
   total-spot f i =
       let q = somes-in (λ (x : Contribution). target_fault s cs x.slots) cs f i in
       by q.0.slots (target_of_meaning q.0.slots) q.2 where
-        pick : (slots : List Slot) (st : ℕ) → least (map (λ (y : Contribution). F.total_fault y.total) (of_rank statement_of st (S.to_target slots cs))) ≡ Some f → HasSpot (named f) spots
+        pick : (slots : List Slot) (st : ℕ) → least (map (λ (y : Contribution). F.total_fault y.total) (of_rank statement_of st (S.to_target slots cs))) ≡ Some f → HasSpot (spot_of_fault f) spots
         pick slots st e =
             let l = least-is (map (λ (y : Contribution). F.total_fault y.total) (of_rank statement_of st (S.to_target slots cs))) f e in
             let q = from-map (λ (y : Contribution). F.total_fault y.total) (of_rank statement_of st (S.to_target slots cs)) f l.is_in in
             let r = IsIn-filter (λ (y : Contribution). nat_eq (statement_of y) st) q.0 (S.to_target slots cs) q.1 in
-            subst (λ z. HasSpot (named z) spots) (sym q.2) (g.spotted q.0 (in-target slots cs q.0 r.0).0) where
+            subst (λ z. HasSpot (spot_of_fault z) spots) (sym q.2) (g.spotted q.0 (in-target slots cs q.0 r.0).0) where
               from-map : {A B : Type 0} (f : A → B) (xs : List A) (y : B) → IsIn y (map f xs) → (x : A) × IsIn x xs × (y ≡ f x)
               from-map f [] y i = absurd i
               from-map f (x ∷ xs) y i = ⊎_elim (λ (e : y ≡ f x). (x, inl refl, e)) (λ (j : IsIn y (map f xs)). let q = from-map f xs y j in (q.0, inr q.1, q.2)) i
 
-        by : (slots : List Slot) (q : Result (List Value) ℕ) → fault_in (S.to_target slots cs) q ≡ Some f → HasSpot (named f) spots
+        by : (slots : List Slot) (q : Result (List Value) ℕ) → fault_in (S.to_target slots cs) q ≡ Some f → HasSpot (spot_of_fault f) spots
         by slots (Ok vs) e = absurd (both_ways false refl (ap is_one e)) where
           is_one : Option Fault → Bool
           is_one None = false

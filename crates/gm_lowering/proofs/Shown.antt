@@ -7,9 +7,8 @@ use Rattle.gm_value.specs.Bag.{IsIn}
 use Rattle.gm_ast.specs.Keys as K
 use Rattle.gm_ast.specs.Keys.{fault_lt}
 use Rattle.gm_lowering.specs.Places.{Spot, spot_lt, inserted, ascending}
-use Rattle.gm_lowering.specs.Settles.{HasSpot}
 use Rattle.gm_lowering.specs.Shown.{IndicesShowPlaces}
-use Rattle.gm_lowering.proofs.Orders.{lt-itself, lt-trans, ascending-has}
+use Rattle.gm_lowering.proofs.Orders.{lt-itself, lt-trans, HasFault, ascending-has}
 
 -- spots in order, each once
 abbrev IsAscending : List Spot → Type 0
@@ -52,10 +51,10 @@ none-before f (x ∷ xs) h =
       not-both false e = refl
 
 -- the spot at the index of a fault is one of the fault
-at-index : (f : K.Fault) (xs : List Spot) (other : Place) → IsAscending xs → HasSpot f xs
+at-index : (f : K.Fault) (xs : List Spot) (other : Place) → IsAscending xs → HasFault f xs
     → (s : Spot) × IsIn s xs × (s.fault ≡ f) × (slice_index_or (map (λ t. t.shown) xs) (length (before f xs)) other ≡ s.shown)
 at-index f [] other h o = absurd o
-at-index f (x ∷ xs) other h o = ⊎_elim here (λ (j : HasSpot f xs). there j (at-index f xs other h.1 j)) o where
+at-index f (x ∷ xs) other h o = ⊎_elim here (λ (j : HasFault f xs). there j (at-index f xs other h.1 j)) o where
   here : x.fault ≡ f → (s : Spot) × IsIn s (x ∷ xs) × (s.fault ≡ f) × (slice_index_or (map (λ t. t.shown) (x ∷ xs)) (length (before f (x ∷ xs))) other ≡ s.shown)
   here e = (
     x,
@@ -66,11 +65,11 @@ at-index f (x ∷ xs) other h o = ⊎_elim here (λ (j : HasSpot f xs). there j 
         ∙ none-before f xs (λ y i. ap (λ z. fault_lt z y.fault) (sym e) ∙ h.0 y i)),
   )
 
-  has-in : (ys : List Spot) → HasSpot f ys → (y : Spot) × IsIn y ys × (y.fault ≡ f)
+  has-in : (ys : List Spot) → HasFault f ys → (y : Spot) × IsIn y ys × (y.fault ≡ f)
   has-in [] o = absurd o
-  has-in (y ∷ ys) o = ⊎_elim (λ (e : y.fault ≡ f). (y, inl refl, e)) (λ (j : HasSpot f ys). let q = has-in ys j in (q.0, inr q.1, q.2)) o
+  has-in (y ∷ ys) o = ⊎_elim (λ (e : y.fault ≡ f). (y, inl refl, e)) (λ (j : HasFault f ys). let q = has-in ys j in (q.0, inr q.1, q.2)) o
 
-  there : HasSpot f xs → (s : Spot) × IsIn s xs × (s.fault ≡ f) × (slice_index_or (map (λ t. t.shown) xs) (length (before f xs)) other ≡ s.shown)
+  there : HasFault f xs → (s : Spot) × IsIn s xs × (s.fault ≡ f) × (slice_index_or (map (λ t. t.shown) xs) (length (before f xs)) other ≡ s.shown)
       → (s : Spot) × IsIn s (x ∷ xs) × (s.fault ≡ f) × (slice_index_or (map (λ t. t.shown) (x ∷ xs)) (length (before f (x ∷ xs))) other ≡ s.shown)
   there j q =
       let y = has-in xs j in
@@ -81,7 +80,7 @@ at-index f (x ∷ xs) other h o = ⊎_elim here (λ (j : HasSpot f xs). there j 
         ap (λ b. slice_index_or (map (λ t. t.shown) (x ∷ xs)) (length (cond b (x ∷ before f xs) (before f xs))) other) lt ∙ q.3,
       )
 
-spot-has : (spots : List Spot) (s : Spot) → IsIn s spots → HasSpot s.fault spots
+spot-has : (spots : List Spot) (s : Spot) → IsIn s spots → HasFault s.fault spots
 spot-has [] s i = i
 spot-has (x ∷ xs) s i = ⊎_elim (λ (e : s ≡ x). inl (ap (λ t. t.fault) (sym e))) (λ (j : IsIn s xs). inr (spot-has xs s j)) i
 

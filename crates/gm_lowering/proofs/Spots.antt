@@ -18,7 +18,6 @@ use Rattle.gm_ast.specs.declared.tree.Key.{Key}
 use Rattle.gm_ast.specs.declared.tree.Target.{Target}
 use Rattle.gm_ast.specs.declared.tree.Target.TheVariants as T
 use Rattle.gm_ast.specs.declared.tree.TotalKey.{TotalKey}
-use Rattle.gm_ast.specs.Keys as K
 use Rattle.gm_ast.specs.Program as S
 use Rattle.gm_ast.specs.Program.{Expr, Stmt}
 use Rattle.gm_ast.specs.Ways.{is_in}
@@ -37,43 +36,42 @@ use Rattle.gm_lowering.specs.Places.{Spot, spot_of, spot_at, spots_in, spots_in_
 use Rattle.gm_lowering.specs.Bodies.{spots_of, reduce_spots}
 use Rattle.gm_lowering.specs.Plans.{way_of}
 use Rattle.gm_lowering.specs.Sites.{finds, is_local, is_body}
-use Rattle.gm_lowering.specs.Settles.{HasSpot}
-use Rattle.gm_lowering.proofs.Orders.{named}
+use Rattle.gm_lowering.specs.Settles.{HasSpot, spot_of_fault}
 use Rattle.gm_lowering.proofs.Own.{node-in}
 
 -- a spot of one of two lists
-pub spot-left : (f : K.Fault) (xs ys : List Spot) → HasSpot f xs → HasSpot f (xs ++ ys)
+pub spot-left : (f : Spot) (xs ys : List Spot) → HasSpot f xs → HasSpot f (xs ++ ys)
 spot-left f [] ys h = absurd h
-spot-left f (x ∷ xs) ys h = ⊎_elim (λ (e : x.fault ≡ f). inl e) (λ (j : HasSpot f xs). inr (spot-left f xs ys j)) h
+spot-left f (x ∷ xs) ys h = ⊎_elim (λ (e : x ≡ f). inl e) (λ (j : HasSpot f xs). inr (spot-left f xs ys j)) h
 
-pub spot-right : (f : K.Fault) (xs ys : List Spot) → HasSpot f ys → HasSpot f (xs ++ ys)
+pub spot-right : (f : Spot) (xs ys : List Spot) → HasSpot f ys → HasSpot f (xs ++ ys)
 spot-right f [] ys h = h
 spot-right f (x ∷ xs) ys h = inr (spot-right f xs ys h)
 
 -- the fault of an answer, if it is one, has a spot
 abbrev pub Within : {A : Type 0} → Result A Fault → List Spot → Type 0
 Within (Ok a) spots = Unit {0}
-Within (Err f) spots = HasSpot (named f) spots
+Within (Err f) spots = HasSpot (spot_of_fault f) spots
 
 abbrev pub Has : Option Fault → List Spot → Type 0
 Has None spots = Unit {0}
-Has (Some f) spots = HasSpot (named f) spots
+Has (Some f) spots = HasSpot (spot_of_fault f) spots
 
 pub within-left : {A : Type 0} (r : Result A Fault) (xs ys : List Spot) → Within r xs → Within r (xs ++ ys)
 within-left (Ok a) xs ys h = tt
-within-left (Err f) xs ys h = spot-left (named f) xs ys h
+within-left (Err f) xs ys h = spot-left (spot_of_fault f) xs ys h
 
 pub within-right : {A : Type 0} (r : Result A Fault) (xs ys : List Spot) → Within r ys → Within r (xs ++ ys)
 within-right (Ok a) xs ys h = tt
-within-right (Err f) xs ys h = spot-right (named f) xs ys h
+within-right (Err f) xs ys h = spot-right (spot_of_fault f) xs ys h
 
 pub has-left : (r : Option Fault) (xs ys : List Spot) → Has r xs → Has r (xs ++ ys)
 has-left None xs ys h = tt
-has-left (Some f) xs ys h = spot-left (named f) xs ys h
+has-left (Some f) xs ys h = spot-left (spot_of_fault f) xs ys h
 
 pub has-right : (r : Option Fault) (xs ys : List Spot) → Has r ys → Has r (xs ++ ys)
 has-right None xs ys h = tt
-has-right (Some f) xs ys h = spot-right (named f) xs ys h
+has-right (Some f) xs ys h = spot-right (spot_of_fault f) xs ys h
 
 pub then-within : {A B : Type 0} (r : Result A Fault) (next : A → Result B Fault) (spots : List Spot) → Within r spots → ((a : A) → Within (next a) spots) → Within (then_with r next) spots
 then-within (Ok a) next spots h k = k a

@@ -8,8 +8,6 @@ use Rattle.gm_value.specs.Bag.{IsIn}
 use Rattle.gm_value.specs.Numbers.{zero_of}
 use Rattle.gm_model.specs.Graphs.{NumberedGraph, node_count}
 use Rattle.gm_ast.specs.declared.tree.Key.{Key}
-use Rattle.gm_ast.specs.declared.tree.Sort.TheVariants as Sorts
-use Rattle.gm_ast.specs.Names.{is}
 use Rattle.gm_ast.specs.Program.{Expr, Stmt}
 use Rattle.gm_forms.proofs.Named.{both-true}
 use Rattle.gm_semantics.specs.declared.faults.Fault.{Fault}
@@ -36,23 +34,23 @@ use Rattle.gm_machine.specs.Machine.{Nodes, Stepped, context_at, block_at, all_s
 use Rattle.gm_machine.specs.Taking.{settled}
 use Rattle.gm_machine.specs.Vertex.{After, vertex_after}
 use Rattle.gm_machine.proofs.LeastLaws.{least_right, least_from-right}
-use Rattle.gm_lowering.specs.Layouts.{Layout, is_global, is_register}
-use Rattle.gm_lowering.specs.Places.{Spot, Segment, segment, ascending}
+use Rattle.gm_lowering.specs.Layouts.{Layout, is_global, is_register, has_value}
+use Rattle.gm_lowering.specs.Places.{Spot, Segment, segment}
 use Rattle.gm_lowering.specs.Terms.{Env, own_env}
 use Rattle.gm_lowering.specs.Showing.{fault_of}
 use Rattle.gm_lowering.specs.Sites.{slot_at, given, phase_value, OwnGave}
 use Rattle.gm_lowering.specs.OwnLoops.{StepEnds}
 use Rattle.gm_lowering.specs.Phases.{GlobalsApart, Shown, Leaves, StepIs, GivesApart, given_in}
-use Rattle.gm_lowering.specs.Settles.{HasSpot, fault_or_none, AreHeld, AreGiven, SettlesAlike}
-use Rattle.gm_lowering.proofs.Orders.{named, lesser-lower}
-use Rattle.gm_lowering.proofs.Own.{global-no_graph, global-no_register}
+use Rattle.gm_lowering.specs.Settles.{HasSpot, fault_or_none, AreHeld, AreGiven, SettlesAlike, spot_of_fault, HaveRoom}
+use Rattle.gm_lowering.proofs.Orders.{lesser-lower}
+use Rattle.gm_lowering.proofs.Own.{global-has_value, global-no_register}
 use Rattle.gm_lowering.proofs.PutFacts.{here, IsPut}
 use Rattle.gm_lowering.proofs.Settles.{least-is, least-none, total-spot, reductions-settle}
 use Rattle.gm_lowering.proofs.Spots.{Has}
 
 -- the least of faults that have spots, each of a part
-pub least-parts : (v : Env) (spots : List Spot) → ((f g : Fault) → HasSpot (named f) spots → HasSpot (named g) spots → lesser (Some (fault_of v f)) (Some (fault_of v g)) ≡ Some (fault_of v (F.lower f g)))
-    → (fs : List (Option Fault)) → ((f : Fault) → IsIn f (somes fs) → HasSpot (named f) spots)
+pub least-parts : (v : Env) (spots : List Spot) → ((f g : Fault) → HasSpot (spot_of_fault f) spots → HasSpot (spot_of_fault g) spots → lesser (Some (fault_of v f)) (Some (fault_of v g)) ≡ Some (fault_of v (F.lower f g)))
+    → (fs : List (Option Fault)) → ((f : Fault) → IsIn f (somes fs) → HasSpot (spot_of_fault f) spots)
     → least_right (map (fault_or_none v) fs) ≡ fault_or_none v (least (somes fs))
 least-parts v spots low [] h = refl
 least-parts v spots low (None ∷ fs) h =
@@ -67,8 +65,8 @@ least-parts v spots low (Some f ∷ fs) h =
       by (Some g) e = low f g (h f (inl refl)) (h g (inr (least-is (somes fs) g e).is_in))
 
 -- of two parts
-pub least-two : (v : Env) (spots : List Spot) → ((f g : Fault) → HasSpot (named f) spots → HasSpot (named g) spots → lesser (Some (fault_of v f)) (Some (fault_of v g)) ≡ Some (fault_of v (F.lower f g)))
-    → (xs ys : List Fault) → ((f : Fault) → IsIn f xs → HasSpot (named f) spots) → ((f : Fault) → IsIn f ys → HasSpot (named f) spots)
+pub least-two : (v : Env) (spots : List Spot) → ((f g : Fault) → HasSpot (spot_of_fault f) spots → HasSpot (spot_of_fault g) spots → lesser (Some (fault_of v f)) (Some (fault_of v g)) ≡ Some (fault_of v (F.lower f g)))
+    → (xs ys : List Fault) → ((f : Fault) → IsIn f xs → HasSpot (spot_of_fault f) spots) → ((f : Fault) → IsIn f ys → HasSpot (spot_of_fault f) spots)
     → lesser (fault_or_none v (least xs)) (fault_or_none v (least ys)) ≡ fault_or_none v (least (xs ++ ys))
 least-two v spots low xs ys h k = by (least xs) (least ys) refl refl ∙ ap (fault_or_none v) (sym (least-append xs ys)) where
   by : (a b : Option Fault) → least xs ≡ a → least ys ≡ b → lesser (fault_or_none v a) (fault_or_none v b) ≡ fault_or_none v (lesser_of a b)
@@ -89,7 +87,7 @@ not-here p slot (x ∷ xs) h e =
 
 module _ (c : Layout) (p : image.Program) (fields base q : ℕ) (loop : Loop) (all : List Spot) (part : image.Block) (key : Key) (test : Expr) (body : Stmt) (globals : List Value) (s : Nodes) (r : Store)
     (gs : GlobalsApart c (length globals))
-    (fit : base + length (ascending all) ≤ length p.places)
+    (fit : HaveRoom base all (length p.places))
     (block : block_at p q ≡ part)
     (shown : Shown c p.registers fields loop.graph globals s r)
     (apart : GivesApart (given_in loop key test body r))
@@ -207,12 +205,12 @@ module _ (c : Layout) (p : image.Program) (fields base q : ℕ) (loop : Loop) (a
   put-all : (x : Contribution) → IsIn x contributions → IsPut c all x
   put-all x i = in-joined 0 (node_count g) x (omega arith) i
 
-  fault-spots : (a m : ℕ) (f : Fault) → a + m ≤ node_count g → IsIn f (somes (map (λ i. i.fault) (its_from a m))) → HasSpot (named f) all
+  fault-spots : (a m : ℕ) (f : Fault) → a + m ≤ node_count g → IsIn f (somes (map (λ i. i.fault) (its_from a m))) → HasSpot (spot_of_fault f) all
   fault-spots a zero f le i = absurd i
   fault-spots a (suc m) f le i = by (it a).fault (iteration-left a (omega arith)).0 (λ j. fault-spots (suc a) m f (omega arith) j) i where
-    by : (o : Option Fault) → Has o all → (IsIn f (somes (map (λ i. i.fault) (its_from (suc a) m))) → HasSpot (named f) all) → IsIn f (somes (o ∷ map (λ i. i.fault) (its_from (suc a) m))) → HasSpot (named f) all
+    by : (o : Option Fault) → Has o all → (IsIn f (somes (map (λ i. i.fault) (its_from (suc a) m))) → HasSpot (spot_of_fault f) all) → IsIn f (somes (o ∷ map (λ i. i.fault) (its_from (suc a) m))) → HasSpot (spot_of_fault f) all
     by None h go i = go i
-    by (Some y) h go i = ⊎_elim (λ (e : f ≡ y). subst (λ z. HasSpot (named z) all) (sym e) h) (λ (j : IsIn f (somes (map (λ i. i.fault) (its_from (suc a) m)))). go j) i
+    by (Some y) h go i = ⊎_elim (λ (e : f ≡ y). subst (λ z. HasSpot (spot_of_fault z) all) (sym e) h) (λ (j : IsIn f (somes (map (λ i. i.fault) (its_from (suc a) m)))). go j) i
 
   -- what each node holds after its own iteration
   own-at : (a m k x : ℕ) → a ≤ k → k < a + m → left_at (numbers_from a m) (its_from a m) r x k ≡ (it k).store.node x k
@@ -253,7 +251,7 @@ module _ (c : Layout) (p : image.Program) (fields base q : ℕ) (loop : Loop) (a
     holds (slots.Scalar x) o =
         let t = both-true (nat_lt x (length c.declarations)) (is_global (variable_at c.declarations x)) o in
         sym (ap (λ b. if b then value_at globals (c.global x) else zero_of (variable_at c.declarations x).vtype) t.1)
-        ∙ shown.scalars x (ltb-true x (length c.declarations) t.0) (global-no_register (variable_at c.declarations x) t.1) (global-no_graph (variable_at c.declarations x) t.1)
+        ∙ shown.scalars x (ltb-true x (length c.declarations) t.0) (global-no_register (variable_at c.declarations x) t.1) (global-has_value (variable_at c.declarations x) t.1)
     holds (slots.Node y k) o = absurd (both_ways false refl o)
 
     within : (slot : Slot) → here c slot ≡ true → slot_at c slot < length globals
@@ -281,7 +279,7 @@ module _ (c : Layout) (p : image.Program) (fields base q : ℕ) (loop : Loop) (a
   settles : SettlesAlike c v (length p.places) own globals (here c) contributions
   settles = reductions-settle c v base (length p.places) all own globals (here c) contributions refl fit held-globals given-good
 
-  low : (f h : Fault) → HasSpot (named f) all → HasSpot (named h) all → lesser (Some (fault_of v f)) (Some (fault_of v h)) ≡ Some (fault_of v (F.lower f h))
+  low : (f h : Fault) → HasSpot (spot_of_fault f) all → HasSpot (spot_of_fault h) all → lesser (Some (fault_of v f)) (Some (fault_of v h)) ≡ Some (fault_of v (F.lower f h))
   low f h a b = lesser-lower v base all refl f h a b
 
   abbrev own_faults : List Fault
@@ -302,14 +300,23 @@ module _ (c : Layout) (p : image.Program) (fields base q : ℕ) (loop : Loop) (a
         none-first : (o : Option M.Fault) → lesser None o ≡ o
         none-first o = refl
 
+  -- the faults are among the spots
+  own-spotted : (f : Fault) → IsIn f own_faults → HasSpot (spot_of_fault f) all
+  own-spotted f i = fault-spots 0 (node_count g) f (omega arith) i
+
+  total-spotted : (f : Fault) → IsIn f totals → HasSpot (spot_of_fault f) all
+  total-spotted f i = total-spot c v base (length p.places) all own globals (here c) contributions refl fit held-globals given-good f i
+
+  either-spotted : (f : Fault) (xs : List Fault) → ((g : Fault) → IsIn g xs → HasSpot (spot_of_fault g) all) → IsIn f (xs ++ totals) → HasSpot (spot_of_fault f) all
+  either-spotted f [] h i = total-spotted f i
+  either-spotted f (x ∷ xs) h i = ⊎_elim (λ (e : f ≡ x). h f (inl e)) (λ (j : IsIn f (xs ++ totals)). either-spotted f xs (λ g k. h g (inr k)) j) i
+
   fault-is : after.fault ≡ fault_or_none v (least (own_faults ++ totals))
   fault-is =
       ap (λ t. t.fault) after-is
       ∙ ap (λ o. lesser o (settled (length p.places) (flat_map (λ a. a.state.puts) (steps_from 0 s.fields)) globals).fault) vertex-fault
       ∙ ap (lesser (fault_or_none v (least own_faults))) put-fault
-      ∙ least-two v all low own_faults totals (λ f i. fault-spots 0 (node_count g) f (omega arith) i) total-spots where
-        total-spots : (f : Fault) → IsIn f totals → HasSpot (named f) all
-        total-spots f i = total-spot c v base (length p.places) all own globals (here c) contributions refl fit held-globals given-good f i
+      ∙ least-two v all low own_faults totals own-spotted total-spotted
 
   -- the globals after it
   globals-are : after.globals ≡ (settled (length p.places) (map (given c v) contributions) globals).values
@@ -390,7 +397,7 @@ module _ (c : Layout) (p : image.Program) (fields base q : ℕ) (loop : Loop) (a
       others = λ i none. ap (λ vs. value_at vs i) globals-are ∙ settles.others i (λ x j. none-has i none x.slots (put-all x j).here_all);
       count = ap length globals-are ∙ settles.count;
     } where
-      scalars : (x : ℕ) → x < length c.declarations → is_register (variable_at c.declarations x) ≡ false → is Sorts.Graph (variable_at c.declarations x) ≡ false → phase_value c after.globals x ≡ left.scalar x
+      scalars : (x : ℕ) → x < length c.declarations → is_register (variable_at c.declarations x) ≡ false → has_value (variable_at c.declarations x) ≡ true → phase_value c after.globals x ≡ left.scalar x
       scalars x lt e f = by (is_global (variable_at c.declarations x)) refl where
         by : (b : Bool) → is_global (variable_at c.declarations x) ≡ b → (if b then value_at after.globals (c.global x) else zero_of (variable_at c.declarations x).vtype) ≡ left.scalar x
         by true o =
@@ -408,15 +415,16 @@ module _ (c : Layout) (p : image.Program) (fields base q : ℕ) (loop : Loop) (a
           ap (λ b. b || is_among i (map (slot_at c) xs)) (ne_eqb (c.global x) i (none x (ltb-true x (length c.declarations) u.0) u.1)) ∙ none-has i none xs t.1
       none-has i none (slots.Node x k ∷ xs) h = absurd (both_ways false refl h)
 
-  pub loop-of-steps : StepIs c v p.registers fields g globals (parallel loop key test body (nodes g) r) after
+  pub loop-of-steps : StepIs c v all p.registers fields g globals (parallel loop key test body (nodes g) r) after
   loop-of-steps = by (least (own_faults ++ totals)) refl where
     deferred : joined (map (λ i. i.deferred) its) ≡ []
     deferred = ap (λ is'. joined (map (λ i. i.deferred) is')) (sym its-are) ∙ deferred-all 0 s.fields every
 
-    by : (o : Option Fault) → least (own_faults ++ totals) ≡ o → StepIs c v p.registers fields g globals (parallel loop key test body (nodes g) r) after
+    by : (o : Option Fault) → least (own_faults ++ totals) ≡ o → StepIs c v all p.registers fields g globals (parallel loop key test body (nodes g) r) after
     by None e =
-        subst (λ q. StepIs c v p.registers fields g globals q after)
+        subst (λ q. StepIs c v all p.registers fields g globals q after)
         (sym (ap (λ o. unless_fault o (Ok (overlaid left (joined (map (λ i. i.deferred) its))))) e ∙ ap (λ ds. Ok (overlaid left ds)) deferred)) (leaves e)
     by (Some f) e =
-        subst (λ q. StepIs c v p.registers fields g globals q after)
-        (sym (ap (λ o. unless_fault o (Ok (overlaid left (joined (map (λ i. i.deferred) its))))) e)) (fault-is ∙ ap (fault_or_none v) e)
+        subst (λ q. StepIs c v all p.registers fields g globals q after)
+        (sym (ap (λ o. unless_fault o (Ok (overlaid left (joined (map (λ i. i.deferred) its))))) e))
+        (fault-is ∙ ap (fault_or_none v) e, either-spotted f own_faults own-spotted (least-is (own_faults ++ totals) f e).is_in)

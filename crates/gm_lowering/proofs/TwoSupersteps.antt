@@ -11,13 +11,12 @@ use Rattle.gm_value.specs.declared.values.Value.TheVariants.{At}
 use Rattle.gm_value.specs.Bag.{IsIn, SameBag, same_nil, same_cons, same_swap, same_trans}
 use Rattle.gm_value.specs.Numbers.{zero_of}
 use Rattle.gm_value.specs.Operations.{is_true}
-use Rattle.gm_model.specs.Graphs.{NumberedGraph, Step, node_count}
+use Rattle.gm_model.specs.Graphs.{NumberedGraph, Step, node_count, edge_count}
 use Rattle.gm_ast.specs.declared.tree.Direction.TheVariants.{Out, In}
 use Rattle.gm_ast.specs.declared.tree.Domain.TheVariants.{OutNbrs, InNbrs}
 use Rattle.gm_ast.specs.declared.tree.Head.{Head}
 use Rattle.gm_ast.specs.declared.tree.Key.{Key}
 use Rattle.gm_ast.specs.declared.tree.Sort.TheVariants as Sorts
-use Rattle.gm_ast.specs.Keys as K
 use Rattle.gm_ast.specs.Names.{is}
 use Rattle.gm_ast.specs.Program as P
 use Rattle.gm_ast.specs.Program.{Expr, Stmt}
@@ -51,8 +50,8 @@ use Rattle.gm_machine.specs.Taking.{settled}
 use Rattle.gm_machine.specs.Vertex.{Message, After, view, steps, leaves, begun as begin, vertex_after}
 use Rattle.gm_machine.proofs.LeastLaws.{least_right, least_from-right}
 use Rattle.gm_machine.proofs.SlotSteps.{settled-nothing}
-use Rattle.gm_lowering.specs.Layouts.{Layout, is_global, is_register}
-use Rattle.gm_lowering.specs.Places.{Spot, Segment, segment, ascending, spots_in}
+use Rattle.gm_lowering.specs.Layouts.{Layout, is_global, is_register, has_value}
+use Rattle.gm_lowering.specs.Places.{Spot, Segment, segment, spots_in}
 use Rattle.gm_lowering.specs.Terms.{Env, own_env, term}
 use Rattle.gm_lowering.specs.Plans.{Load, SenderItself, SenderProperty, SenderDegree, EdgeValue, same_load}
 use Rattle.gm_lowering.specs.Blocks.{load_index, direction_of, receiver_env, own_site}
@@ -61,21 +60,21 @@ use Rattle.gm_lowering.specs.OwnLoops.{own_finds, own_sets, puts_to_scalars, IsO
 use Rattle.gm_lowering.specs.MessageLoops.{has_load, load_value, IsMessageLoop, is_to_scalars, is_to_nodes}
 use Rattle.gm_lowering.specs.Sends.{send_block, load_at, message_along}
 use Rattle.gm_lowering.specs.Receiving.{receive_block, turn_of, given_by, faults_by, IsMessageOf, Receives, inner_spots}
-use Rattle.gm_lowering.specs.Phases.{GlobalsApart, NodesInGraph, Shown, Leaves, StepIs, GivesApart, given_in}
-use Rattle.gm_lowering.specs.Settles.{HasSpot, fault_or_none, is_some_list, AreHeld, AreGiven, SettlesAlike}
+use Rattle.gm_lowering.specs.Phases.{GlobalsApart, NodesInGraph, EdgesShown, Shown, Leaves, StepIs, GivesApart, given_in}
+use Rattle.gm_lowering.specs.Settles.{HasSpot, fault_or_none, is_some_list, AreHeld, AreGiven, SettlesAlike, spot_of_fault, HaveRoom}
 use Rattle.gm_lowering.specs.Sites.{are_of_scalars, slot_at, given, phase_value, OwnGave}
-use Rattle.gm_lowering.specs.TwoSupersteps.{is_readable, EdgesShown, StepsWithin, HasSender, MessageLoopsAreTwoSupersteps}
+use Rattle.gm_lowering.specs.TwoSupersteps.{is_readable, StepsWithin, HasSender, MessageLoopsAreTwoSupersteps}
 use Rattle.gm_lowering.proofs.Bodies.{value-of}
-use Rattle.gm_lowering.proofs.Own.{Shows, own-holds, node-in, global-no_graph, global-no_register}
+use Rattle.gm_lowering.proofs.Own.{Shows, own-holds, node-in, global-has_value, global-no_register}
 use Rattle.gm_lowering.proofs.OwnSteps.{begins}
 use Rattle.gm_lowering.proofs.FoldFacts.{here_at, IsReceived}
-use Rattle.gm_lowering.proofs.Orders.{named, lesser-lower}
+use Rattle.gm_lowering.proofs.Orders.{lesser-lower}
 use Rattle.gm_lowering.proofs.Supersteps.{not-here, least-two}
 use Rattle.gm_lowering.proofs.PutFacts.{here}
 use Rattle.gm_lowering.proofs.Receiving.{gave-of, received, spots-at, receiving-steps}
 use Rattle.gm_lowering.proofs.Regions.{value-filtered, fault-filtered, least-members, in-front, in-back, in-parts, part_of, parts_from, by-parts}
 use Rattle.gm_lowering.proofs.Sends.{send-blocks-send}
-use Rattle.gm_lowering.proofs.Settles.{somes-in, in-somes, filter-in, filter-map, total-spot, reductions-settle}
+use Rattle.gm_lowering.proofs.Settles.{somes-in, in-somes, filter-in, filter-map, total-spot, reductions-settle, least-is}
 use Rattle.gm_lowering.proofs.Spots.{HoldNodes, Within, spot-right, reads, value-within}
 
 -- loads that are one
@@ -136,7 +135,7 @@ module _ (c : Layout) (p : image.Program) (fields base q q2 kind : ℕ) (all : L
     (able : IsMessageLoop c p.registers fields loop h.iterator loads test body)
     (gs : GlobalsApart c (length globals))
     (all_is : all ≡ spots_in mask mask_key ++ inner_spots c loop.outer h.iterator key test body)
-    (fit : base + length (ascending all) ≤ length p.places)
+    (fit : HaveRoom base all (length p.places))
     (block : block_at p q ≡ send_block c (segment base all) loop.outer mask_key mask h.domain kind loads)
     (block2 : block_at p q2 ≡ receive_block c (segment base all) loop.outer h.iterator loads kind key test body)
     (shown : Shown c p.registers fields loop.graph globals s r)
@@ -345,18 +344,18 @@ module _ (c : Layout) (p : image.Program) (fields base q q2 kind : ℕ) (all : L
       (λ (w : IsIn x (turns_from (suc a) m)). in-turns (suc a) m x (omega arith) w)
       (in-parts x (turns_of a) (turns_from (suc a) m) o)
 
-  turn-inside : (x : ℕ × Step) → IsIn x all_turns → (x.0 < node_count g) × (x.1.node < node_count g)
-  turn-inside x o = let t = in-turns 0 (node_count g) x (omega arith) o in (t.0, within x.0 x.1 t.1)
+  turn-inside : (x : ℕ × Step) → IsIn x all_turns → (x.0 < node_count g) × (x.1.node < node_count g) × (x.1.edge < edge_count g)
+  turn-inside x o = let t = in-turns 0 (node_count g) x (omega arith) o in let w = within x.0 x.1 t.1 in (t.0, w.0, w.1)
 
   -- what a message carries
-  load-is : (k : ℕ) → k < node_count g → (e : Step) (x : Load) → is_readable c x ≡ true → load_at c g k (fields_at k) e x ≡ load_value (view_in loop (AtEdge e.edge) (start k) key) k x
-  load-is k lt e SenderItself o = refl
-  load-is k lt e (SenderProperty y) o = shown.properties k lt y o
-  load-is k lt e (SenderDegree Out) o = refl
-  load-is k lt e (SenderDegree In) o = refl
-  load-is k lt e (EdgeValue y) o =
+  load-is : (k : ℕ) → k < node_count g → (e : Step) → e.edge < edge_count g → (x : Load) → is_readable c x ≡ true → load_at c g k (fields_at k) e x ≡ load_value (view_in loop (AtEdge e.edge) (start k) key) k x
+  load-is k lt e less SenderItself o = refl
+  load-is k lt e less (SenderProperty y) o = shown.properties k lt y o
+  load-is k lt e less (SenderDegree Out) o = refl
+  load-is k lt e less (SenderDegree In) o = refl
+  load-is k lt e less (EdgeValue y) o =
       let t = both-true (nat_lt y (length c.declarations)) (is Sorts.EdgeProperty (variable_at c.declarations y)) o in
-      edges y e.edge (ltb-true y (length c.declarations) t.0) t.1
+      edges y e.edge (ltb-true y (length c.declarations) t.0) t.1 less
 
   abbrev node_of : ℕ × Step → ℕ
   node_of x = x.1.node
@@ -366,13 +365,13 @@ module _ (c : Layout) (p : image.Program) (fields base q q2 kind : ℕ) (all : L
     arrives = e;
     of_kind = refl;
     from_inside = (turn-inside x o).0;
-    carries = λ y has. found-load (load_at c g x.0 (fields_at x.0) x.1) loads y has ∙ load-is x.0 (turn-inside x o).0 x.1 y (readable-one c loads y sender.readable has);
+    carries = λ y has. found-load (load_at c g x.0 (fields_at x.0) x.1) loads y has ∙ load-is x.0 (turn-inside x o).0 x.1 (turn-inside x o).2 y (readable-one c loads y sender.readable has);
   }
 
   abbrev turn : ℕ × Step → Iteration
   turn = turn_of loop i key test body r
 
-  incl : (f : K.Fault) → HasSpot f (inner_spots c n i key test body) → HasSpot f all
+  incl : (f : Spot) → HasSpot f (inner_spots c n i key test body) → HasSpot f all
   incl f o = subst (HasSpot f) (sym all_is) (spot-right f (spots_in mask mask_key) (inner_spots c n i key test body) o)
 
   turn-gave : (x : ℕ × Step) → IsIn x all_turns → ((turn x).with_inner ≡ []) × ((turn x).deferred ≡ [])
@@ -603,7 +602,7 @@ module _ (c : Layout) (p : image.Program) (fields base q q2 kind : ℕ) (all : L
       subst (λ ms. Receives c v fields j r (given_by turn (part j)) (faults_by turn (part j)) (vertex_after p (receive_block c seg n i loads kind key test body) (context_at g globals j) ms (fields_at j))) (sym (inbox-is j))
       (receiving-steps c p fields base all loop i loads kind key test body globals (fields_at j) j r (part j) msg able incl fit (node-shows j lt) (messages-of j) (apart-at j))
 
-  spots-of : (j : ℕ) → j < node_count g → (f : Fault) → IsIn f (faults_at j) → HasSpot (named f) all
+  spots-of : (j : ℕ) → j < node_count g → (f : Fault) → IsIn f (faults_at j) → HasSpot (spot_of_fault f) all
   spots-of j lt f o =
       spots-at c p fields base all loop i loads kind key test body globals (fields_at j) j r msg able incl fit (node-shows j lt) (part j) (messages-of j) (apart-at j) f o
 
@@ -630,12 +629,12 @@ module _ (c : Layout) (p : image.Program) (fields base q q2 kind : ℕ) (all : L
   abbrev faults_between : ℕ → ℕ → List Fault
   faults_between a m = flat_map faults_at (numbers_from a m)
 
-  spots-between : (a m : ℕ) → a + m ≤ node_count g → (f : Fault) → IsIn f (faults_between a m) → HasSpot (named f) all
+  spots-between : (a m : ℕ) → a + m ≤ node_count g → (f : Fault) → IsIn f (faults_between a m) → HasSpot (spot_of_fault f) all
   spots-between a zero le f o = absurd o
   spots-between a (suc m) le f o =
       ⊎_elim (λ (w : IsIn f (faults_at a)). spots-of a (omega arith) f w) (λ (w : IsIn f (faults_between (suc a) m)). spots-between (suc a) m (omega arith) f w) (in-parts f (faults_at a) (faults_between (suc a) m) o)
 
-  low : (f k : Fault) → HasSpot (named f) all → HasSpot (named k) all → lesser (Some (fault_of v f)) (Some (fault_of v k)) ≡ Some (fault_of v (F.lower f k))
+  low : (f k : Fault) → HasSpot (spot_of_fault f) all → HasSpot (spot_of_fault k) all → lesser (Some (fault_of v f)) (Some (fault_of v k)) ≡ Some (fault_of v (F.lower f k))
   low f k a b = lesser-lower v base all refl f k a b
 
   two-faults : (a : ℕ) (fss : List (List Value)) → a + length fss ≤ node_count g → AllReceive a fss → least_right (map (λ x. x.fault) (twos a fss)) ≡ fault_or_none v (least (faults_between a (length fss)))
@@ -802,7 +801,7 @@ module _ (c : Layout) (p : image.Program) (fields base q q2 kind : ℕ) (all : L
     holds (slots.Scalar x) o =
         let t = both-true (nat_lt x (length c.declarations)) (is_global (variable_at c.declarations x)) o in
         sym (ap (λ b. if b then value_at globals (c.global x) else zero_of (variable_at c.declarations x).vtype) t.1)
-        ∙ shown.scalars x (ltb-true x (length c.declarations) t.0) (global-no_register (variable_at c.declarations x) t.1) (global-no_graph (variable_at c.declarations x) t.1)
+        ∙ shown.scalars x (ltb-true x (length c.declarations) t.0) (global-no_register (variable_at c.declarations x) t.1) (global-has_value (variable_at c.declarations x) t.1)
     holds (slots.Node y k) o = absurd (both_ways false refl o)
 
     inside : (slot : Slot) → here c slot ≡ true → slot_at c slot < length globals
@@ -859,6 +858,17 @@ module _ (c : Layout) (p : image.Program) (fields base q q2 kind : ℕ) (all : L
   abbrev machine_faults : List Fault
   machine_faults = faults_between 0 (node_count g) ++ total_faults r scalar_part
 
+  -- they are among the spots
+  scalars-spotted : (f : Fault) → IsIn f (total_faults r scalar_part) → HasSpot (spot_of_fault f) all
+  scalars-spotted f o = total-spot c v base (length p.places) all r globals (here c) scalar_part refl fit held-globals good-scalars f o
+
+  machine-spotted : (f : Fault) → IsIn f machine_faults → HasSpot (spot_of_fault f) all
+  machine-spotted f o =
+      ⊎_elim
+      (λ (w : IsIn f (faults_between 0 (node_count g))). spots-between 0 (node_count g) (omega arith) f w)
+      (λ (w : IsIn f (total_faults r scalar_part)). scalars-spotted f w)
+      (in-parts f (faults_between 0 (node_count g)) (total_faults r scalar_part) o)
+
   second-fault : second.fault ≡ fault_or_none v (least machine_faults)
   second-fault =
       ap (λ t. t.fault) second-is
@@ -868,7 +878,7 @@ module _ (c : Layout) (p : image.Program) (fields base q q2 kind : ℕ) (all : L
       ∙ ap (λ ps. lesser (fault_or_none v (least (faults_between 0 (node_count g)))) (settled (length p.places) ps globals).fault) puts-are
       ∙ ap (lesser (fault_or_none v (least (faults_between 0 (node_count g))))) settles.fault
       ∙ least-two v all low (faults_between 0 (node_count g)) (total_faults r scalar_part) (λ f o. spots-between 0 (node_count g) (omega arith) f o)
-      (λ f o. total-spot c v base (length p.places) all r globals (here c) scalar_part refl fit held-globals good-scalars f o) where
+      scalars-spotted where
         none-first : (o : Option M.Fault) → lesser None o ≡ o
         none-first o = refl
 
@@ -998,7 +1008,7 @@ module _ (c : Layout) (p : image.Program) (fields base q q2 kind : ℕ) (all : L
     others = λ z none. ap (λ vs. value_at vs z) globals-are ∙ settles.others z (λ x o. none-has z none x.slots (let t = scalar-given x o in (where-received x t.0).2.scalars t.1));
     count = ap length globals-are ∙ settles.count;
   } where
-    scalars : (x : ℕ) → x < length c.declarations → is_register (variable_at c.declarations x) ≡ false → is Sorts.Graph (variable_at c.declarations x) ≡ false → phase_value c second.globals x ≡ left.scalar x
+    scalars : (x : ℕ) → x < length c.declarations → is_register (variable_at c.declarations x) ≡ false → has_value (variable_at c.declarations x) ≡ true → phase_value c second.globals x ≡ left.scalar x
     scalars x lt e f = by (is_global (variable_at c.declarations x)) refl where
       by : (b : Bool) → is_global (variable_at c.declarations x) ≡ b → (if b then value_at second.globals (c.global x) else zero_of (variable_at c.declarations x).vtype) ≡ left.scalar x
       by true o =
@@ -1026,11 +1036,11 @@ module _ (c : Layout) (p : image.Program) (fields base q q2 kind : ℕ) (all : L
         given_all : List Contribution
         given_all = given_in loop mask_key mask inner r
 
-  pub message-loop : (first.fault ≡ None) × (first.globals ≡ globals) × StepIs c v p.registers fields g globals (parallel loop mask_key mask inner (nodes g) r) second
-  message-loop = (first-fault, first-globals, subst (λ a. StepIs c v p.registers fields g globals a second) (sym loop-is) (by (least meant_faults) refl)) where
-    by : (o : Option Fault) → least meant_faults ≡ o → StepIs c v p.registers fields g globals (unless_fault o (Ok left)) second
+  pub message-loop : (first.fault ≡ None) × (first.globals ≡ globals) × StepIs c v all p.registers fields g globals (parallel loop mask_key mask inner (nodes g) r) second
+  message-loop = (first-fault, first-globals, subst (λ a. StepIs c v all p.registers fields g globals a second) (sym loop-is) (by (least meant_faults) refl)) where
+    by : (o : Option Fault) → least meant_faults ≡ o → StepIs c v all p.registers fields g globals (unless_fault o (Ok left)) second
     by None e = leaves-store e
-    by (Some f) e = second-fault ∙ ap (fault_or_none v) (sym faults-same ∙ e)
+    by (Some f) e = (second-fault ∙ ap (fault_or_none v) (sym faults-same ∙ e), machine-spotted f (least-is machine_faults f (sym faults-same ∙ e)).is_in)
 
 pub message-loops : MessageLoopsAreTwoSupersteps
 message-loops c p fields base q q2 kind all loop mask_key mask key place h test body loads globals s r sender able gs all_is fit block block2 shown edges in_graph within apart =

@@ -15,12 +15,13 @@ use Rattle.gm_semantics.specs.Stores.{Store}
 use Rattle.gm_image.specs.Program.{Program}
 use Rattle.gm_machine.specs.Machine.{Nodes, block_at, superstep}
 use Rattle.gm_lowering.specs.Layouts.{Layout}
-use Rattle.gm_lowering.specs.Places.{Spot, segment, ascending, spots_in}
+use Rattle.gm_lowering.specs.Places.{Spot, segment, spots_in}
 use Rattle.gm_lowering.specs.Terms.{own_env}
-use Rattle.gm_lowering.specs.Phases.{GlobalsApart, NodesInGraph, Shown, StepIs, GivesApart, given_in}
-use Rattle.gm_lowering.specs.TwoSupersteps.{EdgesShown, StepsWithin}
+use Rattle.gm_lowering.specs.Phases.{GlobalsApart, NodesInGraph, EdgesShown, Shown, StepIs, GivesApart, given_in}
+use Rattle.gm_lowering.specs.TwoSupersteps.{StepsWithin}
 use Rattle.gm_lowering.specs.HomeTurns.{IsHomeLoop}
 use Rattle.gm_lowering.specs.HomeSteps.{home_block, each_spots, home_turns, given_inside, HasEach}
+use Rattle.gm_lowering.specs.Settles.{HaveRoom}
 
 -- the spots of a home loop
 abbrev pub home_spots : Layout → ℕ → ℕ → Key → Expr → Key → Expr → Stmt → List Spot
@@ -37,7 +38,7 @@ HomeLoopsAreSupersteps =
     HasEach c loop mask h
     → IsHomeLoop c p.registers fields loop h.iterator test body
     → GlobalsApart c (length globals)
-    → base + length (ascending all) ≤ length p.places
+    → HaveRoom base all (length p.places)
     → block_at p q ≡ home_block c seg loop.outer kind mask_key mask h key test body
     → Shown c p.registers fields loop.graph globals s r
     → EdgesShown c loop.graph r
@@ -45,7 +46,7 @@ HomeLoopsAreSupersteps =
     → StepsWithin loop.graph h.domain
     → GivesApart (given_in loop mask_key mask inner r)
     → ((k : ℕ) → k < node_count loop.graph → GivesApart (given_inside (home_turns loop h key test body r k)))
-    → StepIs c (own_env c seg loop.outer) p.registers fields loop.graph globals
+    → StepIs c (own_env c seg loop.outer) all p.registers fields loop.graph globals
     (parallel loop mask_key mask inner (nodes loop.graph) r) (superstep p loop.graph q globals s)
 
 -- an inner loop at its outer node whose body sends nothing has one block

@@ -5,7 +5,6 @@ use Rattle.gm_value.specs.declared.values.Value.{Value}
 use Rattle.gm_ast.specs.declared.tree.Domain.TheVariants.{OutNbrs, InNbrs}
 use Rattle.gm_ast.specs.declared.tree.Head.{Head}
 use Rattle.gm_ast.specs.declared.tree.Key.{Key}
-use Rattle.gm_ast.specs.Keys as K
 use Rattle.gm_ast.specs.Program.{Expr, Stmt, Foreach}
 use Rattle.gm_semantics.specs.Contributions.{Contribution}
 use Rattle.gm_semantics.specs.Faults.{joined}
@@ -16,15 +15,15 @@ use Rattle.gm_image.specs.Program.{Program, Block}
 use Rattle.gm_machine.specs.Machine.{context_at}
 use Rattle.gm_machine.specs.Vertex.{steps, vertex_after}
 use Rattle.gm_lowering.specs.Layouts.{Layout}
-use Rattle.gm_lowering.specs.Places.{Spot, Segment, segment, ascending, spots_in}
+use Rattle.gm_lowering.specs.Places.{Spot, Segment, segment, spots_in}
 use Rattle.gm_lowering.specs.Terms.{term, own_env}
 use Rattle.gm_lowering.specs.Bodies.{under, spots_of}
 use Rattle.gm_lowering.specs.Blocks.{body_block, direction_of, each_lines}
 use Rattle.gm_lowering.specs.OwnLoops.{own_finds, NodeShows, StepEnds}
-use Rattle.gm_lowering.specs.Settles.{HasSpot}
-use Rattle.gm_lowering.specs.Phases.{GivesApart}
+use Rattle.gm_lowering.specs.Settles.{HasSpot, HaveRoom}
+use Rattle.gm_lowering.specs.Phases.{EdgesShown, GivesApart}
 use Rattle.gm_lowering.specs.Receiving.{turn_of}
-use Rattle.gm_lowering.specs.TwoSupersteps.{EdgesShown, StepsWithin}
+use Rattle.gm_lowering.specs.TwoSupersteps.{StepsWithin}
 use Rattle.gm_lowering.specs.HomeTurns.{home_lines, IsHomeLoop}
 
 -- the block of a home loop
@@ -57,8 +56,8 @@ HomeStepsAreIterations =
     (globals values : List Value) (k : ℕ) (r : Store)
     → HasEach c loop mask h
     → IsHomeLoop c p.registers fields loop h.iterator test body
-    → ((f : K.Fault) → HasSpot f (each_spots c loop.outer h.iterator key test body) → HasSpot f all)
-    → base + length (ascending all) ≤ length p.places
+    → ((f : Spot) → HasSpot f (each_spots c loop.outer h.iterator key test body) → HasSpot f all)
+    → HaveRoom base all (length p.places)
     → NodeShows c loop.graph p.registers fields globals values k r
     → EdgesShown c loop.graph r
     → StepsWithin loop.graph h.domain

@@ -17,7 +17,7 @@ use Rattle.gm_semantics.specs.Stores.{Store}
 use Rattle.gm_image.specs.Program.{Line}
 use Rattle.gm_machine.specs.Expressions.{value_at, edge_value_at}
 use Rattle.gm_machine.specs.Vertex.{VertexContext, VertexState, After, lines_after}
-use Rattle.gm_lowering.specs.Layouts.{Layout, is_global, is_register, layout, register_types}
+use Rattle.gm_lowering.specs.Layouts.{Layout, is_global, is_register, has_value, layout, register_types}
 use Rattle.gm_lowering.specs.Places.{Segment}
 use Rattle.gm_lowering.specs.Terms.{Env, term, each_env}
 use Rattle.gm_lowering.specs.Plans.{Load, SenderItself, SenderProperty, SenderDegree, EdgeValue, loads_in}
@@ -70,7 +70,7 @@ pub record HomeGave (c : Layout) (v : Env) (before : VertexState) (it : Iteratio
 -- a vertex at an edge shows the store of an outer iteration: what it sees, its own properties, and the edge's values; its locals have their first values there
 pub record EdgeShows (c : Layout) (loop : Loop) (registers : List VType) (fields : ℕ) (s : VertexContext) (w : VertexState) (r : Store) : Type 0 where
   pub graph : s.graph ≡ loop.graph
-  pub scalar : (x : ℕ) → nat_eq x loop.outer ≡ false → x < length c.declarations → is_register (variable_at c.declarations x) ≡ false → is Sorts.Graph (variable_at c.declarations x) ≡ false
+  pub scalar : (x : ℕ) → nat_eq x loop.outer ≡ false → x < length c.declarations → is_register (variable_at c.declarations x) ≡ false → has_value (variable_at c.declarations x) ≡ true
       → phase_value c s.globals x ≡ r.scalar x
   pub in_graph : (x : ℕ) → nat_eq x loop.outer ≡ false → x < length c.declarations → is_global (variable_at c.declarations x) ≡ true → IsInGraph loop.graph (r.scalar x)
   pub at_outer : r.scalar loop.outer ≡ At (Some s.node)

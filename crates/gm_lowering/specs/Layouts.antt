@@ -39,6 +39,10 @@ rank test x = length (those test x)
 abbrev pub is_global : Variable → Bool
 is_global v = nat_eq v.depth 0 && (is Sorts.Scalar v || is Sorts.Iterator v)
 
+-- whether a variable has a value of its own, as scalars and nodes have
+abbrev pub has_value : Variable → Bool
+has_value v = is Sorts.Scalar v || is Sorts.Iterator v
+
 -- locals of parallel loops
 abbrev pub is_register : Variable → Bool
 is_register v = is Sorts.Scalar v && not (nat_eq v.depth 0)

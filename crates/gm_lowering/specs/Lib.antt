@@ -21,3 +21,9 @@ pub mod HomeTurns
 pub mod HomeSteps
 pub mod HomeLoops
 pub mod Takings
+pub mod Made
+pub mod TakingSteps
+pub mod SenderTurns
+pub mod SenderSteps
+pub mod SenderSupersteps
+pub mod SenderLoops

@@ -3,24 +3,22 @@ use Rattle.std.specs.Prelude.{◌≡◌, ℕ, nat_lt, Bool, true, false, not, �
 use Rattle.gm_value.specs.declared.values.VType.{VType}
 use Rattle.gm_value.specs.declared.values.Value.{Value}
 use Rattle.gm_ast.specs.declared.tree.Key.{Key}
-use Rattle.gm_ast.specs.declared.tree.Sort.TheVariants as Sorts
-use Rattle.gm_ast.specs.Names.{is}
 use Rattle.gm_ast.specs.Program.{Expr, Const, Var, NodeCount, EdgeCount, Live, Unary, Binary, Both, Either, Choose}
 use Rattle.gm_forms.specs.Forms.{is_set}
 use Rattle.gm_semantics.specs.Expressions.{value}
 use Rattle.gm_semantics.specs.Statements.{Run, State, variable_at, view_of}
 use Rattle.gm_machine.specs.Expressions.{value as term_value}
 use Rattle.gm_machine.specs.Machine.{Nodes, master_view}
-use Rattle.gm_lowering.specs.Layouts.{Layout, is_global, is_register}
+use Rattle.gm_lowering.specs.Layouts.{Layout, is_global, is_register, has_value}
 use Rattle.gm_lowering.specs.Places.{Segment}
 use Rattle.gm_lowering.specs.Phases.{NodesInGraph, Shown}
 use Rattle.gm_lowering.specs.Showing.{answer_of}
 use Rattle.gm_lowering.specs.Terms.{master_env, term}
 
--- whether a scalar of the sequential phase is found: a declared variable that is neither a local of a loop nor the graph
+-- whether a scalar of the sequential phase is found: a declared scalar or node that is no local of a loop
 abbrev pub finds_in_phase : Layout → ℕ → Bool
 finds_in_phase c x =
-    let v = variable_at c.declarations x in nat_lt x (length c.declarations) && (not (is_register v) && not (is Sorts.Graph v))
+    let v = variable_at c.declarations x in nat_lt x (length c.declarations) && (not (is_register v) && has_value v)
 
 -- whether an expression of the sequential phase is found: its scalars are, and it checks scalars of the procedure alone
 abbrev pub phase_finds : Layout → Expr → Bool

@@ -8,10 +8,8 @@ use Rattle.gm_value.specs.declared.reductions.Reduce.{Reduce}
 use Rattle.gm_value.specs.Numbers.{zero_of}
 use Rattle.gm_model.specs.Graphs.{NumberedGraph, node_count}
 use Rattle.gm_ast.specs.declared.tree.Key.{Key}
-use Rattle.gm_ast.specs.declared.tree.Sort.TheVariants as Sorts
 use Rattle.gm_ast.specs.declared.tree.Target.{Target}
 use Rattle.gm_ast.specs.declared.tree.Target.TheVariants as T
-use Rattle.gm_ast.specs.Names.{is}
 use Rattle.gm_ast.specs.Program.{Expr, Stmt}
 use Rattle.gm_semantics.specs.declared.faults.Fault.{Fault}
 use Rattle.gm_semantics.specs.Contributions.{Contribution}
@@ -22,7 +20,7 @@ use Rattle.gm_semantics.specs.Stores.{Store}
 use Rattle.gm_image.specs.Program.{Line}
 use Rattle.gm_machine.specs.Expressions.{value_at}
 use Rattle.gm_machine.specs.Vertex.{VertexContext, VertexState, After, begun as begin, lines_after}
-use Rattle.gm_lowering.specs.Layouts.{Layout, is_global, is_register}
+use Rattle.gm_lowering.specs.Layouts.{Layout, is_global, is_register, has_value}
 use Rattle.gm_lowering.specs.Places.{Segment}
 use Rattle.gm_lowering.specs.Terms.{Env, term}
 use Rattle.gm_lowering.specs.Plans.{Load, SenderItself, SenderProperty, SenderDegree, EdgeValue, same_load, loads_in}
@@ -100,7 +98,7 @@ pub record ReceiverGave (c : Layout) (v : Env) (it : Iteration) (w : VertexState
 
 -- a vertex before the handler of a message shows the store of a turn from node k to it: what it sees, its properties, and what the message carries
 pub record MessageShows (c : Layout) (g : NumberedGraph) (registers : List VType) (fields : ℕ) (globals values message : List Value) (n : ℕ) (loads : List Load) (w : View) (k j : ℕ) (r : Store) : Type 0 where
-  pub scalar : (x : ℕ) → nat_eq x n ≡ false → x < length c.declarations → is_register (variable_at c.declarations x) ≡ false → is Sorts.Graph (variable_at c.declarations x) ≡ false
+  pub scalar : (x : ℕ) → nat_eq x n ≡ false → x < length c.declarations → is_register (variable_at c.declarations x) ≡ false → has_value (variable_at c.declarations x) ≡ true
       → phase_value c globals x ≡ r.scalar x
   pub in_graph : (x : ℕ) → nat_eq x n ≡ false → x < length c.declarations → is_global (variable_at c.declarations x) ≡ true → IsInGraph g (r.scalar x)
   pub sender : r.scalar n ≡ At (Some k)

@@ -4,7 +4,7 @@ use Rattle.gm_value.specs.declared.values.VType.{VType}
 use Rattle.gm_value.specs.declared.values.Value.{Value}
 use Rattle.gm_value.specs.Bag.{IsIn}
 use Rattle.gm_value.specs.Numbers.{zero_of}
-use Rattle.gm_model.specs.Graphs.{NumberedGraph, node_count}
+use Rattle.gm_model.specs.Graphs.{NumberedGraph, node_count, edge_count}
 use Rattle.gm_ast.specs.declared.tree.Key.{Key}
 use Rattle.gm_ast.specs.declared.tree.Sort.TheVariants as Sorts
 use Rattle.gm_ast.specs.Names.{is}
@@ -19,15 +19,16 @@ use Rattle.gm_semantics.specs.Loops.{iteration, parallel}
 use Rattle.gm_semantics.specs.Statements.{variable_at}
 use Rattle.gm_semantics.specs.Stores.{Store}
 use Rattle.gm_image.specs.Program.{Program}
-use Rattle.gm_machine.specs.Expressions.{value_at}
+use Rattle.gm_machine.specs.Expressions.{value_at, edge_value_at}
 use Rattle.gm_machine.specs.Machine.{Nodes, Stepped, block_at, superstep}
-use Rattle.gm_lowering.specs.Layouts.{Layout, is_global, is_register}
-use Rattle.gm_lowering.specs.Places.{Spot, segment, ascending, spots_in}
+use Rattle.gm_lowering.specs.Layouts.{Layout, is_global, is_register, has_value}
+use Rattle.gm_lowering.specs.Places.{Spot, segment, spots_in}
 use Rattle.gm_lowering.specs.Terms.{Env, own_env}
 use Rattle.gm_lowering.specs.Bodies.{spots_of}
 use Rattle.gm_lowering.specs.Showing.{fault_of}
 use Rattle.gm_lowering.specs.Sites.{phase_value, IsInGraph, HoldLocals, HoldProperties}
 use Rattle.gm_lowering.specs.OwnLoops.{IsOwnLoop, own_block}
+use Rattle.gm_lowering.specs.Settles.{HasSpot, spot_of_fault, HaveRoom}
 
 -- the globals of the procedure's scalars are in range and apart from each other
 pub record GlobalsApart (c : Layout) (globals : ℕ) : Type 0 where
@@ -39,15 +40,20 @@ pub record GlobalsApart (c : Layout) (globals : ℕ) : Type 0 where
 abbrev pub NodesInGraph : Layout → NumberedGraph → Store → Type 0
 NodesInGraph c g r = (x : ℕ) → x < length c.declarations → is_global (variable_at c.declarations x) ≡ true → IsInGraph g (r.scalar x)
 
--- globals and nodes show a store: scalars of the procedure are in globals, and properties in fields; what is declared in parallel loops has its first value, in registers too; and no message waits
+-- globals and nodes show a store: scalars of the procedure are in globals, and properties in fields; what is declared in parallel loops has its first value, in registers too; and no message waits. What stands as a scalar in a property or in the graph is not shown
 pub record Shown (c : Layout) (registers : List VType) (fields : ℕ) (g : NumberedGraph) (globals : List Value) (s : Nodes) (r : Store) : Type 0 where
-  pub scalars : (x : ℕ) → x < length c.declarations → is_register (variable_at c.declarations x) ≡ false → is Sorts.Graph (variable_at c.declarations x) ≡ false
+  pub scalars : (x : ℕ) → x < length c.declarations → is_register (variable_at c.declarations x) ≡ false → has_value (variable_at c.declarations x) ≡ true
       → phase_value c globals x ≡ r.scalar x
   pub locals : HoldLocals c (map zero_of registers) r
   pub properties : (k : ℕ) → k < node_count g → HoldProperties c (slice_index_or s.fields k []) k r
   pub widths : (k : ℕ) → k < node_count g → length (slice_index_or s.fields k []) ≡ fields
   pub all_nodes : length s.fields ≡ node_count g
   pub idle : s.sent ≡ []
+
+-- the columns of the graph hold the edge properties
+abbrev pub EdgesShown : Layout → NumberedGraph → Store → Type 0
+EdgesShown c g r =
+    (p e : ℕ) → p < length c.declarations → is Sorts.EdgeProperty (variable_at c.declarations p) ≡ true → e < edge_count g → edge_value_at g (c.column p) e ≡ r.edge p e
 
 -- globals that no scalar of the procedure has keep their values
 abbrev pub OthersKept : Layout → List Value → List Value → Type 0
@@ -61,10 +67,10 @@ pub record Leaves (c : Layout) (registers : List VType) (fields : ℕ) (g : Numb
   pub others : OthersKept c globals t.globals
   pub count : length t.globals ≡ length globals
 
--- a superstep is a parallel loop that ends so: with a store that it leaves, or with the loop's fault
-abbrev pub StepIs : Layout → Env → List VType → ℕ → NumberedGraph → List Value → Result Store Fault → Stepped → Type 0
-StepIs c v registers fields g globals (Ok r) t = Leaves c registers fields g globals r t
-StepIs c v registers fields g globals (Err f) t = t.fault ≡ Some (fault_of v f)
+-- a superstep is a parallel loop that ends so: with a store that it leaves, or with the loop's fault, which is among some spots
+abbrev pub StepIs : Layout → Env → List Spot → List VType → ℕ → NumberedGraph → List Value → Result Store Fault → Stepped → Type 0
+StepIs c v spots registers fields g globals (Ok r) t = Leaves c registers fields g globals r t
+StepIs c v spots registers fields g globals (Err f) t = (t.fault ≡ Some (fault_of v f)) × HasSpot (spot_of_fault f) spots
 
 -- what a loop gives in the end: to each slot by one reduction, and of one target what one statement gives is of one total
 pub record GivesApart (cs : List Contribution) : Type 0 where
@@ -85,10 +91,10 @@ OwnLoopsAreSupersteps =
     (c : Layout) (p : Program) (fields base q kind : ℕ) (loop : Loop) (key : Key) (test : Expr) (body : Stmt) (globals : List Value) (s : Nodes) (r : Store)
     → IsOwnLoop c p.registers fields loop test body
     → GlobalsApart c (length globals)
-    → base + length (ascending (own_spots c loop.outer key test body)) ≤ length p.places
+    → HaveRoom base (own_spots c loop.outer key test body) (length p.places)
     → block_at p q ≡ own_block c (segment base (own_spots c loop.outer key test body)) loop.outer kind key test body
     → Shown c p.registers fields loop.graph globals s r
     → NodesInGraph c loop.graph r
     → GivesApart (given_in loop key test body r)
-    → StepIs c (own_env c (segment base (own_spots c loop.outer key test body)) loop.outer) p.registers fields loop.graph globals
+    → StepIs c (own_env c (segment base (own_spots c loop.outer key test body)) loop.outer) (own_spots c loop.outer key test body) p.registers fields loop.graph globals
     (parallel loop key test body (nodes loop.graph) r) (superstep p loop.graph q globals s)

@@ -5,7 +5,6 @@ use Rattle.gm_value.specs.declared.values.Value.TheVariants.{At}
 use Rattle.gm_value.specs.Bag.{IsIn}
 use Rattle.gm_model.specs.Graphs.{Step, node_count}
 use Rattle.gm_ast.specs.declared.tree.Key.{Key}
-use Rattle.gm_ast.specs.Keys as K
 use Rattle.gm_ast.specs.Program.{Expr, Stmt}
 use Rattle.gm_semantics.specs.declared.faults.Fault.{Fault}
 use Rattle.gm_semantics.specs.declared.slots.Slot.TheVariants.{Scalar, Node}
@@ -18,7 +17,7 @@ use Rattle.gm_machine.specs.Expressions.{value_at}
 use Rattle.gm_machine.specs.Machine.{context_at}
 use Rattle.gm_machine.specs.Vertex.{Message, After, vertex_after}
 use Rattle.gm_lowering.specs.Layouts.{Layout}
-use Rattle.gm_lowering.specs.Places.{Spot, Segment, segment, ascending, spots_in}
+use Rattle.gm_lowering.specs.Places.{Spot, Segment, segment, spots_in}
 use Rattle.gm_lowering.specs.Terms.{Env}
 use Rattle.gm_lowering.specs.Plans.{Load}
 use Rattle.gm_lowering.specs.Bodies.{spots_of}
@@ -26,7 +25,7 @@ use Rattle.gm_lowering.specs.Blocks.{receiver_env}
 use Rattle.gm_lowering.specs.Sites.{given}
 use Rattle.gm_lowering.specs.OwnLoops.{NodeShows}
 use Rattle.gm_lowering.specs.MessageLoops.{handler_lines, IsMessageLoop, Carries, is_to_scalars, is_to_nodes}
-use Rattle.gm_lowering.specs.Settles.{HasSpot, fault_or_none}
+use Rattle.gm_lowering.specs.Settles.{HasSpot, fault_or_none, HaveRoom}
 use Rattle.gm_lowering.specs.Phases.{GivesApart}
 
 -- the block of the receivers
@@ -72,8 +71,8 @@ ReceivingStepsAreTurns =
     (c : Layout) (p : Program) (fields base : ℕ) (all : List Spot) (loop : Loop) (i : ℕ) (loads : List Load) (kind : ℕ) (key : Key) (test : Expr) (body : Stmt)
     (globals values : List Value) (j : ℕ) (r : Store) (xs : List (ℕ × Step)) (message : ℕ × Step → Message)
     → IsMessageLoop c p.registers fields loop i loads test body
-    → ((f : K.Fault) → HasSpot f (inner_spots c loop.outer i key test body) → HasSpot f all)
-    → base + length (ascending all) ≤ length p.places
+    → ((f : Spot) → HasSpot f (inner_spots c loop.outer i key test body) → HasSpot f all)
+    → HaveRoom base all (length p.places)
     → NodeShows c loop.graph p.registers fields globals values j r
     → ((x : ℕ × Step) → IsIn x xs → IsMessageOf loop loads kind key r j x (message x))
     → let turn = turn_of loop i key test body r in

@@ -3,8 +3,6 @@ use Rattle.std.specs.Prelude.{◌≡◌, ◌<◌, ◌≤◌, ◌+◌, ◌⊎◌,
 use Rattle.std.specs.List.{list_all}
 use Rattle.gm_value.specs.declared.values.Value.{Value}
 use Rattle.gm_value.specs.Bag.{IsIn}
-use Rattle.gm_ast.specs.Keys as K
-use Rattle.gm_ast.specs.Keys.{total_fault}
 use Rattle.gm_semantics.specs.declared.faults.Fault.{Fault}
 use Rattle.gm_semantics.specs.declared.slots.Slot.{Slot}
 use Rattle.gm_semantics.specs.Contributions.{Contribution, statement_of, value_after, total_faults}
@@ -16,15 +14,23 @@ use Rattle.gm_machine.specs.declared.faults.Fault as M
 use Rattle.gm_machine.specs.Expressions.{value_at}
 use Rattle.gm_machine.specs.Taking.{settled}
 use Rattle.gm_lowering.specs.Layouts.{Layout}
-use Rattle.gm_lowering.specs.Places.{Spot, segment, ascending, place_index}
+use Rattle.gm_lowering.specs.Places.{Spot, segment, ascending, place_index, spot_of_total}
 use Rattle.gm_lowering.specs.Terms.{Env}
 use Rattle.gm_lowering.specs.Showing.{fault_of}
 use Rattle.gm_lowering.specs.Sites.{slot_at, given}
 
--- a spot of a fault
-abbrev pub HasSpot : K.Fault → List Spot → Type 0
-HasSpot f [] = ⊥
-HasSpot f (s ∷ ss) = (s.fault ≡ f) ⊎ HasSpot f ss
+-- a spot is among some
+abbrev pub HasSpot : Spot → List Spot → Type 0
+HasSpot z [] = ⊥
+HasSpot z (s ∷ ss) = (s ≡ z) ⊎ HasSpot z ss
+
+-- the spot of a fault: where it stands in the order of faults, and the place that it shows
+abbrev pub spot_of_fault : Fault → Spot
+spot_of_fault f = record { fault = record { key = f.key; place = f.place }; shown = f.shown }
+
+-- if there are spots, their indices from a base on are among those of so many places
+abbrev pub HaveRoom : ℕ → List Spot → ℕ → Type 0
+HaveRoom base spots places = (z : Spot) → HasSpot z spots → base + length (ascending spots) ≤ places
 
 -- what may be a fault, as the machine names it
 abbrev pub fault_or_none : Env → Option Fault → Option M.Fault
@@ -48,7 +54,7 @@ pub record AreGiven (cs : List Contribution) (here : Slot → Bool) (spots : Lis
   pub here_all : (x : Contribution) → IsIn x cs → list_all here x.slots ≡ true
   pub not_empty : (x : Contribution) → IsIn x cs → is_some_list x.slots ≡ true
   pub one_total : (x y : Contribution) → IsIn x cs → IsIn y cs → x.slots ≡ y.slots → statement_of x ≡ statement_of y → x.total ≡ y.total
-  pub spotted : (x : Contribution) → IsIn x cs → HasSpot (total_fault x.total) spots
+  pub spotted : (x : Contribution) → IsIn x cs → HasSpot (spot_of_total x.total) spots
 
 -- what is taken is the same: the slots hold the same, other ones hold what they held, and the least fault is the same
 pub record SettlesAlike (c : Layout) (v : Env) (places : ℕ) (s : Store) (held : List Value) (here : Slot → Bool) (cs : List Contribution) : Type 0 where
@@ -61,6 +67,6 @@ pub record SettlesAlike (c : Layout) (v : Env) (places : ℕ) (s : Store) (held 
 abbrev pub ReductionsSettle : Type 0
 ReductionsSettle =
     (c : Layout) (v : Env) (base places : ℕ) (spots : List Spot) (s : Store) (held : List Value) (here : Slot → Bool) (cs : List Contribution)
-    → v.place ≡ place_index (segment base spots) → base + length (ascending spots) ≤ places
+    → v.place ≡ place_index (segment base spots) → HaveRoom base spots places
     → AreHeld c s held here → AreGiven cs here spots
     → SettlesAlike c v places s held here cs

@@ -1,5 +1,5 @@
 -- How lines end that stand for a part of a body: what a vertex's state shows of an iteration, and what it has given.
-use Rattle.std.specs.Prelude.{◌≡◌, ◌<◌, ℕ, nat_eq, nat_lt, Bool, true, false, not, ◌&&◌, ◌||◌, if◌then◌else◌, Some, None, List, [], ◌∷◌, length, map}
+use Rattle.std.specs.Prelude.{◌≡◌, ◌<◌, ℕ, nat_eq, nat_lt, Bool, true, false, ◌&&◌, ◌||◌, if◌then◌else◌, Some, None, List, [], ◌∷◌, length, map}
 use Rattle.gm_value.specs.declared.values.Value.{Value}
 use Rattle.gm_value.specs.declared.values.Value.TheVariants.{At}
 use Rattle.gm_value.specs.declared.reductions.Reduce.{Reduce}
@@ -21,13 +21,13 @@ use Rattle.gm_semantics.specs.Stores.{Store}
 use Rattle.gm_machine.specs.Expressions.{value_at}
 use Rattle.gm_machine.specs.Taking.{Contribution as Given}
 use Rattle.gm_machine.specs.Vertex.{VertexContext, VertexState}
-use Rattle.gm_lowering.specs.Layouts.{Layout, is_global, is_register}
+use Rattle.gm_lowering.specs.Layouts.{Layout, is_global, is_register, has_value}
 use Rattle.gm_lowering.specs.Terms.{Env}
 
 -- whether a scalar is found: an iterator of the site, or a declared variable that is not the graph
 abbrev pub finds_scalar : Layout → List ℕ → ℕ → Bool
 finds_scalar c its x =
-    is_in its x || (nat_lt x (length c.declarations) && not (is Sorts.Graph (variable_at c.declarations x)))
+    is_in its x || (nat_lt x (length c.declarations) && has_value (variable_at c.declarations x))
 
 -- whether a node's check is found: an iterator's, or that of a scalar of the procedure, which no body changes
 abbrev pub finds_node : Layout → List ℕ → ℕ → Bool
@@ -104,7 +104,7 @@ IsInGraph g v = (n : ℕ) → v ≡ At (Some n) → n < node_count g
 
 -- what all vertices see of a store: variables that are no locals, and the nodes in the scalars of the procedure
 pub record SeesPhase (c : Layout) (g : NumberedGraph) (globals : List Value) (r : Store) : Type 0 where
-  pub scalar : (x : ℕ) → x < length c.declarations → is_register (variable_at c.declarations x) ≡ false → is Sorts.Graph (variable_at c.declarations x) ≡ false
+  pub scalar : (x : ℕ) → x < length c.declarations → is_register (variable_at c.declarations x) ≡ false → has_value (variable_at c.declarations x) ≡ true
       → phase_value c globals x ≡ r.scalar x
   pub in_graph : (x : ℕ) → x < length c.declarations → is_global (variable_at c.declarations x) ≡ true → IsInGraph g (r.scalar x)
 
@@ -131,7 +131,7 @@ pub record OwnShows (c : Layout) (v : Env) (g : NumberedGraph) (iterator n regis
   pub graph : s.graph ≡ g
   pub inside : n < node_count g
   pub at_node : it.store.scalar iterator ≡ At (Some n)
-  pub phase : (x : ℕ) → nat_eq x iterator ≡ false → x < length c.declarations → is_register (variable_at c.declarations x) ≡ false → is Sorts.Graph (variable_at c.declarations x) ≡ false
+  pub phase : (x : ℕ) → nat_eq x iterator ≡ false → x < length c.declarations → is_register (variable_at c.declarations x) ≡ false → has_value (variable_at c.declarations x) ≡ true
       → phase_value c s.globals x ≡ it.store.scalar x
   pub in_graph : (x : ℕ) → nat_eq x iterator ≡ false → x < length c.declarations → is_global (variable_at c.declarations x) ≡ true → IsInGraph g (it.store.scalar x)
   pub locals : HoldLocals c w.registers it.store

@@ -4,16 +4,22 @@ ghost use Rattle.gm_lowering.specs.Masters.{PhaseTermsHaveValues};
 ghost use Rattle.gm_lowering.specs.HomeLoops.{HomeLoopsAreSupersteps, HomeLoopsHaveOneBlock};
 ghost use Rattle.gm_lowering.specs.HomeSteps.{HomeStepsAreIterations};
 ghost use Rattle.gm_lowering.specs.HomeTurns.{EachLinesAreTurns, RegistersBegin};
+ghost use Rattle.gm_lowering.specs.Made.{LoopsGiveApart, TurnsGiveApart};
 ghost use Rattle.gm_lowering.specs.MessageLoops.{HandlersAreTurns};
 ghost use Rattle.gm_lowering.specs.OwnLoops.{OwnStepsAreIterations};
 ghost use Rattle.gm_lowering.specs.Phases.{OwnLoopsAreSupersteps};
 ghost use Rattle.gm_lowering.specs.Receiving.{ReceivingStepsAreTurns};
+ghost use Rattle.gm_lowering.specs.SenderLoops.{SendingLoopsAreTwoSupersteps};
+ghost use Rattle.gm_lowering.specs.SenderSteps.{SendingStepsAreIterations};
+ghost use Rattle.gm_lowering.specs.SenderSupersteps.{SendingSuperstepsSend};
+ghost use Rattle.gm_lowering.specs.SenderTurns.{SendingLinesAreTurns};
 ghost use Rattle.gm_lowering.specs.Sends.{SendBlocksSend};
 ghost use Rattle.gm_lowering.specs.Settles.{ReductionsSettle};
 ghost use Rattle.gm_lowering.specs.Shapes.{LayoutsAreApart, MessageLoopsHaveTwoBlocks, OwnLoopsHaveOneBlock};
 ghost use Rattle.gm_lowering.specs.Showing.{LiveHasItsValue, TermsHaveValues};
 ghost use Rattle.gm_lowering.specs.Shown.{IndicesShowPlaces};
 ghost use Rattle.gm_lowering.specs.Takings.{TakingHandlersTake};
+ghost use Rattle.gm_lowering.specs.TakingSteps.{TakingBlocksTake};
 ghost use Rattle.gm_lowering.specs.TwoSupersteps.{MessageLoopsAreTwoSupersteps};
 
 /// The term of an expression has the expression's value, or its first fault at the index of its place, in every view of
@@ -121,4 +127,47 @@ pub fn home_loops_are_supersteps()
 /// receiver's properties, with the key of the reduction's total, and does nothing else.
 pub fn taking_handlers_take()
     ensures { TakingHandlersTake }
+{}
+
+/// What a loop gives when it ends is apart where the reductions of its body go together: contributions to one slot are by one
+/// reduction to one target, and those of one statement to one target are of one total. So is what the turns of an inner loop
+/// give at each node.
+pub fn bodies_give_apart()
+    ensures loops { LoopsGiveApart }
+    ensures turns { TurnsGiveApart }
+{}
+
+/// One superstep of all vertices with a taking block takes what messages carry for reductions: it has the least fault of the
+/// totals, at the index of its place; or globals and nodes show the store that the contributions leave, no message waits, and
+/// the globals keep their values.
+pub fn taking_blocks_take()
+    ensures { TakingBlocksTake }
+{}
+
+/// The lines of an each that reduces to properties of the neighbour are the inner loop's turn at the edge, whatever the turns
+/// before left in the registers: they have the turn's fault; and what they put to scalars and send to the neighbour is what the
+/// turn gives, also before a fault, each message by the kind of its reduction. The fields stay as they were.
+pub fn sending_lines_are_turns()
+    ensures { SendingLinesAreTurns }
+{}
+
+/// The step of a vertex with the block of a loop that sends along its edges is the loop's iteration at its node: it has the
+/// iteration's fault, the least of the mask's and the turns'; it puts what the turns give to scalars of the procedure, and sends
+/// what they give to properties of the neighbours, also before a fault. Its fields stay as they were.
+pub fn sending_steps_are_iterations()
+    ensures { SendingStepsAreIterations }
+{}
+
+/// The first superstep of all vertices of a loop that sends along its edges puts what goes to scalars of the procedure, and
+/// sends the rest: its fault is the least of the iterations' and of the totals of what is put; globals and nodes show what
+/// these leave; messages carry the other contributions, one each; and the other globals keep their values.
+pub fn sending_supersteps_send()
+    ensures { SendingSuperstepsSend }
+{}
+
+/// The two supersteps of a loop that sends along its edges are the loop, where the totals of what is sent come behind all its
+/// other faults: the first has the loop's fault, at the index of its place; or it has none, and the second has the loop's, or
+/// globals and nodes show the store that the loop leaves, no message waits, and the other globals keep their values.
+pub fn sending_loops_are_two_supersteps()
+    ensures { SendingLoopsAreTwoSupersteps }
 {}

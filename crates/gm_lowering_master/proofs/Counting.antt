@@ -116,7 +116,7 @@ module _ (s : Setting) (is' : IsSetting s) where
 
     next-value : (i : ℕ) (globals : List Value) → i < all → Counts i globals → term_value (master_view s.run.graph globals) (next_count c d place) ≡ Ok (I64 (pos (suc i)))
     next-value i globals less e =
-        let few : all ≤ 2147483647 = is'.few in ap (λ x. at_place place (result2 two.Add x (I64 (pos 1)))) e ∙ next-number place i (omega (arith, few, less))
+        let few : all ≤ 2147483647 = is'.graph.few_nodes in ap (λ x. at_place place (result2 two.Add x (I64 (pos 1)))) e ∙ next-number place i (omega (arith, few, less))
 
     unlike : OfScalar h.iterator ≡ CounterOf d → ⊥
     unlike e = cc

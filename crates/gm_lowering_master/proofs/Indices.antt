@@ -2,7 +2,6 @@
 use Rattle.std.proofs.Common.{◌≡◌, inl, inr, ℕ, zero, suc, ◌+◌, Bool, true, false, cond, Some, List, [], ◌∷◌, length, map, refl, ap, ◌∙◌, sym, subst, ⊎_elim}
 use Rattle.std.specs.Prelude.{filter, slice_get, if◌then◌else◌}
 use Rattle.std.proofs.lemmas.Bool.{both_ways}
-use Rattle.gm_base.specs.declared.places.Place.{Place}
 use Rattle.gm_value.specs.Bag.{IsIn}
 use Rattle.gm_ast.specs.Keys as K
 use Rattle.gm_ast.specs.Keys.{fault_lt}
@@ -10,7 +9,7 @@ use Rattle.gm_image.specs.Program.{Program}
 use Rattle.gm_machine.specs.Machine.{place_at}
 use Rattle.gm_lowering.specs.Places.{Spot, segment, spot_lt, inserted, ascending, place_index, shown_places}
 use Rattle.gm_lowering.specs.Settles.{HasSpot}
-use Rattle.gm_lowering.proofs.Orders.{lt-itself, lt-trans, ascending-has}
+use Rattle.gm_lowering.proofs.Orders.{lt-itself, lt-trans, HasFault, fault-has, ascending-has}
 use Rattle.gm_lowering_master.specs.Runs.{StandsAt}
 use Rattle.gm_lowering_master.proofs.Standing.{stands-get, get-is-index_or}
 
@@ -53,10 +52,10 @@ none-before f (x ∷ xs) h = by (fault_lt x.fault f) refl (none-before f xs (λ 
   by false e rest = rest
 
 -- among spots in order the number of those before a fault is its index
-pub index-found : (f : K.Fault) (xs : List Spot) → AreInOrder xs → HasSpot f xs
+pub index-found : (f : K.Fault) (xs : List Spot) → AreInOrder xs → HasFault f xs
     → (s : Spot) × (s.fault ≡ f) × IsIn s xs × (slice_get xs (length (filter (λ s. fault_lt s.fault f) xs)) ≡ Some s)
 index-found f [] o h = absurd h
-index-found f (x ∷ xs) o h = ⊎_elim here (λ (j : HasSpot f xs). there (index-found f xs o.1 j)) h where
+index-found f (x ∷ xs) o h = ⊎_elim here (λ (j : HasFault f xs). there (index-found f xs o.1 j)) h where
   here : x.fault ≡ f → (s : Spot) × (s.fault ≡ f) × IsIn s (x ∷ xs) × (slice_get (x ∷ xs) (length (filter (λ s. fault_lt s.fault f) (x ∷ xs))) ≡ Some s)
   here e = (
     x,
@@ -76,13 +75,13 @@ shown-get [] i s e = cc
 shown-get (x ∷ xs) zero s e = cc
 shown-get (x ∷ xs) (suc i) s e = shown-get xs i s e
 
--- the index of a fault that has a spot leads to the place that a spot of it shows
-pub place-found : (p : Program) (base : ℕ) (spots : List Spot) (f : K.Fault) (shown : Place) → StandsAt p.places base (shown_places (segment base spots)) → HasSpot f spots
-    → ((s : Spot) → IsIn s spots → s.fault ≡ f → s.shown ≡ shown)
-    → place_at p (place_index (segment base spots) f.key f.place) ≡ shown
-place-found p base spots f shown stands h own =
+-- the index of a fault that has a spot leads to the place that it shows
+pub place-found : (p : Program) (base : ℕ) (spots : List Spot) (z : Spot) → StandsAt p.places base (shown_places (segment base spots)) → HasSpot z spots
+    → ((s : Spot) → IsIn s spots → s.fault ≡ z.fault → s.shown ≡ z.shown)
+    → place_at p (place_index (segment base spots) z.fault.key z.fault.place) ≡ z.shown
+place-found p base spots z stands h own =
     let all = ascending spots in
-    let q = index-found f all (ascending-order spots) (ascending-has f spots h) in
-    let i : ℕ = length (filter (λ s. fault_lt s.fault f) all) in
+    let q = index-found z.fault all (ascending-order spots) (ascending-has z.fault spots (fault-has z spots h)) in
+    let i : ℕ = length (filter (λ s. fault_lt s.fault z.fault) all) in
     get-is-index_or p.places (base + i) q.0.shown _ (stands-get p.places base (shown_places (segment base spots)) i q.0.shown stands (shown-get all i q.0 q.3))
-    ∙ ascending-all spots (λ s. s.fault ≡ f → s.shown ≡ shown) own q.0 q.2 q.1
+    ∙ ascending-all spots (λ s. s.fault ≡ z.fault → s.shown ≡ z.shown) own q.0 q.2 q.1

@@ -51,4 +51,4 @@ all-points p g args bound face typed fits others u b reaches =
 
 pub runs-are-followed : RunsAreFollowed
 runs-are-followed p g args bound face typed fits columns h loops =
-    run-followed p g args bound face (layouts-are-settings p g bound fits.graph.graph.few_nodes) (first-moments-show p g args bound face fits.graph.graph columns) h loops (all-points p g args bound face typed fits)
+    run-followed p g args bound face (layouts-are-settings p g bound fits.graph.graph) (first-moments-show p g args bound face fits.graph.graph columns) h loops (all-points p g args bound face typed fits)

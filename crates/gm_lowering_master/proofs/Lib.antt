@@ -17,3 +17,7 @@ pub mod Ranks
 pub mod Puts
 pub mod Starting
 pub mod Inside
+pub mod SentLast
+pub mod Going
+pub mod Plain
+mod PlainRows

@@ -21,10 +21,9 @@ use Rattle.gm_semantics.specs.Outcomes.{is_of, count_before, first_store}
 use Rattle.gm_semantics.specs.Statements.{variable_at}
 use Rattle.gm_machine.specs.Expressions.{value_at, edge_value_at}
 use Rattle.gm_machine.specs.Machine.{properties, with_inputs, row_at, start_control, start_nodes}
-use Rattle.gm_lowering.specs.Layouts.{Layout, layout, those, rank, all_those, tested, types_of, is_global, is_register, has_field, names_property, named_globals, kept_globals, counted_globals, global_types, loop_types, spare_types, optional, nesting, phase_positions, body_positions, local_types, register_types, field_types, column_types}
+use Rattle.gm_lowering.specs.Layouts.{Layout, layout, those, rank, all_those, tested, types_of, is_global, is_register, has_value, has_field, names_property, named_globals, kept_globals, counted_globals, global_types, loop_types, spare_types, optional, nesting, phase_positions, body_positions, local_types, register_types, field_types, column_types}
 use Rattle.gm_lowering.specs.Lowered.{lowered}
 use Rattle.gm_lowering.specs.Sites.{phase_value}
-use Rattle.gm_lowering_master.specs.Cells.{has_value}
 use Rattle.gm_lowering_master.specs.Whole.{has_result, zero_of_result, HasInterface, Starts, FirstMomentsShow}
 use Rattle.gm_lowering_master.proofs.Endings.{outside-global, behind-get}
 use Rattle.gm_lowering_master.proofs.Puts.{puts, puts-long, puts-away, puts-first, long-all, inputs-scalars, inputs-properties, AreLong, row-value, cell-value, rows-at, rows-long}

@@ -6,7 +6,6 @@ use Rattle.gm_base.specs.declared.places.Place.{Place}
 use Rattle.gm_value.specs.declared.values.Value.{Value}
 use Rattle.gm_value.specs.declared.values.Value.TheVariants.{At}
 use Rattle.gm_value.specs.declared.faults.FaultKind.{FaultKind}
-use Rattle.gm_value.specs.declared.faults.FaultKind.TheVariants.{NilNode}
 use Rattle.gm_value.specs.Bag.{IsIn}
 use Rattle.gm_value.specs.Numbers.{zero_of}
 use Rattle.gm_value.specs.Operations.{is_true, result1, result2}
@@ -25,19 +24,18 @@ use Rattle.gm_semantics.specs.Statements.{State, view_of, variable_at}
 use Rattle.gm_image.specs.Term as M
 use Rattle.gm_machine.specs.Expressions.{value as term_value, value_at}
 use Rattle.gm_machine.specs.Machine.{Nodes, master_view}
-use Rattle.gm_lowering.specs.Layouts.{Layout, is_global, is_register}
+use Rattle.gm_lowering.specs.Layouts.{Layout, is_global, is_register, has_value}
 use Rattle.gm_lowering.specs.Phases.{NodesInGraph}
 use Rattle.gm_lowering.specs.Places.{Spot, Segment, segment, spot_of, spot_at, spots_in, shown_places}
-use Rattle.gm_lowering.specs.Settles.{HasSpot}
+use Rattle.gm_lowering.specs.Settles.{HasSpot, spot_of_fault}
 use Rattle.gm_lowering.specs.Showing.{Tells, answer_of, fault_of}
 use Rattle.gm_lowering.specs.Sites.{phase_value}
 use Rattle.gm_lowering.specs.Terms.{Env, master_env, phase_scalar, term}
-use Rattle.gm_lowering.proofs.Orders.{named}
 use Rattle.gm_lowering.proofs.Own.{live-same, global-no_register}
 use Rattle.gm_lowering.proofs.Spots.{Reads, Within, rest-within}
 use Rattle.gm_lowering.proofs.Terms.{terms-have-values, live-has-its-value, hoisted-told}
 use Rattle.gm_lowering_master.specs.Runs.{StandsAt}
-use Rattle.gm_lowering_master.specs.Cells.{Setting, Between, is_scalar, has_value}
+use Rattle.gm_lowering_master.specs.Cells.{Setting, Between, is_scalar}
 use Rattle.gm_lowering_master.specs.Follows.{tells, is_told_value, IsFault}
 use Rattle.gm_lowering_master.proofs.Indices.{place-found}
 
@@ -205,16 +203,16 @@ module _ (s : Setting) (globals : List Value) (held : Nodes) (state : State) (be
     -- a fault that has a spot is the machine's
     fault-by : {A : Type 0} (r : Result A Fault) → Within r spots → Own r → (f : Fault) → r ≡ Err f → IsFault s.image (fault_of v f) f
     fault-by r within shows f e =
-        let named_spot : HasSpot (named f) spots = subst (λ x. Within x spots) e within in
+        let named_spot : HasSpot (spot_of_fault f) spots = subst (λ x. Within x spots) e within in
         let shown : f.shown ≡ f.place = subst (λ x. Own x) e shows in
-        (refl, place-found s.image base spots (named f) f.shown stands named_spot (λ z i h. own z i ∙ ap (λ y. y.place) h ∙ sym shown))
+        (refl, place-found s.image base spots (spot_of_fault f) stands named_spot (λ z i h. own z i ∙ ap (λ y. y.place) h ∙ sym shown))
 
-    within-by : {A : Type 0} (r : Result A Fault) (xs : List Spot) → ((f : K.Fault) → HasSpot f xs → HasSpot f spots) → Within r xs → Within r spots
+    within-by : {A : Type 0} (r : Result A Fault) (xs : List Spot) → ((f : Spot) → HasSpot f xs → HasSpot f spots) → Within r xs → Within r spots
     within-by (Ok a) xs h w = tt
-    within-by (Err f) xs h w = h (named f) w
+    within-by (Err f) xs h w = h (spot_of_fault f) w
 
     -- a told expression
-    pub told : (k : Key) (e : Expr) → tells c e ≡ true → ((f : K.Fault) → HasSpot f (spots_in e k) → HasSpot f spots)
+    pub told : (k : Key) (e : Expr) → tells c e ≡ true → ((f : Spot) → HasSpot f (spots_in e k) → HasSpot f spots)
         → Told s v globals (term v k e) (value e (view_of s.run state k))
     told k e h has =
         let w = view_of s.run state k in
@@ -225,7 +223,7 @@ module _ (s : Setting) (globals : List Value) (held : Nodes) (state : State) (be
         }
 
     -- the node of a scalar
-    told-live : (k : Key) (x : ℕ) (at : Place) → is_scalar c x ≡ true → NodesInGraph c s.run.graph state.store → HasSpot (named (record { kind = NilNode; shown = at; key = k; place = at })) spots
+    told-live : (k : Key) (x : ℕ) (at : Place) → is_scalar c x ≡ true → NodesInGraph c s.run.graph state.store → HasSpot (spot_at k at) spots
         → Told s v globals (term v k (S.Live x at)) (value (S.Live x at) (view_of s.run state k))
     told-live k x at h inside has =
         let w = view_of s.run state k in
@@ -247,7 +245,7 @@ module _ (s : Setting) (globals : List Value) (held : Nodes) (state : State) (be
           shows None = refl
 
     -- what a scalar is set to
-    pub told-value : (k : Key) (e : Expr) → is_told_value c e ≡ true → NodesInGraph c s.run.graph state.store → ((f : K.Fault) → HasSpot f (spots_in e k) → HasSpot f spots)
+    pub told-value : (k : Key) (e : Expr) → is_told_value c e ≡ true → NodesInGraph c s.run.graph state.store → ((f : Spot) → HasSpot f (spots_in e k) → HasSpot f spots)
         → Told s v globals (term v k e) (value e (view_of s.run state k))
-    told-value k (S.Live x at) h inside has = told-live k x at h inside (has (record { key = k; place = at }) (inl refl))
+    told-value k (S.Live x at) h inside has = told-live k x at h inside (has (spot_at k at) (inl refl))
     told-value k e h inside has = told k e h has

@@ -12,11 +12,11 @@ use Rattle.gm_semantics.specs.Statements.{variable_at}
 use Rattle.gm_semantics.specs.Stores.{Store, write}
 use Rattle.gm_machine.specs.Expressions.{value_at}
 use Rattle.gm_machine.specs.Machine.{Nodes}
-use Rattle.gm_lowering.specs.Layouts.{Layout, is_global, is_register}
+use Rattle.gm_lowering.specs.Layouts.{Layout, is_global, is_register, has_value}
 use Rattle.gm_lowering.specs.Phases.{OthersKept}
 use Rattle.gm_lowering.specs.Sites.{phase_value}
 use Rattle.gm_lowering.proofs.Own.{global-no_register}
-use Rattle.gm_lowering_master.specs.Cells.{has_value, Cell, OfScalar, OfResult, CounterOf, FlagOf, cell_number, is_cell, is_scalar, is_hidden, Setting, IsSetting, Between, Kept}
+use Rattle.gm_lowering_master.specs.Cells.{Cell, OfScalar, OfResult, CounterOf, FlagOf, cell_number, is_cell, is_scalar, is_hidden, Setting, IsSetting, Between, Kept}
 
 lt-more : (d e n : ℕ) → d ≤ e → nat_lt n d ≡ true → nat_lt n e ≡ true
 lt-more d e n h k = let lt : n < d = ltb-true n d k in lt-ltb n e (omega arith)

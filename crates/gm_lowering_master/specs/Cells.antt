@@ -1,22 +1,21 @@
 -- What globals and nodes show of a state between the statements of a sequential phase.
-use Rattle.std.specs.Prelude.{◌≡◌, ◌<◌, ◌≤◌, ℕ, ◌+◌, nat_lt, Bool, true, false, ◌&&◌, ◌||◌, Option, Some, None, List, [], length, map, slice_index_or}
+use Rattle.std.specs.Prelude.{◌≡◌, ◌<◌, ◌≤◌, ℕ, ◌+◌, nat_lt, Bool, true, false, ◌&&◌, ◌||◌, Option, Some, None, List, [], length, map}
 use Rattle.gm_value.specs.declared.values.VType.{VType}
 use Rattle.gm_value.specs.declared.values.Value.{Value}
 use Rattle.gm_value.specs.Numbers.{zero_of}
-use Rattle.gm_model.specs.Graphs.{NumberedGraph, node_count, edge_count}
-use Rattle.gm_ast.specs.declared.tree.Sort.TheVariants as Sorts
-use Rattle.gm_ast.specs.declared.tree.Variable.{Variable}
-use Rattle.gm_ast.specs.Names.{is}
+use Rattle.gm_model.specs.Graphs.{IsGraph}
 use Rattle.gm_semantics.specs.Statements.{Run, State, variable_at}
 use Rattle.gm_semantics.specs.Stores.{Store}
 use Rattle.gm_typed_stores.specs.Tells.{TypeTable}
 use Rattle.gm_image.specs.Program.{Program}
-use Rattle.gm_machine.specs.Expressions.{value_at, edge_value_at}
+use Rattle.gm_machine.specs.Expressions.{value_at}
 use Rattle.gm_machine.specs.Machine.{Nodes}
-use Rattle.gm_lowering.specs.Layouts.{Layout, is_global, is_register}
+use Rattle.gm_lowering.specs.Layouts.{Layout, is_global}
 use Rattle.gm_lowering.specs.Lowered.{Frame}
-use Rattle.gm_lowering.specs.Sites.{phase_value, HoldLocals, HoldProperties, IsApart}
+use Rattle.gm_lowering.specs.Phases.{EdgesShown, Shown}
+use Rattle.gm_lowering.specs.Sites.{IsApart, is_local}
 use Rattle.gm_lowering_master.specs.Runs.{Moment}
+use Rattle.gm_forms.specs.Typing.{type_at}
 
 -- what the master list keeps in globals: scalars of the procedure, its result, and the counters and flags of loops by how many such loops are around
 pub data Cell : Type 0 where
@@ -63,35 +62,18 @@ pub record Setting : Type 0 where
   pub returns : Bool
   pub depth : ℕ
 
--- a setting in which things lie apart, and a counter can count the nodes
+-- a setting in which things lie apart and registers begin with the first values of their locals, on a graph
 pub record IsSetting (s : Setting) : Type 0 where
   pub cells : AreCells s.frame.layout s.returns s.depth (length s.image.globals)
   pub rows : IsApart s.frame.layout (length s.image.registers) (length s.image.fields)
   pub declarations : s.run.declarations ≡ s.frame.layout.declarations
-  pub few : node_count s.run.graph ≤ 2147483647
-
--- the columns of the graph show edge properties
-abbrev pub ShowsEdges : Layout → NumberedGraph → Store → Type 0
-ShowsEdges c g r = (p e : ℕ) → p < length c.declarations → is Sorts.EdgeProperty (variable_at c.declarations p) ≡ true → e < edge_count g → edge_value_at g (c.column p) e ≡ r.edge p e
-
--- whether a variable has a value of its own, as scalars and nodes have
-abbrev pub has_value : Variable → Bool
-has_value v = is Sorts.Scalar v || is Sorts.Iterator v
-
--- globals and nodes show a store: scalars of the procedure are in globals, and properties in fields; what is declared in parallel loops has its first value, in registers too; and no message waits. What stands as a scalar in a property or in the graph is not shown
-pub record Shows (c : Layout) (registers : List VType) (fields : ℕ) (g : NumberedGraph) (globals : List Value) (s : Nodes) (r : Store) : Type 0 where
-  pub scalars : (x : ℕ) → x < length c.declarations → is_register (variable_at c.declarations x) ≡ false → has_value (variable_at c.declarations x) ≡ true
-      → phase_value c globals x ≡ r.scalar x
-  pub locals : HoldLocals c (map zero_of registers) r
-  pub properties : (k : ℕ) → k < node_count g → HoldProperties c (slice_index_or s.fields k []) k r
-  pub widths : (k : ℕ) → k < node_count g → length (slice_index_or s.fields k []) ≡ fields
-  pub all_nodes : length s.fields ≡ node_count g
-  pub idle : s.sent ≡ []
+  pub firsts : (x : ℕ) → is_local s.frame.layout x ≡ true → value_at (map zero_of s.image.registers) (s.frame.layout.register x) ≡ zero_of (type_at s.frame.layout.declarations x)
+  pub graph : IsGraph s.run.graph
 
 -- globals and nodes show a store, and the graph its edge properties
 pub record Between (s : Setting) (globals : List Value) (nodes : Nodes) (r : Store) : Type 0 where
-  pub shown : Shows s.frame.layout s.image.registers (length s.image.fields) s.run.graph globals nodes r
-  pub edges : ShowsEdges s.frame.layout s.run.graph r
+  pub shown : Shown s.frame.layout s.image.registers (length s.image.fields) s.run.graph globals nodes r
+  pub edges : EdgesShown s.frame.layout s.run.graph r
   pub count : length globals ≡ length s.image.globals
 
 -- a moment of the machine's run is one of the program's: the store is shown, and as many turns were counted, and are left

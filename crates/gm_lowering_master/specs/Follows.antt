@@ -19,14 +19,14 @@ use Rattle.gm_image.specs.Program.{Program}
 use Rattle.gm_machine.specs.declared.faults.Fault as M
 use Rattle.gm_machine.specs.Machine.{Nodes, Stepped, place_at}
 use Rattle.gm_lowering.specs.Blocks.{loop}
-use Rattle.gm_lowering.specs.Layouts.{Layout, is_register, nesting}
+use Rattle.gm_lowering.specs.Layouts.{Layout, is_register, has_value, nesting}
 use Rattle.gm_lowering.specs.Lowered as L
 use Rattle.gm_lowering.specs.Lowered.{part, past, lines_on, places_on, deeper, test_lines}
 use Rattle.gm_lowering.specs.Phases.{NodesInGraph, OthersKept}
 use Rattle.gm_lowering.specs.Places.{segment, shown_places, spot_at, spots_in}
 use Rattle.gm_lowering.specs.Terms.{master_env, term}
 use Rattle.gm_lowering_master.specs.Runs.{Moment, ends_from, supersteps, StandsAt}
-use Rattle.gm_lowering_master.specs.Cells.{Setting, IsSetting, is_scalar, has_value, Between, IsAt, Kept, HasResult}
+use Rattle.gm_lowering_master.specs.Cells.{Setting, IsSetting, is_scalar, Between, IsAt, Kept, HasResult}
 
 -- whether an expression of scalars and counts is told in the master list: its variables are declared scalars or nodes, and no locals of loops
 abbrev pub tells : Layout → Expr → Bool

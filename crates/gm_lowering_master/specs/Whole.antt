@@ -47,9 +47,9 @@ setting p g bound = record {
 abbrev pub first_moment : Program → NumberedGraph → List Value → ℕ → Moment
 first_moment p g args bound = record { left = bound; control = start_control (lowered p) args; nodes = start_nodes (lowered p) g }
 
--- a program's layout is a setting: things lie apart in its image
+-- on each graph a program's layout is a setting
 abbrev pub LayoutsAreSettings : Type 0
-LayoutsAreSettings = (p : Program) (g : NumberedGraph) (bound : ℕ) → node_count g ≤ 2147483647 → IsSetting (setting p g bound)
+LayoutsAreSettings = (p : Program) (g : NumberedGraph) (bound : ℕ) → IsGraph g → IsSetting (setting p g bound)
 
 -- inputs and outputs are declared, outside of loops, and inputs are no iterators; and properties of edges are inputs
 pub record HasInterface (p : Program) : Type 0 where

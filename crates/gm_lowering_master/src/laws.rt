@@ -1,6 +1,8 @@
 //! Laws of the master list, as contracts of calls that do nothing.
 
 ghost use Rattle.gm_lowering_master.specs.Follows.{StatementsAreFollowed};
+ghost use Rattle.gm_lowering_master.specs.Going.{HomeLoopsGo, MessageLoopsGo, OwnLoopsGo, SendingLoopsGo};
+ghost use Rattle.gm_lowering_master.specs.Plain.{PlainLoopsGo, PlainProgramsRun};
 ghost use Rattle.gm_lowering_master.specs.Runs.{LinesLead};
 ghost use Rattle.gm_lowering_master.specs.Whole.{FirstMomentsShow, LayoutsAreSettings, RunsAreFollowed};
 
@@ -37,4 +39,25 @@ pub fn first_moments_show()
 /// nodes of the graph.
 pub fn runs_are_followed()
     ensures { RunsAreFollowed }
+{}
+
+/// The supersteps of an own loop, of a home loop, of a message loop and of one that sends along its edges are the loop, at
+/// each point of a run where it begins: with the store that it leaves, or with its fault at the place that the fault shows.
+/// The loop finds what it reads where its kind has it, spots of one fault show one place, and what the loop gives to one slot
+/// is by one reduction. Of what is sent along edges the totals come behind all other faults.
+pub fn loops_go()
+    ensures own { OwnLoopsGo }
+    ensures message { MessageLoopsGo }
+    ensures home { HomeLoopsGo }
+    ensures sending { SendingLoopsGo }
+{}
+
+/// The machine on the image of a program of plain loops has the program's outcome, with its turns, or its fault and place, or
+/// the cut: on every graph with the edge columns that the image declares, for all arguments and every bound. A loop is plain
+/// where a test of its text says so: it is of own statements that reduce to scalars of the procedure, or is one inner loop
+/// along edges that reduces to these and to properties of one node, that at which it is evaluated, or its neighbour, where no
+/// other fault comes behind the totals of what it sends.
+pub fn plain_programs_run()
+    ensures loops { PlainLoopsGo }
+    ensures runs { PlainProgramsRun }
 {}

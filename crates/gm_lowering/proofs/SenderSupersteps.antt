@@ -1,0 +1,591 @@
+-- The first superstep of a loop that sends along its edges.
+use Rattle.std.proofs.Common.{◌≡◌, ◌≢◌, ◌<◌, ◌≤◌, ℕ, zero, suc, Bool, true, false, Option, Some, None, List, [], ◌∷◌, ◌++◌, length, map, refl, ap, ◌∙◌, sym, subst, arith, add-one, ⊎_elim, cond, inl, inr, ◌⊎◌, Ok}
+use Rattle.std.specs.Prelude.{◌+◌, ◌&&◌, ◌||◌, nat_lt, if◌then◌else◌, slice_index_or, filter, not, nat_eq}
+use Rattle.std.specs.List.{list_all, flat_map, enumerate_from}
+use Rattle.std.proofs.lemmas.Bool.{both_ways, ne_eqb, ltb-true, lt-ltb}
+use Rattle.std.proofs.Math.Path.{fun_ext}
+use Rattle.gm_value.specs.declared.values.Value.{Value}
+use Rattle.gm_value.specs.Bag.{IsIn}
+use Rattle.gm_value.specs.Numbers.{zero_of}
+use Rattle.gm_model.specs.Graphs.{NumberedGraph, node_count}
+use Rattle.gm_ast.specs.declared.tree.Key.{Key}
+use Rattle.gm_ast.specs.Program.{Expr, Stmt, Foreach}
+use Rattle.gm_ast.specs.declared.tree.Head.{Head}
+use Rattle.gm_ast.specs.declared.tree.Target.{Target}
+use Rattle.gm_ast.specs.declared.tree.Target.TheVariants as T
+use Rattle.gm_forms.proofs.Named.{both-true}
+use Rattle.gm_semantics.specs.declared.faults.Fault.{Fault}
+use Rattle.gm_semantics.specs.declared.slots.Slot.{Slot}
+use Rattle.gm_semantics.specs.declared.slots.Slot.TheVariants as slots
+use Rattle.gm_semantics.specs.Contributions as S
+use Rattle.gm_semantics.specs.Stores as St
+use Rattle.gm_semantics.specs.Contributions.{Contribution, total_faults, settled_store}
+use Rattle.gm_semantics.specs.Faults.{least, somes, joined, unless_fault}
+use Rattle.gm_semantics.specs.Faults as F
+use Rattle.gm_semantics.specs.Iterations.{Loop, Iteration}
+use Rattle.gm_semantics.specs.Levels.{numbers_from, nodes}
+use Rattle.gm_semantics.specs.Loops.{iteration, own_left, left_at, parallel}
+use Rattle.gm_semantics.specs.Statements.{variable_at}
+use Rattle.gm_semantics.specs.Stores.{Store, read, has_slot, overlaid}
+use Rattle.gm_semantics.proofs.ContributionLaws.{IsIn-filter, slots_eq-true}
+use Rattle.gm_semantics.proofs.TargetLaws.{value-away}
+use Rattle.gm_semantics.proofs.Leasts.{lesser_of, least-append}
+use Rattle.gm_image.specs.Parts.{is_among}
+use Rattle.gm_image.specs.Program as image
+use Rattle.gm_machine.specs.declared.faults.Fault as M
+use Rattle.gm_machine.specs.Expressions.{value_at}
+use Rattle.gm_machine.specs.Faults.{lesser, least_fault}
+use Rattle.gm_machine.specs.Machine.{Nodes, Stepped, context_at, block_at, all_steps, stepped, superstep}
+use Rattle.gm_machine.specs.Taking.{settled}
+use Rattle.gm_machine.specs.Vertex.{After, vertex_after, Message}
+use Rattle.gm_machine.proofs.LeastLaws.{least_right, least_from-right}
+use Rattle.gm_lowering.specs.Layouts.{Layout, is_global, is_register, has_value}
+use Rattle.gm_lowering.specs.Places.{Spot, Segment, segment, spots_in}
+use Rattle.gm_lowering.specs.Terms.{Env, own_env}
+use Rattle.gm_lowering.specs.Showing.{fault_of}
+use Rattle.gm_lowering.specs.Sites.{slot_at, given, phase_value, are_of_scalars}
+use Rattle.gm_lowering.specs.OwnLoops.{NodeShows}
+use Rattle.gm_lowering.specs.Phases.{GlobalsApart, Shown, GivesApart, given_in, NodesInGraph, EdgesShown, Leaves, StepIs}
+use Rattle.gm_lowering.specs.Settles.{HasSpot, fault_or_none, AreHeld, AreGiven, SettlesAlike, spot_of_fault, HaveRoom}
+use Rattle.gm_lowering.specs.SenderSteps.{AreSent, SendsAs}
+use Rattle.gm_lowering.specs.SenderTurns.{IsSenderLoop}
+use Rattle.gm_lowering.specs.SenderSupersteps.{Sends, SendingSuperstepsSend, with_scalars}
+use Rattle.gm_lowering.specs.HomeSteps.{home_block, each_spots, HasEach}
+use Rattle.gm_lowering.specs.HomeLoops.{home_spots}
+use Rattle.gm_lowering.specs.TwoSupersteps.{StepsWithin}
+use Rattle.gm_lowering.specs.Plans.{Away, aways}
+use Rattle.gm_lowering.specs.MessageLoops.{is_to_scalars, is_to_nodes}
+use Rattle.gm_lowering.specs.SenderLoops.{TotalsLast, TwoStepsAre, SendingLoopsAreTwoSupersteps}
+use Rattle.gm_lowering.specs.TakingSteps.{taking_block, Carried, IsTaken, contributions_of}
+use Rattle.gm_lowering.specs.Takings.{slots_at}
+use Rattle.gm_lowering.proofs.Orders.{lesser-lower}
+use Rattle.gm_lowering.proofs.Own.{global-has_value, global-no_register}
+use Rattle.gm_lowering.proofs.PutFacts.{here, IsPut}
+use Rattle.gm_lowering.proofs.Settles.{total-spot, reductions-settle, somes-in, in-somes, filter-in, least-is}
+use Rattle.gm_lowering.proofs.Spots.{Has, spot-left, spot-right}
+use Rattle.gm_lowering.proofs.Supersteps.{not-here, least-parts, least-two}
+use Rattle.gm_lowering.proofs.Regions.{in-parts, value-filtered, fault-filtered, least-members, in-front, in-back}
+use Rattle.gm_lowering.proofs.SenderSteps.{sent-both, sending-steps, iteration-spotted}
+use Rattle.gm_lowering.proofs.TakingSteps.{taking-blocks}
+use Rattle.gm_base.specs.declared.places.Place.{Place}
+
+filter-both : {A : Type 0} (t : A → Bool) (xs ys : List A) → filter t (xs ++ ys) ≡ filter t xs ++ filter t ys
+filter-both t [] ys = refl
+filter-both t (x ∷ xs) ys = by (t x) (filter-both t xs ys) where
+  by : (b : Bool) → filter t (xs ++ ys) ≡ filter t xs ++ filter t ys → cond b (x ∷ filter t (xs ++ ys)) (filter t (xs ++ ys)) ≡ cond b (x ∷ filter t xs) (filter t xs) ++ filter t ys
+  by true e = ap (λ l. x ∷ l) e
+  by false e = e
+
+map-append : {A B : Type 0} (f : A → B) (xs ys : List A) → map f (xs ++ ys) ≡ map f xs ++ map f ys
+map-append f [] ys = refl
+map-append f (x ∷ xs) ys = ap (λ l. f x ∷ l) (map-append f xs ys)
+
+module _ (c : Layout) (p : image.Program) (fields base q kind : ℕ) (loop : Loop) (mask_key : Key) (mask : Expr) (key : Key) (place : Place) (h : Head) (test : Expr) (body : Stmt) (globals : List Value) (s : Nodes) (r : Store)
+    (outer : HasEach c loop mask h)
+    (able : IsSenderLoop c p.registers fields loop h.iterator test body)
+    (gs : GlobalsApart c (length globals))
+    (fit : HaveRoom base (home_spots c loop.outer h.iterator mask_key mask key test body) (length p.places))
+    (block : block_at p q ≡ home_block c (segment base (home_spots c loop.outer h.iterator mask_key mask key test body)) loop.outer kind mask_key mask h key test body)
+    (shown : Shown c p.registers fields loop.graph globals s r)
+    (edges : EdgesShown c loop.graph r)
+    (in_graph : NodesInGraph c loop.graph r)
+    (within : StepsWithin loop.graph h.domain)
+    (apart : GivesApart (given_in loop mask_key mask (Foreach key place h test body) r)) where
+  abbrev n : ℕ
+  n = loop.outer
+
+  abbrev g : NumberedGraph
+  g = loop.graph
+
+  abbrev inner : Stmt
+  inner = Foreach key place h test body
+
+  abbrev all : List Spot
+  all = home_spots c n h.iterator mask_key mask key test body
+
+  abbrev seg : Segment
+  seg = segment base all
+
+  abbrev v : Env
+  v = own_env c seg n
+
+  abbrev sends : List Away
+  sends = aways c.declarations n body
+
+  abbrev part : image.Block
+  part = home_block c seg n kind mask_key mask h key test body
+
+  abbrev it : ℕ → Iteration
+  it k = iteration loop mask_key mask inner r k
+
+  abbrev fields_at : ℕ → List Value
+  fields_at k = slice_index_or s.fields k []
+
+  abbrev one_step : ℕ × List Value → After
+  one_step x = vertex_after p part (context_at g globals x.0) [] x.1
+
+  node-shows : (k : ℕ) → k < node_count g → NodeShows c g p.registers fields globals (fields_at k) k r
+  node-shows k lt = record {
+    phase = record { scalar = shown.scalars; in_graph = in_graph };
+    locals = shown.locals;
+    properties = shown.properties k lt;
+    field_count = shown.widths k lt;
+    inside = lt;
+  }
+
+  incl : (f : Spot) → HasSpot f (each_spots c n h.iterator key test body) → HasSpot f all
+  incl f i = spot-right f (spots_in mask mask_key) (each_spots c n h.iterator key test body) i
+
+  masks : (f : Spot) → HasSpot f (spots_in mask mask_key) → HasSpot f all
+  masks f i = spot-left f (spots_in mask mask_key) (each_spots c n h.iterator key test body) i
+
+  sends-at : (k : ℕ) → k < node_count g → SendsAs c v kind sends g (fields_at k) r (it k) (one_step (k, fields_at k))
+  sends-at k lt = sending-steps c p fields base all loop kind mask_key mask key place h test body globals (fields_at k) k r outer able incl (node-shows k lt) edges within
+
+  spotted-at : (k : ℕ) → k < node_count g → Has (it k).fault all × ((y : Contribution) → is_to_scalars y ≡ true → IsIn y (it k).with_outermost → IsPut c all y)
+  spotted-at k lt = iteration-spotted c p fields base all loop kind mask_key mask key place h test body globals (fields_at k) k r outer able incl (node-shows k lt) edges within masks
+
+  -- all nodes from one on
+  abbrev AllSend : ℕ → List (List Value) → Type 0
+  AllSend k [] = Unit {0}
+  AllSend k (fs ∷ fss) = SendsAs c v kind sends g fs r (it k) (one_step (k, fs)) × AllSend (suc k) fss
+
+  all-send : (k : ℕ) (fss : List (List Value)) → k + length fss ≤ node_count g → ((j : ℕ) → slice_index_or s.fields (k + j) [] ≡ slice_index_or fss j []) → AllSend k fss
+  all-send k [] le e = tt
+  all-send k (fs ∷ fss) le e = (
+    subst (λ x. SendsAs c v kind sends g x r (it k) (one_step (k, x))) (ap (λ j. slice_index_or s.fields j []) (let z : k ≡ k + 0 = omega arith in z) ∙ e 0) (sends-at k (omega arith)),
+    all-send (suc k) fss (omega arith) (λ j. ap (λ i. slice_index_or s.fields i []) (let z : suc k + j ≡ k + suc j = omega arith in z) ∙ e (suc j)),
+  )
+
+  abbrev steps_from : ℕ → List (List Value) → List After
+  steps_from k fss = map one_step (enumerate_from k fss)
+
+  abbrev its_from : ℕ → ℕ → List Iteration
+  its_from k m = map it (numbers_from k m)
+
+  abbrev given_from : ℕ → ℕ → List Contribution
+  given_from k m = joined (map (λ i. i.with_outermost) (its_from k m))
+
+  next-steps : (k : ℕ) (fss : List (List Value)) → steps_from (k + 1) fss ≡ steps_from (suc k) fss
+  next-steps k fss = ap (λ j. steps_from j fss) (add-one k)
+
+  faults-all : (k : ℕ) (fss : List (List Value)) → AllSend k fss → map (λ a. a.fault) (steps_from k fss) ≡ map (fault_or_none v) (map (λ i. i.fault) (its_from k (length fss)))
+  faults-all k [] h = refl
+  faults-all k (fs ∷ fss) h =
+      ap (λ as'. (one_step (k, fs)).fault ∷ map (λ a. a.fault) as') (next-steps k fss)
+      ∙ ap (λ o. o ∷ map (λ a. a.fault) (steps_from (suc k) fss)) h.0.fault
+      ∙ ap (λ os. fault_or_none v (it k).fault ∷ os) (faults-all (suc k) fss h.1)
+
+  puts-all : (k : ℕ) (fss : List (List Value)) → AllSend k fss → flat_map (λ a. a.state.puts) (steps_from k fss) ≡ map (given c v) (filter is_to_scalars (given_from k (length fss)))
+  puts-all k [] h = refl
+  puts-all k (fs ∷ fss) h =
+      ap (λ as'. (one_step (k, fs)).state.puts ++ flat_map (λ a. a.state.puts) as') (next-steps k fss)
+      ∙ ap (λ ps. ps ++ flat_map (λ a. a.state.puts) (steps_from (suc k) fss)) h.0.puts
+      ∙ ap (λ ps. map (given c v) (filter is_to_scalars (it k).with_outermost) ++ ps) (puts-all (suc k) fss h.1)
+      ∙ sym (map-append (given c v) (filter is_to_scalars (it k).with_outermost) (filter is_to_scalars (given_from (suc k) (length fss))))
+      ∙ ap (map (given c v)) (sym (filter-both is_to_scalars (it k).with_outermost (given_from (suc k) (length fss))))
+
+  sent-all : (k : ℕ) (fss : List (List Value)) → AllSend k fss → AreSent kind sends g (filter is_to_nodes (given_from k (length fss))) (flat_map (λ a. a.state.messages) (steps_from k fss))
+  sent-all k [] h = tt
+  sent-all k (fs ∷ fss) h =
+      subst (λ as'. AreSent kind sends g (filter is_to_nodes (given_from k (suc (length fss)))) ((one_step (k, fs)).state.messages ++ flat_map (λ a. a.state.messages) as')) (sym (next-steps k fss))
+      (subst (λ cs. AreSent kind sends g cs ((one_step (k, fs)).state.messages ++ flat_map (λ a. a.state.messages) (steps_from (suc k) fss))) (sym (filter-both is_to_nodes (it k).with_outermost (given_from (suc k) (length fss))))
+      (sent-both kind sends g (filter is_to_nodes (it k).with_outermost) (filter is_to_nodes (given_from (suc k) (length fss))) (one_step (k, fs)).state.messages (flat_map (λ a. a.state.messages) (steps_from (suc k) fss)) h.0.carried (sent-all (suc k) fss h.1)))
+
+  fields-all : (k : ℕ) (fss : List (List Value)) → AllSend k fss → map (λ a. a.state.fields) (steps_from k fss) ≡ fss
+  fields-all k [] h = refl
+  fields-all k (fs ∷ fss) h =
+      ap (λ as'. (one_step (k, fs)).state.fields ∷ map (λ a. a.state.fields) as') (next-steps k fss)
+      ∙ ap (λ f. f ∷ map (λ a. a.state.fields) (steps_from (suc k) fss)) h.0.fields_are
+      ∙ ap (λ l. fs ∷ l) (fields-all (suc k) fss h.1)
+
+  abbrev its : List Iteration
+  its = map it (nodes g)
+
+  abbrev own_faults : List Fault
+  own_faults = somes (map (λ i. i.fault) its)
+
+  abbrev given_all : List Contribution
+  given_all = given_in loop mask_key mask inner r
+
+  abbrev scalar_part : List Contribution
+  scalar_part = filter is_to_scalars given_all
+
+  put-of : (m a : ℕ) (x : Contribution) → a + m ≤ node_count g → is_to_scalars x ≡ true → IsIn x (given_from a m) → IsPut c all x
+  put-of zero a x le o i = absurd i
+  put-of (suc m) a x le o i =
+      ⊎_elim (λ (w : IsIn x (it a).with_outermost). (spotted-at a (omega arith)).1 x o w) (λ (w : IsIn x (given_from (suc a) m)). put-of m (suc a) x (omega arith) o w)
+      (in-parts x (it a).with_outermost (given_from (suc a) m) i)
+
+  put-all : (x : Contribution) → IsIn x scalar_part → IsPut c all x
+  put-all x i = let t = IsIn-filter is_to_scalars x given_all i in put-of (node_count g) 0 x (omega arith) t.1 t.0
+
+  fault-spots : (m a : ℕ) (f : Fault) → a + m ≤ node_count g → IsIn f (somes (map (λ i. i.fault) (its_from a m))) → HasSpot (spot_of_fault f) all
+  fault-spots zero a f le i = absurd i
+  fault-spots (suc m) a f le i = by (it a).fault (spotted-at a (omega arith)).0 (λ j. fault-spots m (suc a) f (omega arith) j) i where
+    by : (o : Option Fault) → Has o all → (IsIn f (somes (map (λ i. i.fault) (its_from (suc a) m))) → HasSpot (spot_of_fault f) all) → IsIn f (somes (o ∷ map (λ i. i.fault) (its_from (suc a) m))) → HasSpot (spot_of_fault f) all
+    by None h go i = go i
+    by (Some y) h go i = ⊎_elim (λ (e : f ≡ y). subst (λ z. HasSpot (spot_of_fault z) all) (sym e) h) (λ (j : IsIn f (somes (map (λ i. i.fault) (its_from (suc a) m)))). go j) i
+
+  held-globals : AreHeld c r globals (here c)
+  held-globals = record { holds = holds; within = low-enough; apart = unlike } where
+    holds : (slot : Slot) → here c slot ≡ true → value_at globals (slot_at c slot) ≡ read r slot
+    holds (slots.Scalar x) o =
+        let t = both-true (nat_lt x (length c.declarations)) (is_global (variable_at c.declarations x)) o in
+        sym (ap (λ b. if b then value_at globals (c.global x) else zero_of (variable_at c.declarations x).vtype) t.1)
+        ∙ shown.scalars x (ltb-true x (length c.declarations) t.0) (global-no_register (variable_at c.declarations x) t.1) (global-has_value (variable_at c.declarations x) t.1)
+    holds (slots.Node y k) o = absurd (both_ways false refl o)
+
+    low-enough : (slot : Slot) → here c slot ≡ true → slot_at c slot < length globals
+    low-enough (slots.Scalar x) o =
+        let t = both-true (nat_lt x (length c.declarations)) (is_global (variable_at c.declarations x)) o in gs.within x (ltb-true x (length c.declarations) t.0) t.1
+    low-enough (slots.Node y k) o = absurd (both_ways false refl o)
+
+    unlike : (a b : Slot) → here c a ≡ true → here c b ≡ true → slot_at c a ≡ slot_at c b → a ≡ b
+    unlike (slots.Scalar x) (slots.Scalar y) o o' e =
+        let t = both-true (nat_lt x (length c.declarations)) (is_global (variable_at c.declarations x)) o in
+        let u = both-true (nat_lt y (length c.declarations)) (is_global (variable_at c.declarations y)) o' in
+        ap slots.Scalar (gs.apart x y (ltb-true x (length c.declarations) t.0) (ltb-true y (length c.declarations) u.0) t.1 u.1 e)
+    unlike (slots.Scalar x) (slots.Node y k) o o' e = absurd (both_ways false refl o')
+    unlike (slots.Node y k) b o o' e = absurd (both_ways false refl o)
+
+  good : AreGiven scalar_part (here c) all
+  good = record {
+    one = λ x y slot i j e f. apart.one x y slot (IsIn-filter is_to_scalars x given_all i).0 (IsIn-filter is_to_scalars y given_all j).0 e f;
+    here_all = λ x i. (put-all x i).here_all;
+    not_empty = λ x i. (put-all x i).not_empty;
+    one_total = λ x y i j e f. apart.one_total x y (IsIn-filter is_to_scalars x given_all i).0 (IsIn-filter is_to_scalars y given_all j).0 e f;
+    spotted = λ x i. (put-all x i).spotted;
+  }
+
+  settles : SettlesAlike c v (length p.places) r globals (here c) scalar_part
+  settles = reductions-settle c v base (length p.places) all r globals (here c) scalar_part refl fit held-globals good
+
+  low : (f d : Fault) → HasSpot (spot_of_fault f) all → HasSpot (spot_of_fault d) all → lesser (Some (fault_of v f)) (Some (fault_of v d)) ≡ Some (fault_of v (F.lower f d))
+  low f d a b = lesser-lower v base all refl f d a b
+
+  -- the superstep
+  abbrev t : Stepped
+  t = superstep p g q globals s
+
+  every : AllSend 0 s.fields
+  every = all-send 0 s.fields (subst (λ m. 0 + m ≤ node_count g) (sym shown.all_nodes) (omega arith)) (λ j. ap fields_at (let z : 0 + j ≡ j = omega arith in z))
+
+  t-is : t ≡ stepped (length p.places) globals s (steps_from 0 s.fields)
+  t-is =
+      ap (λ b. stepped (length p.places) globals s (all_steps p g b globals s.sent s.fields)) block
+      ∙ ap (λ m. stepped (length p.places) globals s (all_steps p g part globals m s.fields)) shown.idle
+
+  puts-are : flat_map (λ a. a.state.puts) (steps_from 0 s.fields) ≡ map (given c v) scalar_part
+  puts-are = puts-all 0 s.fields every ∙ ap (λ m. map (given c v) (filter is_to_scalars (given_from 0 m))) shown.all_nodes
+
+  own-spotted : (f : Fault) → IsIn f own_faults → HasSpot (spot_of_fault f) all
+  own-spotted f i = fault-spots (node_count g) 0 f (omega arith) i
+
+  total-spotted : (f : Fault) → IsIn f (total_faults r scalar_part) → HasSpot (spot_of_fault f) all
+  total-spotted f i = total-spot c v base (length p.places) all r globals (here c) scalar_part refl fit held-globals good f i
+
+  fault-is : t.fault ≡ fault_or_none v (least (own_faults ++ total_faults r scalar_part))
+  fault-is =
+      ap (λ u. u.fault) t-is
+      ∙ ap (λ os. lesser (least_fault os) (settled (length p.places) (flat_map (λ a. a.state.puts) (steps_from 0 s.fields)) globals).fault)
+      (faults-all 0 s.fields every ∙ ap (λ m. map (fault_or_none v) (map (λ i. i.fault) (its_from 0 m))) shown.all_nodes)
+      ∙ ap (λ o. lesser o (settled (length p.places) (flat_map (λ a. a.state.puts) (steps_from 0 s.fields)) globals).fault)
+      (least_from-right None (map (fault_or_none v) (map (λ i. i.fault) its)) ∙ none-first (least_right (map (fault_or_none v) (map (λ i. i.fault) its))) ∙ least-parts v all low (map (λ i. i.fault) its) own-spotted)
+      ∙ ap (λ ps. lesser (fault_or_none v (least own_faults)) (settled (length p.places) ps globals).fault) puts-are
+      ∙ ap (lesser (fault_or_none v (least own_faults))) settles.fault
+      ∙ least-two v all low own_faults (total_faults r scalar_part) own-spotted total-spotted where
+        none-first : (o : Option M.Fault) → lesser None o ≡ o
+        none-first o = refl
+
+  either-spotted : (f : Fault) → IsIn f (own_faults ++ total_faults r scalar_part) → HasSpot (spot_of_fault f) all
+  either-spotted f i = ⊎_elim (λ (w : IsIn f own_faults). own-spotted f w) (λ (w : IsIn f (total_faults r scalar_part)). total-spotted f w) (in-parts f own_faults (total_faults r scalar_part) i)
+
+  globals-are : t.globals ≡ (settled (length p.places) (map (given c v) scalar_part) globals).values
+  globals-are = ap (λ u. u.globals) t-is ∙ ap (λ ps. (settled (length p.places) ps globals).values) puts-are
+
+  fields-are : t.nodes.fields ≡ s.fields
+  fields-are = ap (λ u. u.nodes.fields) t-is ∙ fields-all 0 s.fields every
+
+  sent-is : AreSent kind sends g (filter is_to_nodes given_all) t.nodes.sent
+  sent-is =
+      subst (λ u. AreSent kind sends g (filter is_to_nodes given_all) u.nodes.sent) (sym t-is)
+      (subst (λ m. AreSent kind sends g (filter is_to_nodes (given_from 0 m)) (flat_map (λ a. a.state.messages) (steps_from 0 s.fields))) shown.all_nodes (sent-all 0 s.fields every))
+
+  away : (x : ℕ) → here c (slots.Scalar x) ≡ false → S.value_after r scalar_part (slots.Scalar x) ≡ r.scalar x
+  away x e = value-away r (slots.Scalar x) scalar_part (λ y i. not-here (here c) (slots.Scalar x) y.slots (put-all y i).here_all e)
+
+  and-false : (a b : Bool) → b ≡ false → a && b ≡ false
+  and-false true b e = e
+  and-false false b e = refl
+
+  register-no_global : (x : ℕ) → is_register (variable_at c.declarations x) ≡ true → is_global (variable_at c.declarations x) ≡ false
+  register-no_global x e = by (is_global (variable_at c.declarations x)) refl where
+    by : (b : Bool) → is_global (variable_at c.declarations x) ≡ b → b ≡ false
+    by true f = absurd (both_ways (is_register (variable_at c.declarations x)) (global-no_register (variable_at c.declarations x) f) e)
+    by false f = refl
+
+  not-here-scalar : (x : ℕ) → is_global (variable_at c.declarations x) ≡ false → here c (slots.Scalar x) ≡ false
+  not-here-scalar x e = and-false (nat_lt x (length c.declarations)) (is_global (variable_at c.declarations x)) e
+
+  pub sends-all : Sends c v kind sends all p.registers fields g globals r own_faults given_all t
+  sends-all = record {
+    fault = fault-is;
+    spotted = either-spotted;
+    shown = record {
+      scalars = scalars;
+      locals = λ x lt e. shown.locals x lt e ∙ sym (away x (not-here-scalar x (register-no_global x e)));
+      properties = λ k lt x o. ap (λ fss. value_at (slice_index_or fss k []) (c.field x)) fields-are ∙ shown.properties k lt x o;
+      widths = λ k lt. ap (λ fss. length (slice_index_or fss k [])) fields-are ∙ shown.widths k lt;
+      all_nodes = ap length fields-are ∙ shown.all_nodes;
+      idle = refl;
+    };
+    sent = sent-is;
+    others = λ i none. ap (λ vs. value_at vs i) globals-are ∙ settles.others i (λ x j. none-has i none x.slots (put-all x j).here_all);
+    count = ap length globals-are ∙ settles.count;
+  } where
+    scalars : (x : ℕ) → x < length c.declarations → is_register (variable_at c.declarations x) ≡ false → has_value (variable_at c.declarations x) ≡ true → phase_value c t.globals x ≡ S.value_after r scalar_part (slots.Scalar x)
+    scalars x lt e f = by (is_global (variable_at c.declarations x)) refl where
+      by : (b : Bool) → is_global (variable_at c.declarations x) ≡ b → (if b then value_at t.globals (c.global x) else zero_of (variable_at c.declarations x).vtype) ≡ S.value_after r scalar_part (slots.Scalar x)
+      by true o =
+          ap (λ vs. value_at vs (c.global x)) globals-are
+          ∙ settles.values (slots.Scalar x) (ap (λ b. b && is_global (variable_at c.declarations x)) (lt-ltb x (length c.declarations) lt) ∙ o)
+      by false o =
+          sym (ap (λ b. if b then value_at globals (c.global x) else zero_of (variable_at c.declarations x).vtype) o)
+          ∙ shown.scalars x lt e f ∙ sym (away x (not-here-scalar x o))
+
+    none-has : (i : ℕ) → ((x : ℕ) → x < length c.declarations → is_global (variable_at c.declarations x) ≡ true → c.global x ≢ i) → (xs : List Slot) → list_all (here c) xs ≡ true → is_among i (map (slot_at c) xs) ≡ false
+    none-has i none [] h = refl
+    none-has i none (slots.Scalar x ∷ xs) h =
+        let t = both-true (here c (slots.Scalar x)) (list_all (here c) xs) h in
+        let u = both-true (nat_lt x (length c.declarations)) (is_global (variable_at c.declarations x)) t.0 in
+        ap (λ b. b || is_among i (map (slot_at c) xs)) (ne_eqb (c.global x) i (none x (ltb-true x (length c.declarations) u.0) u.1)) ∙ none-has i none xs t.1
+    none-has i none (slots.Node x k ∷ xs) h = absurd (both_ways false refl h)
+
+  -- the second superstep takes what was sent
+  module _ (q2 : ℕ) (block2 : block_at p q2 ≡ taking_block c (segment base (home_spots c loop.outer h.iterator mask_key mask key test body)) kind (aways c.declarations loop.outer body))
+      (takes : (a : Away) → IsIn a (aways c.declarations loop.outer body) → IsTaken c (home_spots c loop.outer h.iterator mask_key mask key test body) a)
+      (last : TotalsLast (somes (map (λ it'. it'.fault) (map (iteration loop mask_key mask (Foreach key place h test body) r) (nodes loop.graph)))) r (given_in loop mask_key mask (Foreach key place h test body) r)) where
+    abbrev node_part : List Contribution
+    node_part = filter is_to_nodes given_all
+
+    abbrev between : Store
+    between = with_scalars r scalar_part
+
+    abbrev Pairs : List Contribution → List Message → Type 0
+    Pairs cs ms = (xs : List (Contribution × Message)) × (contributions_of xs ≡ cs) × (map (λ x. x.1) xs ≡ ms) × ((x : Contribution × Message) → IsIn x xs → Carried kind sends x.0 x.1 × (x.1.to < node_count g))
+
+    pairs-of : (cs : List Contribution) (ms : List Message) → AreSent kind sends g cs ms → Pairs cs ms
+    pairs-of [] [] o = ([], refl, refl, λ x i. absurd i)
+    pairs-of [] (m ∷ ms) o = absurd o
+    pairs-of (y ∷ cs) [] o = absurd o
+    pairs-of (y ∷ cs) (m ∷ ms) o =
+        let rest = pairs-of cs ms o.2 in (
+          (y, m) ∷ rest.0,
+          ap (λ l. y ∷ l) rest.1,
+          ap (λ l. m ∷ l) rest.2,
+          λ x i. ⊎_elim (λ (e : x ≡ (y, m)). subst (λ z. Carried kind sends z.0 z.1 × (z.1.to < node_count g)) (sym e) (o.0, o.1)) (λ (w : IsIn x rest.0). rest.3 x w) i,
+        )
+
+    pairs : Pairs node_part t.nodes.sent
+    pairs = pairs-of node_part t.nodes.sent sent-is
+
+    in-map : {A B : Type 0} (f : A → B) (xs : List A) (y : B) → IsIn y (map f xs) → (x : A) × IsIn x xs × (y ≡ f x)
+    in-map f [] y o = absurd o
+    in-map f (x ∷ xs) y o = ⊎_elim (λ (e : y ≡ f x). (x, inl refl, e)) (λ (w : IsIn y (map f xs)). let z = in-map f xs y w in (z.0, inr z.1, z.2)) o
+
+    -- the slots of what is sent are of nodes
+    slots-of : (y : Contribution) → IsIn y node_part → (j : ℕ) × (ts : List Target) × (y.slots ≡ slots_at j ts)
+    slots-of y i =
+        let x = in-map (λ (z : Contribution × Message). z.0) pairs.0 y (subst (IsIn y) (sym pairs.1) i) in
+        let k = (pairs.3 x.0 x.1).0 in
+        (x.0.1.to, k.away.targets, ap (λ z. z.slots) (x.2 ∙ k.made))
+
+    no-scalar : (x k : ℕ) (ts : List Target) → has_slot (slots.Scalar x) (slots_at k ts) ≡ false
+    no-scalar x k [] = refl
+    no-scalar x k (T.Scalar y at ∷ ts) = no-scalar x k ts
+    no-scalar x k (T.Property y z at ∷ ts) = no-scalar x k ts
+
+    reads-at : (j : ℕ) (ts : List Target) → St.reads between (slots_at j ts) ≡ St.reads r (slots_at j ts)
+    reads-at j [] = refl
+    reads-at j (T.Scalar y at ∷ ts) = reads-at j ts
+    reads-at j (T.Property y z at ∷ ts) = ap (λ l. r.node z j ∷ l) (reads-at j ts)
+
+    reads-same : (y : Contribution) → IsIn y node_part → St.reads between y.slots ≡ St.reads r y.slots
+    reads-same y i = let w = slots-of y i in ap (St.reads between) w.2 ∙ reads-at w.0 w.1 ∙ ap (St.reads r) (sym w.2)
+
+    map-same : {A B : Type 0} (f f' : A → B) (xs : List A) → ((x : A) → IsIn x xs → f x ≡ f' x) → map f xs ≡ map f' xs
+    map-same f f' [] e = refl
+    map-same f f' (x ∷ xs) e = ap (λ y. y ∷ map f xs) (e x (inl refl)) ∙ ap (λ l. f' x ∷ l) (map-same f f' xs (λ y i. e y (inr i)))
+
+    totals-same : total_faults between node_part ≡ total_faults r node_part
+    totals-same =
+        ap somes (map-same (λ (y : Contribution). S.target_fault between node_part y.slots) (λ y. S.target_fault r node_part y.slots) node_part
+        (λ y i. ap (λ rs. S.fault_in (S.to_target y.slots node_part) (S.taken_onto rs (S.to_target y.slots node_part))) (reads-same y i)))
+
+    target-reads : (y k : ℕ) (cs : List Contribution) → ((x : Contribution) → IsIn x cs → St.reads between x.slots ≡ St.reads r x.slots) → St.reads between (S.target_of (slots.Node y k) cs) ≡ St.reads r (S.target_of (slots.Node y k) cs)
+    target-reads y k [] e = refl
+    target-reads y k (x ∷ cs) e = by (has_slot (slots.Node y k) x.slots) (target-reads y k cs (λ z i. e z (inr i))) where
+      by : (b : Bool) → St.reads between (S.target_of (slots.Node y k) cs) ≡ St.reads r (S.target_of (slots.Node y k) cs)
+          → St.reads between (if b then x.slots else S.target_of (slots.Node y k) cs) ≡ St.reads r (if b then x.slots else S.target_of (slots.Node y k) cs)
+      by true rest = e x (inl refl)
+      by false rest = rest
+
+    node-same : (y k : ℕ) → S.value_after between node_part (slots.Node y k) ≡ S.value_after r node_part (slots.Node y k)
+    node-same y k =
+        let tgt = S.target_of (slots.Node y k) node_part in
+        ap (λ rs. S.value_among (slots.Node y k) tgt (S.values_or rs (S.taken_onto rs (S.to_target tgt node_part))) (r.node y k)) (target-reads y k node_part reads-same)
+
+    -- parts of what is given
+    in-part : (y : Contribution) → IsIn y given_all → (IsIn y scalar_part × (is_to_scalars y ≡ true)) ⊎ (IsIn y node_part × (is_to_nodes y ≡ true))
+    in-part y i = by (is_to_scalars y) refl where
+      by : (b : Bool) → is_to_scalars y ≡ b → (IsIn y scalar_part × (is_to_scalars y ≡ true)) ⊎ (IsIn y node_part × (is_to_nodes y ≡ true))
+      by true e = inl (filter-in is_to_scalars given_all y i e, e)
+      by false e = inr (filter-in is_to_nodes given_all y i (ap not e), ap not e)
+
+    scalar-is : (x : ℕ) → S.value_after r scalar_part (slots.Scalar x) ≡ S.value_after r given_all (slots.Scalar x)
+    scalar-is x = value-filtered is_to_scalars r (slots.Scalar x) given_all (λ y i has. ⊎_elim (λ (o : IsIn y scalar_part × (is_to_scalars y ≡ true)). o.1)
+        (λ (o : IsIn y node_part × (is_to_nodes y ≡ true)). let w = slots-of y o.0 in absurd (both_ways (has_slot (slots.Scalar x) y.slots) (ap (has_slot (slots.Scalar x)) w.2 ∙ no-scalar x w.0 w.1) has)) (in-part y i))
+
+    node-is : (y k : ℕ) → S.value_after r node_part (slots.Node y k) ≡ S.value_after r given_all (slots.Node y k)
+    node-is y k = value-filtered is_to_nodes r (slots.Node y k) given_all (λ z i has. ⊎_elim (λ (o : IsIn z scalar_part × (is_to_scalars z ≡ true)). absurd (both_ways (has_slot (slots.Node y k) z.slots) (not-here (here c) (slots.Node y k) z.slots (put-all z o.0).here_all refl) has))
+        (λ (o : IsIn z node_part × (is_to_nodes z ≡ true)). o.1) (in-part z i))
+
+    -- the faults
+    scalar-target : (y : Contribution) → is_to_scalars y ≡ true → S.target_fault r scalar_part y.slots ≡ S.target_fault r given_all y.slots
+    scalar-target y e = fault-filtered is_to_scalars r y.slots given_all (λ z i f. ap are_of_scalars (sym (slots_eq-true y.slots z.slots f)) ∙ e)
+
+    node-target : (y : Contribution) → is_to_nodes y ≡ true → S.target_fault r node_part y.slots ≡ S.target_fault r given_all y.slots
+    node-target y e = fault-filtered is_to_nodes r y.slots given_all (λ z i f. ap (λ ss. not (are_of_scalars ss)) (sym (slots_eq-true y.slots z.slots f)) ∙ e)
+
+    abbrev firsts : List Fault
+    firsts = own_faults ++ total_faults r scalar_part
+
+    abbrev seconds : List Fault
+    seconds = total_faults r node_part
+
+    abbrev meant : List Fault
+    meant = own_faults ++ total_faults r given_all
+
+    to-parts : (f : Fault) → IsIn f meant → IsIn f (firsts ++ seconds)
+    to-parts f i =
+        ⊎_elim
+        (λ (w : IsIn f own_faults). in-front f firsts seconds (in-front f own_faults (total_faults r scalar_part) w))
+        (λ (w : IsIn f (total_faults r given_all)).
+        let y = somes-in (λ (z : Contribution). S.target_fault r given_all z.slots) given_all f w in
+        ⊎_elim
+        (λ (o : IsIn y.0 scalar_part × (is_to_scalars y.0 ≡ true)). in-front f firsts seconds (in-back f own_faults (total_faults r scalar_part) (in-somes (λ (z : Contribution). S.target_fault r scalar_part z.slots) scalar_part y.0 f o.0 (scalar-target y.0 o.1 ∙ y.2))))
+        (λ (o : IsIn y.0 node_part × (is_to_nodes y.0 ≡ true)). in-back f firsts seconds (in-somes (λ (z : Contribution). S.target_fault r node_part z.slots) node_part y.0 f o.0 (node-target y.0 o.1 ∙ y.2)))
+        (in-part y.0 y.1))
+        (in-parts f own_faults (total_faults r given_all) i)
+
+    from-parts : (f : Fault) → IsIn f (firsts ++ seconds) → IsIn f meant
+    from-parts f i =
+        ⊎_elim
+        (λ (w : IsIn f firsts).
+        ⊎_elim
+        (λ (u : IsIn f own_faults). in-front f own_faults (total_faults r given_all) u)
+        (λ (u : IsIn f (total_faults r scalar_part)).
+        let y = somes-in (λ (z : Contribution). S.target_fault r scalar_part z.slots) scalar_part f u in
+        let o = IsIn-filter is_to_scalars y.0 given_all y.1 in
+        in-back f own_faults (total_faults r given_all) (in-somes (λ (z : Contribution). S.target_fault r given_all z.slots) given_all y.0 f o.0 (sym (scalar-target y.0 o.1) ∙ y.2)))
+        (in-parts f own_faults (total_faults r scalar_part) w))
+        (λ (w : IsIn f seconds).
+        let y = somes-in (λ (z : Contribution). S.target_fault r node_part z.slots) node_part f w in
+        let o = IsIn-filter is_to_nodes y.0 given_all y.1 in
+        in-back f own_faults (total_faults r given_all) (in-somes (λ (z : Contribution). S.target_fault r given_all z.slots) given_all y.0 f o.0 (sym (node-target y.0 o.1) ∙ y.2)))
+        (in-parts f firsts seconds i)
+
+    meant-is : least meant ≡ lesser_of (least firsts) (least seconds)
+    meant-is = least-members meant (firsts ++ seconds) to-parts from-parts ∙ least-append firsts seconds
+
+    -- the loop on the first store
+    left-same : (m a y k : ℕ) → a + m ≤ node_count g → left_at (numbers_from a m) (its_from a m) r y k ≡ r.node y k
+    left-same zero a y k le = refl
+    left-same (suc m) a y k le = by (nat_eq a k) ((sends-at a (omega arith)).node y k) (left-same m (suc a) y k (omega arith)) where
+      by : (b : Bool) {x z : Value} → x ≡ r.node y k → z ≡ r.node y k → (if b then x else z) ≡ r.node y k
+      by true e f = e
+      by false e f = f
+
+    own-is : own_left r (nodes g) its ≡ r
+    own-is = ap (λ f. record r { node = f }) (fun_ext (λ y. fun_ext (λ k. left-same (node_count g) 0 y k (omega arith))))
+
+    deferred-none : (m a : ℕ) → a + m ≤ node_count g → joined (map (λ i. i.deferred) (its_from a m)) ≡ []
+    deferred-none zero a le = refl
+    deferred-none (suc m) a le =
+        ap (λ ds. ds ++ joined (map (λ i. i.deferred) (its_from (suc a) m))) (sends-at a (omega arith)).deferred ∙ deferred-none m (suc a) (omega arith)
+
+    loop-is : parallel loop mask_key mask inner (nodes g) r ≡ unless_fault (least meant) (Ok (settled_store r given_all))
+    loop-is =
+        ap (λ st. unless_fault (least (own_faults ++ total_faults st given_all)) (Ok (overlaid (settled_store st given_all) (joined (map (λ i. i.deferred) its))))) own-is
+        ∙ ap (λ ds. unless_fault (least meant) (Ok (overlaid (settled_store r given_all) ds))) (deferred-none (node_count g) 0 (omega arith))
+
+    abbrev second : Stepped
+    second = superstep p g q2 t.globals t.nodes
+
+    -- what the second superstep does
+    taken : StepIs c v all p.registers fields g t.globals (unless_fault (least (total_faults between node_part)) (Ok (settled_store between node_part))) second
+    taken =
+        subst (λ cs. StepIs c v all p.registers fields g t.globals (unless_fault (least (total_faults between cs)) (Ok (settled_store between cs))) second) pairs.1
+        (taking-blocks c p fields base q2 kind all v g sends t.globals t.nodes between pairs.0 refl able.apart fit block2 takes sends-all.shown (sym pairs.2) pairs.3
+        (record {
+          one = λ x y slot i j e f. apart.one x y slot (back x i) (back y j) e f;
+          one_total = λ x y i j e f. apart.one_total x y (back x i) (back y j) e f;
+        })) where
+          back : (y : Contribution) → IsIn y (contributions_of pairs.0) → IsIn y given_all
+          back y i = (IsIn-filter is_to_nodes y given_all (subst (IsIn y) pairs.1 i)).0
+
+    moved : Leaves c p.registers fields g t.globals (settled_store between node_part) second → Leaves c p.registers fields g globals (settled_store r given_all) second
+    moved l = record {
+      fine = l.fine;
+      shown = record {
+        scalars = λ x lt e f. l.shown.scalars x lt e f ∙ at_scalar x;
+        locals = λ x lt e. l.shown.locals x lt e ∙ at_scalar x;
+        properties = λ k lt y o. l.shown.properties k lt y o ∙ node-same y k ∙ node-is y k;
+        widths = l.shown.widths;
+        all_nodes = l.shown.all_nodes;
+        idle = l.shown.idle;
+      };
+      others = λ i none. l.others i none ∙ sends-all.others i none;
+      count = l.count ∙ sends-all.count;
+    } where
+      at_scalar : (x : ℕ) → S.value_after between node_part (slots.Scalar x) ≡ S.value_after r given_all (slots.Scalar x)
+      at_scalar x =
+          value-away between (slots.Scalar x) node_part (λ y i. let w = slots-of y i in ap (has_slot (slots.Scalar x)) w.2 ∙ no-scalar x w.0 w.1)
+          ∙ scalar-is x
+
+    finish : (o : Option Fault) → least seconds ≡ o → StepIs c v all p.registers fields g t.globals (unless_fault o (Ok (settled_store between node_part))) second → StepIs c v all p.registers fields g globals (unless_fault o (Ok (settled_store r given_all))) second
+    finish None e l = moved l
+    finish (Some f) e l = l
+
+    pub two-steps : TwoStepsAre c v all p.registers fields g globals (parallel loop mask_key mask inner (nodes g) r) t second
+    two-steps = by (least firsts) (least seconds) refl refl where
+      result-by : (o : Option Fault) → least meant ≡ o → parallel loop mask_key mask inner (nodes g) r ≡ unless_fault o (Ok (settled_store r given_all))
+      result-by o e = loop-is ∙ ap (λ z. unless_fault z (Ok (settled_store r given_all))) e
+
+      by : (a b : Option Fault) → least firsts ≡ a → least seconds ≡ b → TwoStepsAre c v all p.registers fields g globals (parallel loop mask_key mask inner (nodes g) r) t second
+      by None b e f = inl (
+        sends-all.fault ∙ ap (fault_or_none v) e,
+        subst (λ z. StepIs c v all p.registers fields g globals z second) (sym (result-by b (meant-is ∙ ap (λ z. lesser_of z (least seconds)) e ∙ none-first (least seconds) ∙ f)))
+            (finish b f (subst (λ z. StepIs c v all p.registers fields g t.globals (unless_fault z (Ok (settled_store between node_part))) second) (ap least totals-same ∙ f) taken)),
+      ) where
+        none-first : (o : Option Fault) → lesser_of None o ≡ o
+        none-first None = refl
+        none-first (Some z) = refl
+      by (Some x) b e f = inr (
+        x,
+        result-by (Some x) (meant-is ∙ ap (λ z. lesser_of z (least seconds)) e ∙ lead b f),
+        sends-all.fault ∙ ap (fault_or_none v) e,
+        sends-all.spotted x (least-is firsts x e).is_in,
+      ) where
+        lead : (o : Option Fault) → least seconds ≡ o → lesser_of (Some x) (least seconds) ≡ Some x
+        lead None o = ap (lesser_of (Some x)) o
+        lead (Some y) o = ap (lesser_of (Some x)) o ∙ ap Some (last x y (least-is firsts x e).is_in (least-is seconds y o).is_in)
+
+pub sending-supersteps : SendingSuperstepsSend
+sending-supersteps c p fields base q kind loop mask_key mask key place h test body globals s r outer able gs fit block shown edges in_graph within apart =
+    sends-all c p fields base q kind loop mask_key mask key place h test body globals s r outer able gs fit block shown edges in_graph within apart
+
+pub sending-loops : SendingLoopsAreTwoSupersteps
+sending-loops c p fields base q q2 kind loop mask_key mask key place h test body globals s r outer able gs fit block shown edges in_graph within apart block2 takes last =
+    two-steps c p fields base q kind loop mask_key mask key place h test body globals s r outer able gs fit block shown edges in_graph within apart q2 block2 takes last

@@ -1,0 +1,15 @@
+-- Loops of each kind go.
+use Rattle.gm_lowering_master.proofs.Going.{own-loops-go, message-loops-go, home-loops-go, sending-loops-go}
+use Rattle.gm_lowering_master.proofs.laws.loops_go.Goals as goal
+
+pub returns-clause-own : goal.returns-clause-own
+returns-clause-own c = own-loops-go
+
+pub returns-clause-message : goal.returns-clause-message
+returns-clause-message c = message-loops-go
+
+pub returns-clause-home : goal.returns-clause-home
+returns-clause-home c = home-loops-go
+
+pub returns-clause-sending : goal.returns-clause-sending
+returns-clause-sending c = sending-loops-go

@@ -1,0 +1,133 @@
+-- Programs whose loops are plain: a test of each loop tells that its supersteps are the loop, so the image has the program's outcome.
+use Rattle.std.specs.Prelude.{◌≡◌, ℕ, nat_eq, Bool, true, false, not, ◌&&◌, ◌||◌, List, [], ◌∷◌, ◌++◌, length}
+use Rattle.std.specs.List.{list_all, list_any}
+use Rattle.gm_base.specs.declared.places.Place.{Place}
+use Rattle.gm_value.specs.declared.values.Value.{Value}
+use Rattle.gm_model.specs.Graphs.{NumberedGraph, node_count}
+use Rattle.gm_ast.specs.declared.tree.Domain.{Domain}
+use Rattle.gm_ast.specs.declared.tree.Domain.TheVariants.{OutNbrs, InNbrs}
+use Rattle.gm_ast.specs.declared.tree.Head.{Head}
+use Rattle.gm_ast.specs.declared.tree.Key.{Key}
+use Rattle.gm_ast.specs.Program.{Program, Expr, Stmt, Then, Combine, Foreach, For, If, While, Do}
+use Rattle.gm_semantics.specs.Levels.{numbers_from}
+use Rattle.gm_semantics.specs.Outcomes.{mean}
+use Rattle.gm_semantics.specs.Statements.{variable_at}
+use Rattle.gm_typed_stores.specs.Laws.{IsWellTyped, FitsBelow}
+use Rattle.gm_machine.specs.Machine.{machine}
+use Rattle.gm_lowering.specs.Layouts.{Layout, layout, is_register}
+use Rattle.gm_lowering.specs.Plans.{carried, is_here, Away, aways}
+use Rattle.gm_lowering.specs.Places.{Spot, spot_lt, spot_of_total, spots_in}
+use Rattle.gm_lowering.specs.Blocks.{reads_scalar}
+use Rattle.gm_lowering.specs.Sites.{is_body, is_local}
+use Rattle.gm_lowering.specs.OwnLoops.{are_any, own_finds, own_sets, puts_to_scalars}
+use Rattle.gm_lowering.specs.Phases.{own_spots}
+use Rattle.gm_lowering.specs.MessageLoops.{is_kept_property, receiver_finds, sets_nothing, receiver_gives}
+use Rattle.gm_lowering.specs.Receiving.{inner_spots}
+use Rattle.gm_lowering.specs.TwoSupersteps.{is_readable}
+use Rattle.gm_lowering.specs.HomeTurns.{home_finds}
+use Rattle.gm_lowering.specs.HomeLoops.{home_spots}
+use Rattle.gm_lowering.specs.Lowered as L
+use Rattle.gm_lowering.specs.Lowered.{lowered}
+use Rattle.gm_lowering.specs.Made.{gives_apart}
+use Rattle.gm_lowering_master.specs.Cells.{Setting, IsSetting}
+use Rattle.gm_lowering_master.specs.Follows.{is_followed, LoopsGo}
+use Rattle.gm_lowering_master.specs.Whole.{has_result, HasInterface, HasEdgeColumns}
+
+-- whether two spots stand apart in the order of faults, or show one place
+abbrev pub same_place : Place → Place → Bool
+same_place a b = nat_eq a.line b.line && nat_eq a.col b.col
+
+abbrev pub shows_with : Spot → Spot → Bool
+shows_with a b = spot_lt a b || (spot_lt b a || same_place a.shown b.shown)
+
+abbrev pub all_show_one : List Spot → Bool
+all_show_one [] = true
+all_show_one (a ∷ rest) = list_all (shows_with a) rest && all_show_one rest
+
+-- a range along edges or against them
+abbrev pub is_neighbours : Domain → Bool
+is_neighbours OutNbrs = true
+is_neighbours InNbrs = true
+is_neighbours _ = false
+
+-- whether an expression reads no local of loops
+abbrev pub reads_no_local : Layout → Expr → Bool
+reads_no_local c e = list_all (λ x. not (is_local c x && reads_scalar x e)) (numbers_from 0 (length c.declarations))
+
+-- whether a loop of own statements goes
+abbrev pub own_goes : Layout → ℕ → Key → Expr → Stmt → Bool
+own_goes c n k test body =
+    not (is_register (variable_at c.declarations n)) && (own_finds c n test
+    && (is_body c (own_finds c n) (own_sets c n) (puts_to_scalars c (own_finds c n)) body
+    && (all_show_one (own_spots c n k test body) && gives_apart c.declarations n body)))
+
+-- whether two iterators are nested: no locals, and the inner one is of neighbours of the outer one
+abbrev pub are_nested : Layout → ℕ → Head → Bool
+are_nested c n h =
+    not (is_register (variable_at c.declarations n)) && (not (is_register (variable_at c.declarations h.iterator))
+    && (not (nat_eq h.iterator n) && (is_neighbours h.domain && nat_eq h.owner n)))
+
+-- whether a loop with an inner one goes by messages
+abbrev pub message_goes : Layout → ℕ → Key → Expr → Key → Head → Expr → Stmt → Bool
+message_goes c n k mask j h test body =
+    let loads = carried n test body in
+    let found = receiver_finds c n h.iterator loads in
+    not (is_here c.declarations n h test body) && (own_finds c n mask && (not (are_any (spots_in mask k)) && (list_all (is_readable c) loads
+    && (found test && (is_body c found sets_nothing (receiver_gives c h.iterator found) body && all_show_one (spots_in mask k ++ inner_spots c n h.iterator j test body))))))
+
+-- whether it goes at the outer node
+abbrev pub home_goes : Layout → ℕ → Key → Expr → Key → Head → Expr → Stmt → Bool
+home_goes c n k mask j h test body =
+    let found = home_finds c n h.iterator in
+    is_here c.declarations n h test body && (own_finds c n mask && (reads_no_local c test
+    && (found test && (is_body c found sets_nothing (receiver_gives c n found) body && all_show_one (home_spots c n h.iterator k mask j test body)))))
+
+-- whether a spot is among some, and none of them comes behind it
+abbrev pub is_same_spot : Spot → Spot → Bool
+is_same_spot a b = not (spot_lt a b) && (not (spot_lt b a) && same_place a.shown b.shown)
+
+abbrev pub is_last_among : List Spot → Spot → Bool
+is_last_among spots z = list_any (is_same_spot z) spots && list_all (λ s. not (spot_lt z s)) spots
+
+-- whether a reduction that is sent goes to properties of an iterator that have fields, and its total is the last of some spots
+abbrev pub is_sent_last : Layout → ℕ → List Spot → Away → Bool
+is_sent_last c i spots a = are_any a.targets && (list_all (is_kept_property c i) a.targets && is_last_among spots (spot_of_total a.total))
+
+-- whether a loop sends along its edges, and no spot comes behind the totals of what it sends
+abbrev pub sending_goes : Layout → ℕ → Key → Expr → Key → Head → Expr → Stmt → Bool
+sending_goes c n k mask j h test body =
+    let found = home_finds c n h.iterator in
+    let spots = home_spots c n h.iterator k mask j test body in
+    let sends = aways c.declarations n body in
+    is_here c.declarations n h test body && (own_finds c n mask && (reads_no_local c test
+    && (found test && (is_body c found sets_nothing (receiver_gives c h.iterator found) body
+    && (all_show_one spots && (are_any sends && list_all (is_sent_last c h.iterator spots) sends))))))
+
+-- whether a loop over nodes is plain
+abbrev pub loop_goes : Layout → ℕ → Key → Expr → Stmt → Bool
+loop_goes c n k mask (Foreach j place h test body) =
+    are_nested c n h && (gives_apart c.declarations n (Foreach j place h test body)
+    && (message_goes c n k mask j h test body || (home_goes c n k mask j h test body || sending_goes c n k mask j h test body)))
+loop_goes c n k test body = own_goes c n k test body
+
+-- whether all loops of a sequential phase are, and it does no reduction at once
+abbrev pub is_plain : Layout → Stmt → Bool
+is_plain c (Then a b) = is_plain c a && is_plain c b
+is_plain c (Combine k total r ts es) = false
+is_plain c (Foreach k place h test body) = loop_goes c h.iterator k test body
+is_plain c (For k place h test body) = is_plain c body
+is_plain c (If k test a b) = is_plain c a && is_plain c b
+is_plain c (While k place test body) = is_plain c body
+is_plain c (Do k place body test) = is_plain c body
+is_plain c _ = true
+
+-- then its loops go
+abbrev pub PlainLoopsGo : Type 0
+PlainLoopsGo = (s : Setting) (st : Stmt) (at : L.At) → IsSetting s → is_plain s.frame.layout st ≡ true → LoopsGo s st at
+
+-- the machine on the image of a program of plain loops has the program's outcome
+abbrev pub PlainProgramsRun : Type 0
+PlainProgramsRun =
+    (p : Program) (g : NumberedGraph) (args : List Value) (bound : ℕ) → HasInterface p → IsWellTyped (node_count g) p → FitsBelow (node_count g) p g args → HasEdgeColumns p g
+    → is_followed (layout p) (has_result p.result) p.body ≡ true → is_plain (layout p) p.body ≡ true
+    → (machine (lowered p) g args bound).outcome ≡ mean p g args bound
