@@ -1,0 +1,4 @@
+pub mod Gathered
+pub mod Lasts
+pub mod LoopKinds
+pub mod Trees

@@ -1,0 +1,4 @@
+pub mod Views
+pub mod Gathered
+pub mod Lasts
+pub mod Kinds
