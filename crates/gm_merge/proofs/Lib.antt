@@ -9,4 +9,6 @@ pub mod Bounding
 pub mod Exchange
 pub mod Putting
 pub mod Testing
+pub mod Numbering
+pub mod Sizes
 mod Rows

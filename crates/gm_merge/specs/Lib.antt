@@ -5,3 +5,5 @@ pub mod Laws
 pub mod Tests
 pub mod Bounds
 pub mod Earlier
+pub mod Numbers
+pub mod Results

@@ -1,16 +1,16 @@
 //! Whether a block and the one that runs after it may be one, by what is kept of the first: the globals that it puts, a
 //! bound of its places, and whether it sends or can fault. So each line is read once.
 
-ghost use Rattle.std.specs.Prelude.{◌≡◌, ◌&&◌, ◌||◌, IfOk};
-ghost use Rattle.gm_image.specs.Views.{block};
+ghost use Rattle.std.specs.Prelude.{◌≡◌, ◌&&◌, ◌||◌, ◌++◌, List, IfOk, OnOk, map};
+ghost use Rattle.gm_image.specs.Views.{line, block};
 ghost use Rattle.gm_image.specs.Program as P;
 ghost use Rattle.gm_merge_laws.specs.Joins.{block_lines, are_joinable};
 ghost use Rattle.gm_merge.specs.Earlier.{Shows};
 
-use crate::bounds::block_bound;
-use crate::puts::block_puts;
-use crate::tests::{Test, block_holds};
-use gm_image::Block;
+use crate::bounds::{block_bound, lines_bound};
+use crate::puts::{add_puts, block_puts};
+use crate::tests::{Test, block_holds, lines_hold};
+use gm_image::{Block, VertexLine};
 use std::alloc::{AllocError, Global};
 use std::collections::HashSet;
 
@@ -28,6 +28,13 @@ fn all_hold(silent: bool, apart: bool, behind: bool, quiet: bool, calm: bool) ->
     ensures { result ≡ (silent && apart && behind && (quiet || calm)) }
 {
     silent && apart && behind && (quiet || calm)
+}
+
+// Whether two tests hold.
+fn both_hold(first: bool, second: bool) -> bool
+    ensures { result ≡ (first && second) }
+{
+    first && second
 }
 
 impl Earlier {
@@ -49,6 +56,23 @@ impl Earlier {
             is_silent,
             is_calm,
         })
+    }
+
+    /// What a test asks of the block with more lines behind its own.
+    ///
+    /// # Errors
+    ///
+    /// If there is not enough memory. Then it stands for no block.
+    pub fn add(&mut self, more: &[VertexLine]) -> Result<(), AllocError>
+        ensures { OnOk result ((ls : List P.Line) → Shows self.old ls → Shows self.new (ls ++ map line more.now)) }
+    {
+        add_puts(&mut self.puts, more)?;
+        let silent = lines_hold(Test::SendsNothing, more);
+        let calm = lines_hold(Test::CannotFault, more);
+        self.bound = lines_bound(self.bound, more);
+        self.is_silent = both_hold(self.is_silent, silent);
+        self.is_calm = both_hold(self.is_calm, calm);
+        Ok(())
     }
 
     /// Whether the block and one that runs after it may be one. It takes no memory.

@@ -1,0 +1,39 @@
+//! Images without the blocks that no step runs.
+
+ghost use Rattle.std.specs.Prelude.{◌≡◌, ◌<◌, IfOk, length};
+ghost use Rattle.gm_image.specs.Views.{program};
+ghost use Rattle.gm_merge.specs.Trimmed.{trimmed};
+ghost use Rattle.gm_merge.specs.Numbers.{StepsInside};
+ghost use Rattle.gm_merge.specs.Results.{RunsAs, HasSameRest};
+
+use crate::trimming::trim_lists;
+use gm_base::{Items, NoMemory};
+use gm_image::{Image, Sound};
+use std::alloc::{AllocError, Global};
+
+// The image without the blocks that no step runs.
+fn trim_image(alloc: Global, mut image: Image) -> Result<Image, AllocError>
+    requires few { length (program image).blocks < 4294967295 }
+    requires inside { StepsInside (length (program image).blocks) (program image).master }
+    ensures { IfOk result (λ r. program r ≡ trimmed (program image)) }
+{
+    let lists = trim_lists(alloc, image.blocks.into_vec(), image.master.into_vec())?;
+    image.blocks = Items::new(lists.0);
+    image.master = Items::new(lists.1);
+    Ok(image)
+}
+
+/// Drops the blocks that no step runs. Time is linear in the blocks and the master list, whatever the lines of the
+/// blocks, which are moved.
+///
+/// # Errors
+///
+/// If there is not enough memory.
+pub fn trim(alloc: Global, image: Sound) -> Result<Sound, NoMemory>
+    ensures made { IfOk result (λ r. program r ≡ trimmed (program image)) }
+    ensures same { IfOk result (λ r. RunsAs (program image) (program r)) }
+    ensures rest { IfOk result (λ r. HasSameRest (program image) (program r)) }
+{
+    let trimmed = trim_image(alloc, image.into_image())?;
+    Ok(Sound::new(trimmed))
+}
