@@ -19,3 +19,4 @@ pub mod CoreTrees
 pub mod Assigned
 pub mod Noted
 pub mod Wholes
+pub mod Pairs

@@ -1,6 +1,6 @@
 //! Expressions that have types, and the rules on the operations over them.
 
-ghost use Rattle.std.specs.Prelude.{◌≡◌, [], ◌++◌, map, Some, IfOk, OnOk, option_map, IsTrue, ◌↔◌, if◌then◌else◌};
+ghost use Rattle.std.specs.Prelude.{◌≡◌, [], ◌++◌, map, Some, IfOk, OnOk, option_map, IsTrue, ◌↔◌, ◌&&◌, if◌then◌else◌};
 ghost use Rattle.gm_base.specs.Rules.{lesser, least_from, broken_at};
 ghost use Rattle.gm_base.specs.declared.rules.Rule.TheVariants.{T10};
 ghost use Rattle.gm_ast.specs.Judged.{ok_of, errs_of, both_of, part_by, broken_by, refused_unless, then_answer};
@@ -369,6 +369,13 @@ fn connected(alloc: Global, is_both: bool, a: Expr, b: Expr) -> Result<Part, All
     })
 }
 
+// Whether both of two operands are conditions.
+fn are_flags(a: Kind, b: Kind) -> bool
+    ensures { result ≡ (is_flag a && is_flag b) }
+{
+    is_flag(a) && is_flag(b)
+}
+
 // `&&` or `||` between its operands.
 fn connection(
     alloc: Global,
@@ -381,7 +388,7 @@ fn connection(
     ensures part { IfOk result (λ r. option_map part_of r ≡ ok_of (infix_part place (if is_both then And else Or) (part_of a, part_of b))) }
     ensures least { OnOk result (least.new ≡ least_from least.old (errs_of (infix_part place (if is_both then And else Or) (part_of a, part_of b)))) }
 {
-    if is_flag(a.kind) && is_flag(b.kind) {
+    if are_flags(a.kind, b.kind) {
         let part = connected(alloc, is_both, a.core, b.core)?;
         return Ok(Some(part));
     }
@@ -511,7 +518,7 @@ pub fn choice(
 {
     match test.zip(a.zip(b)) {
         None => Ok(None),
-        Some((test, (a, b))) => choice_of(alloc, place, test, a, b, least),
+        Some((test, (yes, no))) => choice_of(alloc, place, test, yes, no, least),
     }
 }
 

@@ -169,6 +169,24 @@ impl<'a> Checker<'a> {
         Ok(stmt)
     }
 
+    // An assignment to a property, which is a group assignment where it is one of the graph.
+    fn property_assigned(
+        &mut self,
+        alloc: Global,
+        target: &SpelledTarget,
+        property: &Name,
+        place: Place,
+        value: &'a SpelledExpr,
+    ) -> Result<Option<Stmt>, AllocError>
+        ensures { IfOk result (λ r. Judges self.old self.new (assignment (Some (name_of property.now)) (target_of target.now) place (SurfaceTree.expr_of value.now) (env_of self.old)) (option_map stmt_of r)) }
+    {
+        if self.names_graph(&target.owner) {
+            self.grouped(alloc, &target.owner, property, place, value)
+        } else {
+            self.assigned(alloc, target, place, value)
+        }
+    }
+
     // An assignment, which is a group assignment where it is to a property of the graph.
     fn assignment(
         &mut self,
@@ -179,14 +197,10 @@ impl<'a> Checker<'a> {
     ) -> Result<Option<Stmt>, AllocError>
         ensures { IfOk result (λ r. Judges self.old self.new (assignment (target_of target.now).property (target_of target.now) place (SurfaceTree.expr_of value.now) (env_of self.old)) (option_map stmt_of r)) }
     {
-        if let Some(property) = &target.property {
-            if self.names_graph(&target.owner) {
-                let stmt = self.grouped(alloc, &target.owner, property, place, value)?;
-                return Ok(stmt);
-            }
+        match &target.property {
+            None => self.assigned(alloc, target, place, value),
+            Some(property) => self.property_assigned(alloc, target, property, place, value),
         }
-        let stmt = self.assigned(alloc, target, place, value)?;
-        Ok(stmt)
     }
 
     // A deferred assignment.

@@ -7,6 +7,7 @@ use Rattle.gm_ast.specs.Tree.{expr_of}
 use Rattle.gm_types.specs.Parts.{part_of}
 use Rattle.gm_types.proofs.Answered.{ok_then}
 use Rattle.gm_types.proofs.CoreTrees.{stmt_of-Declare}
+use Rattle.std.proofs.lemmas.Result.{IfOk-from_err}
 use Rattle.gm_types.proofs.declarations.declared_value_of.Goals as goal
 
 pub returns-in-Some-clause-part : goal.returns-in-Some-clause-part
@@ -15,3 +16,9 @@ returns-in-Some-clause-part c =
     (ap Some (stmt_of-Declare c.args.key c.args.variable c.in-Some.value)
     ∙ ok_then (fitted c.args.vtype T9 c.args.place (part_of c.args.part)) (λ e. P.Declare c.args.key c.args.variable (Some e)) (expr_of c.in-Some.value)
     (rw c.in-Some.is at c.in_ok-fitted-in-Scalar.ensures.part))
+
+pub returns-in_err-fitted-in-Scalar-clause-part : goal.returns-in_err-fitted-in-Scalar-clause-part
+returns-in_err-fitted-in-Scalar-clause-part c = IfOk-from_err _ _ c.from_residual.ensures.0
+
+pub returns-in_err-fitted-in-Scalar-clause-least : goal.returns-in_err-fitted-in-Scalar-clause-least
+returns-in_err-fitted-in-Scalar-clause-least c = IfOk-from_err _ _ c.from_residual.ensures.0

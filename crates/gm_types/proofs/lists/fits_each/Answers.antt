@@ -14,6 +14,7 @@ use Rattle.gm_types.specs.Shapes.{joined, with_last}
 use Rattle.gm_types.proofs.Leasts.{least_from-append}
 use Rattle.gm_types.proofs.Sequences.{joined-none}
 use Rattle.gm_types.proofs.Fits.{fits_left, fits-first, fits-next, fits-past, joined-answer, errs-answers, held-next}
+use Rattle.std.proofs.lemmas.Result.{IfOk-from_err}
 use Rattle.gm_types.proofs.lists.fits_each.Goals as goal
 
 pub loop-part-init : goal.loop-part-init
@@ -70,3 +71,15 @@ loop-part-preserved c =
       part = ap (λ answers. joined (option_map (λ v. map expr_of v.items) c.loop-part.values) (ok_of (all_answers answers))) step ∙ c.loop-part.invariant.part;
       least = ap (λ answers. least_from c.loop-part.least (errs_of (all_answers answers))) step ∙ c.loop-part.invariant.least;
     }
+
+pub returns-in_err-value-clause-part : goal.returns-in_err-value-clause-part
+returns-in_err-value-clause-part c = IfOk-from_err _ _ c.from_residual.ensures.0
+
+pub returns-in_err-value-clause-least : goal.returns-in_err-value-clause-least
+returns-in_err-value-clause-least c = IfOk-from_err _ _ c.from_residual.ensures.0
+
+pub returns-in_err-values-clause-part : goal.returns-in_err-values-clause-part
+returns-in_err-values-clause-part c = IfOk-from_err _ _ c.from_residual-in_err-values.ensures.0
+
+pub returns-in_err-values-clause-least : goal.returns-in_err-values-clause-least
+returns-in_err-values-clause-least c = IfOk-from_err _ _ c.from_residual-in_err-values.ensures.0

@@ -1,6 +1,6 @@
 use Rattle.std.proofs.Common.{◌≡◌, ◌∙◌, ap, sym, map, option_map, Option}
 use Rattle.std.specs.Prelude.{Some, OnOk, IfOk, IfErr}
-use Rattle.std.proofs.lemmas.Result.{IfOk-weaker, IfErr-weaker}
+use Rattle.std.proofs.lemmas.Result.{IfOk-from_err, IfOk-weaker, IfErr-weaker}
 use Rattle.gm_ast.specs.Procedures.{nothing_known, elaborated}
 use Rattle.gm_ast.specs.Surface.{sequence}
 use Rattle.gm_ast.specs.SurfaceTree as Spelled
@@ -31,3 +31,27 @@ returns-clause-clean c =
 
 pub returns-clause-refused : goal.returns-clause-refused
 returns-clause-refused c = IfErr-weaker c.finished.result _ _ (stop-whole (judged c)) c.finished.ensures.refused
+
+pub returns-in_err-parameters-clause-accepted : goal.returns-in_err-parameters-clause-accepted
+returns-in_err-parameters-clause-accepted c = IfOk-from_err _ _ c.from_residual.ensures.0
+
+pub returns-in_err-parameters-clause-clean : goal.returns-in_err-parameters-clause-clean
+returns-in_err-parameters-clause-clean c = IfOk-from_err _ _ c.from_residual.ensures.0
+
+pub returns-in_err-parameters-2-clause-accepted : goal.returns-in_err-parameters-2-clause-accepted
+returns-in_err-parameters-2-clause-accepted c = IfOk-from_err _ _ c.from_residual-in_err-parameters-2.ensures.0
+
+pub returns-in_err-parameters-2-clause-clean : goal.returns-in_err-parameters-2-clause-clean
+returns-in_err-parameters-2-clause-clean c = IfOk-from_err _ _ c.from_residual-in_err-parameters-2.ensures.0
+
+pub returns-in_err-around-clause-accepted : goal.returns-in_err-around-clause-accepted
+returns-in_err-around-clause-accepted c = IfOk-from_err _ _ c.from_residual-in_err-around.ensures.0
+
+pub returns-in_err-around-clause-clean : goal.returns-in_err-around-clause-clean
+returns-in_err-around-clause-clean c = IfOk-from_err _ _ c.from_residual-in_err-around.ensures.0
+
+pub returns-in_err-body-clause-accepted : goal.returns-in_err-body-clause-accepted
+returns-in_err-body-clause-accepted c = IfOk-from_err _ _ c.from_residual-in_err-body.ensures.0
+
+pub returns-in_err-body-clause-clean : goal.returns-in_err-body-clause-clean
+returns-in_err-body-clause-clean c = IfOk-from_err _ _ c.from_residual-in_err-body.ensures.0

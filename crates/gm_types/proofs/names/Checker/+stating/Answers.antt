@@ -1,6 +1,6 @@
 use Rattle.std.proofs.Common.{◌≡◌, ◌+◌, ◌∙◌, ◌∷◌, [], List, Option, refl, ap, sym, subst, map, drop, option_map}
 use Rattle.std.specs.Prelude.{Some, box_value}
-use Rattle.std.proofs.lemmas.Result.{IfOk-weaker}
+use Rattle.std.proofs.lemmas.Result.{IfOk-weaker, IfOk-from_err}
 use Rattle.gm_ast.specs.Names.{Env, both, numbered}
 use Rattle.gm_ast.specs.Program.{Skip, sequence}
 use Rattle.gm_ast.specs.Statements.{checked, loops_of, test, searched}
@@ -135,3 +135,81 @@ checked-returns-in_ok-behind-in-InBfsBoth t c =
     (judges-InBfsBoth r.place x (name_of r.graph) (name_of r.root) f s r.reverse g b c.graph_searched-around.ensures c.rooted-start.ensures
     (judges-iterated x 1 (both (both (test f) (numbered (checked s))) (numbered (searched (test g) (numbered (checked b))))) e h l)
     (rw c.in_ok-visited-in-InBfsBoth.ensures.index at c.bfs_both_with.ensures))
+
+pub block-returns-in_err-around : goal.block-returns-in_err-around
+block-returns-in_err-around t c = IfOk-from_err _ _ c.from_residual.ensures.0
+
+pub block-returns-in_err-part : goal.block-returns-in_err-part
+block-returns-in_err-part t c = IfOk-from_err _ _ c.from_residual-in_err-part.ensures.0
+
+pub block-returns-in_err-held : goal.block-returns-in_err-held
+block-returns-in_err-held t c = IfOk-from_err _ _ c.from_residual-in_err-held.ensures.0
+
+pub checked-returns-in_err-asked-in-If : goal.checked-returns-in_err-asked-in-If
+checked-returns-in_err-asked-in-If t c = IfOk-from_err _ _ c.from_residual.ensures.0
+
+pub checked-returns-in_err-first-in-If : goal.checked-returns-in_err-first-in-If
+checked-returns-in_err-first-in-If t c = IfOk-from_err _ _ c.from_residual-in_err-first-in-If.ensures.0
+
+pub checked-returns-in_err-second-in-If : goal.checked-returns-in_err-second-in-If
+checked-returns-in_err-second-in-If t c = IfOk-from_err _ _ c.from_residual-in_err-second-in-If.ensures.0
+
+pub checked-returns-in_err-asked-in-While : goal.checked-returns-in_err-asked-in-While
+checked-returns-in_err-asked-in-While t c = IfOk-from_err _ _ c.from_residual-in_err-asked-in-While.ensures.0
+
+pub checked-returns-in_err-inner-in-While : goal.checked-returns-in_err-inner-in-While
+checked-returns-in_err-inner-in-While t c = IfOk-from_err _ _ c.from_residual-in_err-inner-in-While.ensures.0
+
+pub checked-returns-in_err-inner-in-Do : goal.checked-returns-in_err-inner-in-Do
+checked-returns-in_err-inner-in-Do t c = IfOk-from_err _ _ c.from_residual-in_err-inner-in-Do.ensures.0
+
+pub checked-returns-in_err-asked-in-Do : goal.checked-returns-in_err-asked-in-Do
+checked-returns-in_err-asked-in-Do t c = IfOk-from_err _ _ c.from_residual-in_err-asked-in-Do.ensures.0
+
+pub checked-returns-in_err-visited-in-InBfsBoth : goal.checked-returns-in_err-visited-in-InBfsBoth
+checked-returns-in_err-visited-in-InBfsBoth t c = IfOk-from_err _ _ c.from_residual-in_err-visited-in-InBfsBoth.ensures.0
+
+pub checked-returns-in_err-front-in-InBfsBoth : goal.checked-returns-in_err-front-in-InBfsBoth
+checked-returns-in_err-front-in-InBfsBoth t c = IfOk-from_err _ _ c.from_residual-in_err-front-in-InBfsBoth.ensures.0
+
+pub checked-returns-in_err-behind-in-InBfsBoth : goal.checked-returns-in_err-behind-in-InBfsBoth
+checked-returns-in_err-behind-in-InBfsBoth t c = IfOk-from_err _ _ c.from_residual-in_err-behind-in-InBfsBoth.ensures.0
+
+pub judge_back-returns-in_err-around : goal.judge_back-returns-in_err-around
+judge_back-returns-in_err-around t c = IfOk-from_err _ _ c.from_residual.ensures.0
+
+pub judge_back-returns-in_err-half : goal.judge_back-returns-in_err-half
+judge_back-returns-in_err-half t c = IfOk-from_err _ _ c.from_residual-in_err-half.ensures.0
+
+pub judge_half-returns-in_err-asked : goal.judge_half-returns-in_err-asked
+judge_half-returns-in_err-asked t c = IfOk-from_err _ _ c.from_residual.ensures.0
+
+pub judge_half-returns-in_err-inner : goal.judge_half-returns-in_err-inner
+judge_half-returns-in_err-inner t c = IfOk-from_err _ _ c.from_residual-in_err-inner.ensures.0
+
+pub judge_loop-returns-in_err-iterator : goal.judge_loop-returns-in_err-iterator
+judge_loop-returns-in_err-iterator t c = IfOk-from_err _ _ c.from_residual.ensures.0
+
+pub judge_loop-returns-in_err-half : goal.judge_loop-returns-in_err-half
+judge_loop-returns-in_err-half t c = IfOk-from_err _ _ c.from_residual-in_err-half.ensures.0
+
+pub judge_search-returns-in_err-visited : goal.judge_search-returns-in_err-visited
+judge_search-returns-in_err-visited t c = IfOk-from_err _ _ c.from_residual.ensures.0
+
+pub judge_search-returns-in_err-half : goal.judge_search-returns-in_err-half
+judge_search-returns-in_err-half t c = IfOk-from_err _ _ c.from_residual-in_err-half.ensures.0
+
+pub otherwise-returns-in_err-take_numbers-in-None : goal.otherwise-returns-in_err-take_numbers-in-None
+otherwise-returns-in_err-take_numbers-in-None t c = IfOk-from_err _ _ c.from_residual.ensures.0
+
+pub otherwise-returns-in_err-absent-in-None : goal.otherwise-returns-in_err-absent-in-None
+otherwise-returns-in_err-absent-in-None t c = IfOk-from_err _ _ c.from_residual-in_err-absent-in-None.ensures.0
+
+pub scoped-returns-in_err-around : goal.scoped-returns-in_err-around
+scoped-returns-in_err-around t c = IfOk-from_err _ _ c.from_residual.ensures.0
+
+pub scoped-returns-in_err-part : goal.scoped-returns-in_err-part
+scoped-returns-in_err-part t c = IfOk-from_err _ _ c.from_residual-in_err-part.ensures.0
+
+pub scoped-returns-in_err-held : goal.scoped-returns-in_err-held
+scoped-returns-in_err-held t c = IfOk-from_err _ _ c.from_residual-in_err-held.ensures.0

@@ -1,4 +1,5 @@
 use Rattle.std.proofs.Common.{refl, ap, ◌∙◌}
+use Rattle.std.proofs.lemmas.Result.{IfOk-from_err}
 use Rattle.std.specs.Prelude.{box_value}
 use Rattle.gm_base.specs.declared.rules.Rule.TheVariants.{T10}
 use Rattle.gm_ast.specs.Judged.{refused_unless}
@@ -66,3 +67,51 @@ typed-returns-in_ok-part-in-Reduction t c =
     (rw (c.start_of_optional-start.ensures, c.in_ok-iterator-in-Reduction.ensures.index) at c.in_ok-part-in-Reduction.ensures.part)
     (rw (c.start_of_optional-start.ensures, c.in_ok-iterator-in-Reduction.ensures.index) at c.in_ok-part-in-Reduction.ensures.least)
     refl refl)
+
+pub judge_optional-returns-in_err-part-in-Some : goal.judge_optional-returns-in_err-part-in-Some
+judge_optional-returns-in_err-part-in-Some t c = IfOk-from_err _ _ c.from_residual.ensures.0
+
+pub judge_prefix-returns-in_err-operand : goal.judge_prefix-returns-in_err-operand
+judge_prefix-returns-in_err-operand t c = IfOk-from_err _ _ c.from_residual.ensures.0
+
+pub judge_prefix-returns-in_err-part : goal.judge_prefix-returns-in_err-part
+judge_prefix-returns-in_err-part t c = IfOk-from_err _ _ c.from_residual-in_err-part.ensures.0
+
+pub typed-returns-in_err-part-in-Number : goal.typed-returns-in_err-part-in-Number
+typed-returns-in_err-part-in-Number t c = IfOk-from_err _ _ c.from_residual.ensures.0
+
+pub typed-returns-in_err-first-in-Infix : goal.typed-returns-in_err-first-in-Infix
+typed-returns-in_err-first-in-Infix t c = IfOk-from_err _ _ c.from_residual-in_err-first-in-Infix.ensures.0
+
+pub typed-returns-in_err-second-in-Infix : goal.typed-returns-in_err-second-in-Infix
+typed-returns-in_err-second-in-Infix t c = IfOk-from_err _ _ c.from_residual-in_err-second-in-Infix.ensures.0
+
+pub typed-returns-in_err-part-in-Infix : goal.typed-returns-in_err-part-in-Infix
+typed-returns-in_err-part-in-Infix t c = IfOk-from_err _ _ c.from_residual-in_err-part-in-Infix.ensures.0
+
+pub typed-returns-in_err-tested-in-Choose : goal.typed-returns-in_err-tested-in-Choose
+typed-returns-in_err-tested-in-Choose t c = IfOk-from_err _ _ c.from_residual-in_err-tested-in-Choose.ensures.0
+
+pub typed-returns-in_err-first-in-Choose : goal.typed-returns-in_err-first-in-Choose
+typed-returns-in_err-first-in-Choose t c = IfOk-from_err _ _ c.from_residual-in_err-first-in-Choose.ensures.0
+
+pub typed-returns-in_err-second-in-Choose : goal.typed-returns-in_err-second-in-Choose
+typed-returns-in_err-second-in-Choose t c = IfOk-from_err _ _ c.from_residual-in_err-second-in-Choose.ensures.0
+
+pub typed-returns-in_err-part-in-Choose : goal.typed-returns-in_err-part-in-Choose
+typed-returns-in_err-part-in-Choose t c = IfOk-from_err _ _ c.from_residual-in_err-part-in-Choose.ensures.0
+
+pub typed-returns-in_err-take_numbers-in-Reduction : goal.typed-returns-in_err-take_numbers-in-Reduction
+typed-returns-in_err-take_numbers-in-Reduction t c = IfOk-from_err _ _ c.from_residual-in_err-take_numbers-in-Reduction.ensures.0
+
+pub typed-returns-in_err-iterator-in-Reduction : goal.typed-returns-in_err-iterator-in-Reduction
+typed-returns-in_err-iterator-in-Reduction t c = IfOk-from_err _ _ c.from_residual-in_err-iterator-in-Reduction.ensures.0
+
+pub typed-returns-in_err-tested-in-Reduction : goal.typed-returns-in_err-tested-in-Reduction
+typed-returns-in_err-tested-in-Reduction t c = IfOk-from_err _ _ c.from_residual-in_err-tested-in-Reduction.ensures.0
+
+pub typed-returns-in_err-inner-in-Reduction : goal.typed-returns-in_err-inner-in-Reduction
+typed-returns-in_err-inner-in-Reduction t c = IfOk-from_err _ _ c.from_residual-in_err-inner-in-Reduction.ensures.0
+
+pub typed-returns-in_err-part-in-Reduction : goal.typed-returns-in_err-part-in-Reduction
+typed-returns-in_err-part-in-Reduction t c = IfOk-from_err _ _ c.from_residual-in_err-part-in-Reduction.ensures.0

@@ -12,6 +12,7 @@ use Rattle.gm_types.specs.declared.names.Checker.{Checker}
 use Rattle.gm_types.specs.Views.{env_of, known_in}
 use Rattle.gm_types.proofs.Leasts.{least_from-append}
 use Rattle.gm_types.proofs.Declarings.{judges-declared}
+use Rattle.std.proofs.lemmas.Result.{IfOk-from_err}
 use Rattle.gm_types.proofs.names.Checker.declare_typed.Goals as goal
 
 pub returns : goal.returns
@@ -36,3 +37,6 @@ returns c =
     ∙ ap (λ (s : Checker). least_from (least_from old.least (tb ++ ib)) (unless (is_none (known_as (known_in s.scope.names.entries) x.text)) T2 x.place)) e1)
     (rw is_v at c.in_ok-index.ensures.row ∙ ap (λ (s : Checker). s.declarations.items ++ (record { name = x.text; variable = v } ∷ [])) e3)
     (c.in_ok-index.ensures.index ∙ ap (λ (s : Checker). length s.declarations.items) e3)
+
+pub returns-in_err-index : goal.returns-in_err-index
+returns-in_err-index c = IfOk-from_err _ _ c.from_residual.ensures.0

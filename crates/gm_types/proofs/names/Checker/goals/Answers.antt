@@ -5,6 +5,7 @@ use Rattle.gm_ast.specs.Statements.{goal as judged_goal}
 use Rattle.gm_types.specs.Shapes.{Walks}
 use Rattle.gm_types.proofs.Items.{drop-item}
 use Rattle.gm_types.proofs.Sequences.{walks-next}
+use Rattle.std.proofs.lemmas.Result.{IfOk-from_err}
 use Rattle.gm_types.proofs.names.Checker.goals.Goals as goal
 
 pub loop-target-preserved : goal.loop-target-preserved
@@ -16,3 +17,6 @@ loop-target-preserved c =
     let w = subst (λ (r : List SurfaceTarget). Walks (judged_goal false) c.args.self.now c.loop-target.self (option_map (λ v. v.items) c.loop-target.held) (map target_of targets) r) rest c.loop-target.invariant in
     rw c.in_ok-held.ensures
     (walks-next (judged_goal false) (map target_of targets) (target_of item) (map target_of (drop (i + 1) targets)) w c.goal-goal.ensures)
+
+pub returns-in_err-held : goal.returns-in_err-held
+returns-in_err-held c = IfOk-from_err _ _ c.from_residual.ensures.0

@@ -7,6 +7,7 @@ use Rattle.gm_types.specs.Shapes.{Walks}
 use Rattle.gm_types.proofs.Items.{drop-item}
 use Rattle.gm_types.proofs.Fits.{held-next}
 use Rattle.gm_types.proofs.Sequences.{walks-next}
+use Rattle.std.proofs.lemmas.Result.{IfOk-from_err}
 use Rattle.gm_types.proofs.names.Checker.typed_all.Goals as goal
 
 pub loop-value-preserved : goal.loop-value-preserved
@@ -18,3 +19,9 @@ loop-value-preserved c =
     let w = subst (λ (r : List SurfaceExpr). Walks typed c.args.self.now c.loop-value.self (option_map (λ v. map part_of v.items) c.loop-value.held) (map expr_of values) r) rest c.loop-value.invariant in
     rw (held-next part_of c.loop-value.held c.in_ok-held.held c.in_ok-part.part c.in_ok-held.ensures)
     (walks-next typed (map expr_of values) (expr_of item) (map expr_of (drop (i + 1) values)) w c.in_ok-part.ensures)
+
+pub returns-in_err-part : goal.returns-in_err-part
+returns-in_err-part c = IfOk-from_err _ _ c.from_residual.ensures.0
+
+pub returns-in_err-held : goal.returns-in_err-held
+returns-in_err-held c = IfOk-from_err _ _ c.from_residual-in_err-held.ensures.0
