@@ -20,4 +20,8 @@ pub mod ShareFolds
 pub mod ShareKept
 pub mod PhaseShare
 pub mod Kept
+pub mod Units
+pub mod LatestFaults
+pub mod Openings
+pub mod InTurn
 mod Samples

@@ -1,5 +1,5 @@
 -- Worked rows of hoisting.
-use Rattle.std.proofs.Common.{◌≡◌, ℕ, true, [], ◌∷◌, refl, Some}
+use Rattle.std.proofs.Common.{◌≡◌, ℕ, Bool, true, false, List, [], ◌∷◌, refl, Some, None}
 use Rattle.gm_base.specs.declared.places.Place.{Place}
 use Rattle.gm_value.specs.declared.operations.Op2.TheVariants.{Add, Gt}
 use Rattle.gm_value.specs.declared.reductions.Reduce.TheVariants as R
@@ -9,17 +9,25 @@ use Rattle.gm_value.specs.declared.values.Value.TheVariants.{I32, Flag}
 use Rattle.std.specs.Prelude.{pos}
 use Rattle.gm_ast.specs.declared.surface.ReductionWord.{ReductionWord}
 use Rattle.gm_ast.specs.declared.surface.ReductionWord.TheVariants as W
+use Rattle.gm_ast.specs.declared.tree.Declaration.{Declaration}
 use Rattle.gm_ast.specs.declared.tree.Domain.TheVariants.{Nodes, OutNbrs}
 use Rattle.gm_ast.specs.declared.tree.Fold.{Fold}
 use Rattle.gm_ast.specs.declared.tree.Head.{Head}
 use Rattle.gm_ast.specs.declared.tree.Key.{Key}
 use Rattle.gm_ast.specs.declared.tree.Search.{Search}
+use Rattle.gm_ast.specs.declared.tree.Sort.{Sort}
+use Rattle.gm_ast.specs.declared.tree.Sort.TheVariants as Sorts
 use Rattle.gm_ast.specs.declared.tree.Stage.TheVariants.{Inner, Operator}
 use Rattle.gm_ast.specs.declared.tree.Target.TheVariants as T
-use Rattle.gm_ast.specs.Program.{Expr, always, Const, Property, Live, Binary, Both, Folded, Skip, Declare, Assign, Combine, Foreach, If, InBfs, sequence}
-use Rattle.gm_forms.specs.Order.{first_key}
+use Rattle.gm_ast.specs.Program.{Expr, always, Const, Property, Live, Binary, Both, Folded, Skip, Declare, Assign, Combine, Foreach, If, InBfs, Program, sequence}
+use Rattle.gm_forms.specs.Order.{first_key, is_ordered}
+use Rattle.gm_forms.specs.Ready.{is_checked}
+use Rattle.gm_forms.specs.Sharing.{is_race_free}
+use Rattle.gm_forms.specs.Typing.{has_types}
+use Rattle.gm_forms.specs.Uses.{is_named}
 use Rattle.gm_desugar.specs.Conditions.{nowhere, fresh, asked}
 use Rattle.gm_hoisting.specs.Hoisting.{local, count_phase, phase_added, phase_out, body_out}
+use Rattle.gm_hoisting.specs.Totals.{can_be_hoisted}
 
 abbrev here : ℕ → Place
 here c = record { line = 1; col = c }
@@ -114,3 +122,31 @@ added = refl
 
 none-left : count_phase (phase_out 7 (InBfs (own 2) (here 1) search positive Skip)) ≡ 0
 none-left = refl
+
+-- a program is ready wherever the total of a count stands, which cannot fault: n.q = Count(t: n.Nbrs)(t.p > 0){t.p > 0} + 1, with the total in its place
+-- or behind the statement. Hoisting asks more: there the total is one of a loop
+abbrev row : Sort → VType → ℕ → Declaration
+row sort t depth = record { name = []; variable = record { sort = sort; vtype = t; depth = depth } }
+
+abbrev counting : Key → Program
+counting k = record {
+  name = [];
+  declarations = row Sorts.Graph V.I32 0 ∷ row Sorts.Iterator V.Node 1 ∷ row Sorts.Iterator V.Node 2 ∷ row Sorts.NodeProperty V.I32 0 ∷ row Sorts.NodeProperty V.I32 0 ∷ [];
+  inputs = 1;
+  outputs = 0;
+  result = None;
+  statements = 9;
+  body =
+      Foreach (own 1) (here 2) all always
+      (Assign (own 2) (T.Property 1 4 (here 1))
+      (Binary Add (here 7) (Folded (record (fold W.Count V.I32) { total = record { key = k; place = here 9; shown = here 8 } }) nbrs above above) (Const (I32 (pos 1)))));
+}
+
+abbrev facts : Program → List Bool
+facts p = is_checked p ∷ is_named p ∷ has_types p ∷ is_ordered p ∷ is_race_free p ∷ can_be_hoisted p ∷ []
+
+total-in-place : facts (counting (inner 2)) ≡ true ∷ true ∷ true ∷ true ∷ true ∷ true ∷ []
+total-in-place = refl
+
+total-behind : facts (counting (own 9)) ≡ true ∷ true ∷ true ∷ true ∷ true ∷ false ∷ []
+total-behind = refl
