@@ -6,9 +6,12 @@
 //! mask together, and inner loops alone. Then each inner loop that goes several ways becomes inner loops in turn, one for
 //! each group of neighbouring statements that go one way.
 //!
-//! What stands are the definitions (`in_pieces`, `in_slices`) and their laws: where each loop may be written so
+//! Both are functions on trees in `specs/` (`in_pieces`, `in_slices`) with their laws: where each loop may be written so
 //! (`can_be_parted`, `can_be_sliced`), the result means the same for every graph, all arguments and every bound, keeps
-//! what every pass keeps (`IsSane`), and is cut.
+//! what every pass keeps (`IsSane`), and is cut. `cut_bodies` is the code of the first: it gives what `in_pieces` gives.
 #![tactic(auto)]
 
+mod copies;
 pub mod laws;
+mod own;
+pub mod pieces;

@@ -1,0 +1,365 @@
+//! Bodies of parallel loops, cut into pieces.
+//!
+//! A loop over nodes whose body is more than own statements becomes loops in turn, one for each piece of its body: runs
+//! of own statements stay together, and each inner loop stands alone. The branches of an If that is cut stand under its
+//! condition and under the other side of it, beside the filter of the loop. One walk over the body finds the pieces, in
+//! time linear in it times the depth of its Ifs, but for the masks, which are copied for each piece.
+
+ghost use Rattle.std.specs.Prelude.{◌≡◌, ◌∷◌, [], ◌++◌, ◌||◌, true, false, IfOk, box_value, map};
+ghost use Rattle.gm_value.specs.declared.operations.Op1.TheVariants.{Not};
+ghost use Rattle.gm_ast.specs.Program as Program;
+ghost use Rattle.gm_ast.specs.Program.{sequence};
+ghost use Rattle.gm_ast.specs.Tree.{expr_of, program_of, stmt_of};
+ghost use Rattle.gm_forms.specs.Forms.{has_a_way};
+ghost use Rattle.gm_forms.specs.Meanings.{SameMeaning};
+ghost use Rattle.gm_forms.specs.Ready.{Ready2, Ready3};
+ghost use Rattle.gm_dissect.specs.Loops.{each_loop};
+ghost use Rattle.gm_cut.specs.Own as Own;
+ghost use Rattle.gm_cut.specs.Parts.{can_be_parted, in_pieces, IsCutBy, Kind, parted_loop};
+ghost use Rattle.gm_cut.specs.Taken.{run_piece};
+ghost use Rattle.gm_cut.specs.Walks.{adds_in, branch_pieces, cut_pieces, is_block, loops_of, walked};
+
+use crate::copies::copy;
+use crate::own::{adds_beyond, is_own, joins};
+use gm_ast::forms::Work;
+use gm_ast::tree::{Expr, Head, Key, Stmt, Tree};
+use gm_base::{NoMemory, Place};
+use gm_value::Op1;
+use std::alloc::{AllocError, Global};
+
+/// Cuts the body of each loop over nodes into pieces, each of which becomes a loop. A program whose loops may be written
+/// so means the same, and is cut, with inner loops of the same kind; where each goes one way, it is ready for flipping.
+/// It takes time linear in the tree times the depth of its Ifs, but for the masks, which are copied for each piece.
+pub fn cut_bodies(alloc: Global, program: Work) -> Result<Work, NoMemory>
+    ensures made { IfOk result (λ r. program_of r ≡ in_pieces (program_of program)) }
+    ensures same { IfOk result (λ r. (kind : Kind) → Ready2 (program_of program) → can_be_parted kind (program_of program) ≡ true → SameMeaning (program_of program) (program_of r)) }
+    ensures cut { IfOk result (λ r. (kind : Kind) → Ready2 (program_of program) → can_be_parted kind (program_of program) ≡ true → IsCutBy kind (program_of r)) }
+    ensures ready { IfOk result (λ r. Ready2 (program_of program) → can_be_parted has_a_way (program_of program) ≡ true → Ready3 (program_of r)) }
+{
+    let tree = program.into_tree();
+    let body = cut_phase(alloc, tree.body)?;
+    Ok(Work::new(Tree { body, ..tree }))
+}
+
+// What the loops of all pieces of a body have.
+#[derive(Clone, Copy)]
+struct Site {
+    key: Key,
+    place: Place,
+    head: Head,
+}
+
+// What a walk has come to: the loops of the pieces so far, the run of own statements that may go on behind them, and
+// whether the run reduces by a Sum or a Product through another node variable.
+#[derive(Drop)]
+struct Walk {
+    loops: Vec<Stmt>,
+    run: Vec<Stmt>,
+    adds: bool,
+}
+
+// A walk that has no run.
+fn begin(alloc: Global, loops: Vec<Stmt>) -> Walk
+    ensures loops { result.loops ≡ loops }
+    ensures run { result.run.items ≡ [] }
+    ensures adds { result.adds ≡ false }
+{
+    Walk {
+        loops,
+        run: Vec::new(alloc),
+        adds: false,
+    }
+}
+
+// The loop of a piece.
+fn loop_of(alloc: Global, site: Site, mask: &Expr, body: Stmt) -> Result<Stmt, AllocError>
+    ensures { IfOk result (λ r. stmt_of r ≡ Program.Foreach site.key site.place site.head (expr_of mask.now) (stmt_of body)) }
+{
+    let filter = copy(alloc, mask)?;
+    let body = Box::new(alloc, body)?;
+    Ok(Stmt::Foreach {
+        key: site.key,
+        place: site.place,
+        head: site.head,
+        filter,
+        body,
+    })
+}
+
+// One more own statement in the run.
+fn join(site: Site, stmt: Stmt, walk: Walk) -> Result<Walk, AllocError>
+    ensures loops { IfOk result (λ r. r.loops ≡ walk.loops) }
+    ensures run { IfOk result (λ r. map stmt_of r.run.items ≡ map stmt_of walk.run.items ++ (stmt_of stmt ∷ [])) }
+    ensures adds { IfOk result (λ r. r.adds ≡ walk.adds || Own.adds_beyond site.head.iterator (stmt_of stmt)) }
+{
+    let adds = walk.adds || adds_beyond(site.head.iterator, &stmt);
+    let mut run = walk.run;
+    run.push(stmt)?;
+    Ok(Walk {
+        loops: walk.loops,
+        run,
+        adds,
+    })
+}
+
+// The walk behind the loop of its run, if that has statements.
+fn close(alloc: Global, site: Site, mask: &Expr, walk: Walk) -> Result<Walk, AllocError>
+    ensures loops { IfOk result (λ r. map stmt_of r.loops.items ≡ map stmt_of walk.loops.items ++ loops_of site.key site.place site.head (run_piece (expr_of mask.now) (map stmt_of walk.run.items))) }
+    ensures run { IfOk result (λ r. r.run.items ≡ []) }
+    ensures adds { IfOk result (λ r. r.adds ≡ false) }
+{
+    if walk.run.is_empty() {
+        return Ok(begin(alloc, walk.loops));
+    }
+    let piece = loop_of(alloc, site, mask, Stmt::Block(walk.run))?;
+    let mut loops = walk.loops;
+    loops.push(piece)?;
+    Ok(begin(alloc, loops))
+}
+
+// The other side of a condition.
+fn negated(alloc: Global, place: Place, test: &Expr) -> Result<Expr, AllocError>
+    ensures { IfOk result (λ r. expr_of r ≡ Program.Unary Not place (expr_of test.now)) }
+{
+    let part = copy(alloc, test)?;
+    let inner = Box::new(alloc, part)?;
+    Ok(Expr::Unary {
+        op: Op1::Not,
+        place,
+        inner,
+    })
+}
+
+// A condition beside a mask.
+fn beside(alloc: Global, mask: &Expr, test: Expr) -> Result<Expr, AllocError>
+    ensures { IfOk result (λ r. expr_of r ≡ Program.Both (expr_of mask.now) (expr_of test)) }
+{
+    let part = copy(alloc, mask)?;
+    let left = Box::new(alloc, part)?;
+    let right = Box::new(alloc, test)?;
+    Ok(Expr::Both(left, right))
+}
+
+// The loops of the pieces of a branch, under a side of its condition.
+#[cycle(walking)]
+fn cut_branch(
+    alloc: Global,
+    site: Site,
+    s: Stmt,
+    mask: &Expr,
+    test: Expr,
+    walk: Walk,
+) -> Result<Walk, AllocError>
+    requires run { walk.run.items ≡ [] }
+    requires adds { walk.adds ≡ false }
+    ensures loops { IfOk result (λ r. map stmt_of r.loops.items ≡ map stmt_of walk.loops.items ++ loops_of site.key site.place site.head (branch_pieces site.head.iterator site.place (Program.Both (expr_of mask.now) (expr_of test)) (stmt_of s))) }
+    ensures run { IfOk result (λ r. r.run.items ≡ []) }
+    ensures adds { IfOk result (λ r. r.adds ≡ false) }
+{
+    let filter = beside(alloc, mask, test)?;
+    let behind = take(alloc, site, s, &filter, walk)?;
+    close(alloc, site, &filter, behind)
+}
+
+// The loops of the pieces of a statement that is not own.
+#[cycle(walking)]
+fn cut(alloc: Global, site: Site, s: Stmt, mask: &Expr, walk: Walk) -> Result<Walk, AllocError>
+    requires run { walk.run.items ≡ [] }
+    requires adds { walk.adds ≡ false }
+    ensures loops { IfOk result (λ r. map stmt_of r.loops.items ≡ map stmt_of walk.loops.items ++ loops_of site.key site.place site.head (cut_pieces site.head.iterator site.place (expr_of mask.now) (stmt_of s))) }
+    ensures run { IfOk result (λ r. r.run.items ≡ []) }
+    ensures adds { IfOk result (λ r. r.adds ≡ false) }
+{
+    match s {
+        Stmt::If { test, yes, no, .. } => {
+            let other = negated(alloc, site.place, &test)?;
+            let walk = cut_branch(alloc, site, Box::into_inner(yes), mask, test, walk)?;
+            cut_branch(alloc, site, Box::into_inner(no), mask, other, walk)
+        }
+        Stmt::Block(stmts) => push_loop(alloc, site, mask, Stmt::Block(stmts), walk),
+        other => push_loop(alloc, site, mask, other, walk),
+    }
+}
+
+// The walk behind the loop of one more piece.
+fn push_loop(
+    alloc: Global,
+    site: Site,
+    mask: &Expr,
+    body: Stmt,
+    walk: Walk,
+) -> Result<Walk, AllocError>
+    ensures loops { IfOk result (λ r. map stmt_of r.loops.items ≡ map stmt_of walk.loops.items ++ (Program.Foreach site.key site.place site.head (expr_of mask.now) (stmt_of body) ∷ [])) }
+    ensures run { IfOk result (λ r. r.run ≡ walk.run) }
+    ensures adds { IfOk result (λ r. r.adds ≡ walk.adds) }
+{
+    let piece = loop_of(alloc, site, mask, body)?;
+    let mut loops = walk.loops;
+    loops.push(piece)?;
+    Ok(Walk { loops, ..walk })
+}
+
+// A statement that is no block behind what the walk has come to.
+#[cycle(walking)]
+fn take_one(alloc: Global, site: Site, s: Stmt, mask: &Expr, walk: Walk) -> Result<Walk, AllocError>
+    requires single { is_block (stmt_of s) ≡ false }
+    requires adds { walk.adds ≡ adds_in site.head.iterator (map stmt_of walk.run.items) }
+    ensures loops { IfOk result (λ r. map stmt_of r.loops.items ≡ map stmt_of walk.loops.items ++ loops_of site.key site.place site.head (walked site.head.iterator site.place (expr_of mask.now) (map stmt_of walk.run.items) (stmt_of s)).pieces) }
+    ensures run { IfOk result (λ r. map stmt_of r.run.items ≡ (walked site.head.iterator site.place (expr_of mask.now) (map stmt_of walk.run.items) (stmt_of s)).run) }
+    ensures adds { IfOk result (λ r. r.adds ≡ adds_in site.head.iterator (map stmt_of r.run.items)) }
+{
+    if joins(site.head.iterator, walk.adds, &s) {
+        return join(site, s, walk);
+    }
+    let closed = close(alloc, site, mask, walk)?;
+    if is_own(site.head.iterator, &s) {
+        return join(site, s, closed);
+    }
+    cut(alloc, site, s, mask, closed)
+}
+
+// The statements of a block behind what the walk has come to.
+#[cycle(walking)]
+fn take_all(
+    alloc: Global,
+    site: Site,
+    stmts: Vec<Stmt>,
+    mask: &Expr,
+    walk: Walk,
+) -> Result<Walk, AllocError>
+    requires { walk.adds ≡ adds_in site.head.iterator (map stmt_of walk.run.items) }
+    ensures loops { IfOk result (λ r. map stmt_of r.loops.items ≡ map stmt_of walk.loops.items ++ loops_of site.key site.place site.head (walked site.head.iterator site.place (expr_of mask.now) (map stmt_of walk.run.items) (sequence (map stmt_of stmts.items))).pieces) }
+    ensures run { IfOk result (λ r. map stmt_of r.run.items ≡ (walked site.head.iterator site.place (expr_of mask.now) (map stmt_of walk.run.items) (sequence (map stmt_of stmts.items))).run) }
+    ensures adds { IfOk result (λ r. r.adds ≡ adds_in site.head.iterator (map stmt_of r.run.items)) }
+{
+    let mut behind = walk;
+    for stmt in stmts {
+        behind = take(alloc, site, stmt, mask, behind)?;
+    }
+    Ok(behind)
+}
+
+// A body behind what the walk has come to.
+#[cycle(walking)]
+fn take(alloc: Global, site: Site, s: Stmt, mask: &Expr, walk: Walk) -> Result<Walk, AllocError>
+    requires { walk.adds ≡ adds_in site.head.iterator (map stmt_of walk.run.items) }
+    ensures loops { IfOk result (λ r. map stmt_of r.loops.items ≡ map stmt_of walk.loops.items ++ loops_of site.key site.place site.head (walked site.head.iterator site.place (expr_of mask.now) (map stmt_of walk.run.items) (stmt_of s)).pieces) }
+    ensures run { IfOk result (λ r. map stmt_of r.run.items ≡ (walked site.head.iterator site.place (expr_of mask.now) (map stmt_of walk.run.items) (stmt_of s)).run) }
+    ensures adds { IfOk result (λ r. r.adds ≡ adds_in site.head.iterator (map stmt_of r.run.items)) }
+{
+    match s {
+        Stmt::Block(stmts) => take_all(alloc, site, stmts, mask, walk),
+        other => take_one(alloc, site, other, mask, walk),
+    }
+}
+
+// The loops of the pieces of a body.
+fn part(alloc: Global, site: Site, mask: Expr, body: Stmt) -> Result<Stmt, AllocError>
+    ensures { IfOk result (λ r. stmt_of r ≡ sequence (loops_of site.key site.place site.head (branch_pieces site.head.iterator site.place (expr_of mask) (stmt_of body)))) }
+{
+    let walk = begin(alloc, Vec::new(alloc));
+    let behind = take(alloc, site, body, &mask, walk)?;
+    let closed = close(alloc, site, &mask, behind)?;
+    Ok(Stmt::Block(closed.loops))
+}
+
+// The loop of a whole body.
+fn whole_loop(site: Site, filter: Expr, body: Box<Stmt>) -> Stmt
+    ensures { stmt_of result ≡ Program.Foreach site.key site.place site.head (expr_of filter) (stmt_of (box_value body)) }
+{
+    Stmt::Foreach {
+        key: site.key,
+        place: site.place,
+        head: site.head,
+        filter,
+        body,
+    }
+}
+
+// A loop over nodes, in pieces if it is not of own statements.
+fn part_loop(alloc: Global, site: Site, filter: Expr, body: Box<Stmt>) -> Result<Stmt, AllocError>
+    ensures { IfOk result (λ r. stmt_of r ≡ parted_loop site.key site.place site.head (expr_of filter) (stmt_of (box_value body))) }
+{
+    if is_own(site.head.iterator, &body) {
+        return Ok(whole_loop(site, filter, body));
+    }
+    part(alloc, site, filter, Box::into_inner(body))
+}
+
+// The sequential phase with each of its loops so.
+fn cut_phase(alloc: Global, s: Stmt) -> Result<Stmt, AllocError>
+    ensures { IfOk result (λ r. stmt_of r ≡ each_loop parted_loop (stmt_of s)) }
+{
+    match s {
+        Stmt::Block(stmts) => {
+            let mut out = Vec::new(alloc);
+            for stmt in stmts {
+                let changed = cut_phase(alloc, stmt)?;
+                out.push(changed)?;
+            }
+            Ok(Stmt::Block(out))
+        }
+        Stmt::Foreach {
+            key,
+            place,
+            head,
+            filter,
+            body,
+        } => part_loop(alloc, Site { key, place, head }, filter, body),
+        Stmt::For {
+            key,
+            place,
+            head,
+            filter,
+            body,
+        } => {
+            let changed = cut_phase(alloc, Box::into_inner(body))?;
+            let body = Box::new(alloc, changed)?;
+            Ok(Stmt::For {
+                key,
+                place,
+                head,
+                filter,
+                body,
+            })
+        }
+        Stmt::If { key, test, yes, no } => {
+            let changed = cut_phase(alloc, Box::into_inner(yes))?;
+            let yes = Box::new(alloc, changed)?;
+            let changed = cut_phase(alloc, Box::into_inner(no))?;
+            let no = Box::new(alloc, changed)?;
+            Ok(Stmt::If { key, test, yes, no })
+        }
+        Stmt::While {
+            key,
+            place,
+            test,
+            body,
+        } => {
+            let changed = cut_phase(alloc, Box::into_inner(body))?;
+            let body = Box::new(alloc, changed)?;
+            Ok(Stmt::While {
+                key,
+                place,
+                test,
+                body,
+            })
+        }
+        Stmt::Do {
+            key,
+            place,
+            body,
+            test,
+        } => {
+            let changed = cut_phase(alloc, Box::into_inner(body))?;
+            let body = Box::new(alloc, changed)?;
+            Ok(Stmt::Do {
+                key,
+                place,
+                body,
+                test,
+            })
+        }
+        other => Ok(other),
+    }
+}
