@@ -10,5 +10,13 @@ pub mod Exchange
 pub mod Putting
 pub mod Testing
 pub mod Numbering
+pub mod Rising
+pub mod Restarting
+pub mod Copying
 pub mod Sizes
+pub mod Standing
+pub mod Beginning
+pub mod Stepping
+pub mod Walking
+pub mod Made
 mod Rows

@@ -1,9 +1,59 @@
--- The blocks that are kept, and their numbers, one after another.
-use Rattle.std.proofs.Common.{◌≡◌, ◌<◌, ◌≤◌, ℕ, zero, suc, ◌+◌, Bool, true, false, Some, List, [], ◌∷◌, ◌++◌, map, length, refl, sym, ap, ◌∙◌, arith, ⊎_elim}
+-- What a pass over a master list has found so far, and the blocks and numbers that are kept.
+use Rattle.std.proofs.Common.{◌≡◌, ◌<◌, ◌≤◌, ℕ, zero, suc, ◌+◌, Bool, true, false, not, ◌||◌, nat_eq, Option, Some, None, List, [], ◌∷◌, ◌++◌, map, length, take, get_or, refl, sym, ap, ◌∙◌, arith, ⊎_elim}
+use Rattle.std.specs.Prelude.{min, slice_get, slice_index_or}
+use Rattle.std.specs.List.{list_any, list_all}
 use Rattle.std.proofs.lemmas.Bool.{cases_lt}
+use Rattle.std.proofs.lemmas.List.{take_more, map-append}
+use Rattle.std.proofs.lemmas.List.Folds.{list_any-append}
+use Rattle.gm_image.specs.declared.lines.MasterLine.{MasterLine}
 use Rattle.gm_image.specs.Program.{Command, SetGlobal, Step, Jump, Test, Turn, Back, Finish, Block}
-use Rattle.gm_merge.specs.Trimmed.{kept_before, kept_blocks, counted_before, kept_count, renumbered}
-use Rattle.gm_merge.specs.Numbers.{count_at, numbered, StepsInside}
+use Rattle.gm_image.specs.Views.{command}
+use Rattle.gm_merge.specs.Trimmed.{steps_to, is_run, kept_before, kept_blocks, counted_before, kept_count, renumbered}
+use Rattle.gm_merge.specs.Numbers.{step_block, jump_line, is_named, is_target, step_count, count_at, numbered, StepsInside}
+
+-- whether a line is a step of a block, by its block
+pub steps-named : (q : ℕ) (m : Command) → is_named (step_block m) q ≡ steps_to q m
+steps-named q (SetGlobal g a) = refl
+steps-named q (Step r) = refl
+steps-named q (Jump to) = refl
+steps-named q (Test to a) = refl
+steps-named q (Turn exit a) = refl
+steps-named q (Back head) = refl
+steps-named q Finish = refl
+
+or-false : (x : Bool) → (x || false) ≡ x
+or-false true = refl
+or-false false = refl
+
+-- the lines so far and one more
+pub more-lines : (ms : List MasterLine) (i : ℕ) (x : MasterLine) → i < length ms → x ≡ get_or ms i x → map command (take (i + 1) ms) ≡ map command (take i ms) ++ command x ∷ []
+more-lines ms i x l is = ap (map command) (take_more ms i x l ∙ ap (λ (y : MasterLine). take i ms ++ y ∷ []) (sym is)) ∙ map-append command (take i ms) (x ∷ [])
+
+pub any-more : (t : Command → Bool) (ms : List MasterLine) (i : ℕ) (x : MasterLine) → i < length ms → x ≡ get_or ms i x
+    → list_any t (map command (take (i + 1) ms)) ≡ (list_any t (map command (take i ms)) || t (command x))
+any-more t ms i x l is =
+    ap (list_any t) (more-lines ms i x l is) ∙ list_any-append t (map command (take i ms)) (command x ∷ [])
+    ∙ ap (λ b. list_any t (map command (take i ms)) || b) (or-false (t (command x)))
+
+count-end : (q : ℕ) (ms : List Command) (m : Command) → step_count q (ms ++ m ∷ []) ≡ counted_before (steps_to q m) (step_count q ms)
+count-end q [] m = refl
+count-end q (l ∷ ms) m = ap (counted_before (steps_to q l)) (count-end q ms m) ∙ both (steps_to q l) (steps_to q m) (step_count q ms)
+  where
+    both : (x y : Bool) (n : ℕ) → counted_before x (counted_before y n) ≡ counted_before y (counted_before x n)
+    both true true n = refl
+    both true false n = refl
+    both false y n = refl
+
+pub count-more : (q : ℕ) (ms : List MasterLine) (i : ℕ) (x : MasterLine) → i < length ms → x ≡ get_or ms i x
+    → step_count q (map command (take (i + 1) ms)) ≡ counted_before (is_named (step_block (command x)) q) (step_count q (map command (take i ms)))
+count-more q ms i x l is =
+    ap (step_count q) (more-lines ms i x l is) ∙ count-end q (map command (take i ms)) (command x)
+    ∙ ap (λ b. counted_before b (step_count q (map command (take i ms)))) (sym (steps-named q (command x)))
+
+-- one more of a count that stops at 255
+pub capped : (x : Bool) (n m k : ℕ) → k ≡ min (counted_before x n) 255 → n ≡ min m 255 → k ≡ min (counted_before x m) 255
+capped true n m k e f = omega arith
+capped false n m k e f = omega arith
 
 both-counted : (x y : Bool) (n : ℕ) → counted_before x (counted_before y n) ≡ counted_before y (counted_before x n)
 both-counted true true n = refl

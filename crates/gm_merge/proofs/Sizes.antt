@@ -21,12 +21,24 @@ blocks-fewer (b ∷ bs) =
     let one = length-block b in
     omega (arith, more, both, one)
 
-pub few-blocks : (p : Program) → IsTrue (is_sound p) → length p.blocks < 4294967295
-few-blocks p sound =
+-- a sound image has no more registers, blocks and lines of its master list than its text has lines
+pub record Small (p : Program) : Type 0 where
+  pub lines : line_count p < 4294967296
+  pub registers : length p.registers < 4294967296
+  pub blocks : length p.blocks < 4294967295
+  pub master : length p.master < 4294967296
+
+pub small : (p : Program) → IsTrue (is_sound p) → Small p
+small p sound =
     let short : line_count p < 4294967296 = ltb-true (line_count p) line_limit (and_parts (list_all (keeps_all p) (rows p)) (nat_lt (line_count p) line_limit) sound).1 in
     let text = length-text p in
     let blocks = blocks-fewer p.blocks in
-    omega (arith, short, text, blocks)
+    record {
+      lines = short;
+      registers = omega (arith, short, text);
+      blocks = omega (arith, short, text, blocks);
+      master = omega (arith, short, text);
+    }
 
 pub steps-inside : (p : Program) → IsTrue (is_sound p) → StepsInside (length p.blocks) p.master
 steps-inside p sound k q e = step-inside p sound k q e

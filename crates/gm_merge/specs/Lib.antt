@@ -6,4 +6,6 @@ pub mod Tests
 pub mod Bounds
 pub mod Earlier
 pub mod Numbers
+pub mod Registers
+pub mod Walk
 pub mod Results

@@ -1,11 +1,14 @@
-//! Images without the blocks that no step runs.
+//! Passes over images: one joins supersteps wherever two consecutive ones may be one, until no two such are left, and one
+//! drops the blocks that no step runs.
 
 ghost use Rattle.std.specs.Prelude.{◌≡◌, ◌<◌, IfOk, length};
 ghost use Rattle.gm_image.specs.Views.{program};
+ghost use Rattle.gm_merge.specs.Merged.{merged};
 ghost use Rattle.gm_merge.specs.Trimmed.{trimmed};
 ghost use Rattle.gm_merge.specs.Numbers.{StepsInside};
-ghost use Rattle.gm_merge.specs.Results.{RunsAs, HasSameRest};
+ghost use Rattle.gm_merge.specs.Results.{RunsAs, SameOutcomes, FewerSupersteps, FewerMessages, HasSameRest, HasNoneLeft};
 
+use crate::joining::join_image;
 use crate::trimming::trim_lists;
 use gm_base::{Items, NoMemory};
 use gm_image::{Image, Sound};
@@ -36,4 +39,24 @@ pub fn trim(alloc: Global, image: Sound) -> Result<Sound, NoMemory>
 {
     let trimmed = trim_image(alloc, image.into_image())?;
     Ok(Sound::new(trimmed))
+}
+
+/// Joins supersteps wherever two consecutive ones may be one, line by line from the first to the last, and drops the
+/// blocks that no step runs any more. Time is near linear in the image and its result: lines are moved, and copied only
+/// where a block that more than one step runs is joined.
+///
+/// # Errors
+///
+/// If there is not enough memory.
+pub fn merge(alloc: Global, image: Sound) -> Result<Sound, NoMemory>
+    ensures made { IfOk result (λ r. program r ≡ merged (program image)) }
+    ensures same { IfOk result (λ r. SameOutcomes (program image) (program r)) }
+    ensures supersteps { IfOk result (λ r. FewerSupersteps (program image) (program r)) }
+    ensures messages { IfOk result (λ r. FewerMessages (program image) (program r)) }
+    ensures rest { IfOk result (λ r. HasSameRest (program image) (program r)) }
+    ensures none_left { IfOk result (λ r. HasNoneLeft (program image) (program r)) }
+{
+    let joined = join_image(alloc, image.into_image())?;
+    let merged = trim_image(alloc, joined)?;
+    Ok(Sound::new(merged))
 }

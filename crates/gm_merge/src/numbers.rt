@@ -1,9 +1,10 @@
-//! What is found of a master list in one pass: the blocks that its steps run.
+//! What is found of a master list in one pass: the lines that others jump to, the blocks that its steps run, and how many
+//! steps run each.
 
-ghost use Rattle.std.specs.Prelude.{◌≡◌, ◌<◌, ◌||◌, ℕ, IfOk, length, map};
+ghost use Rattle.std.specs.Prelude.{◌≡◌, ◌<◌, ◌||◌, ℕ, IfOk, length, map, min};
 ghost use Rattle.gm_image.specs.Views.{command};
-ghost use Rattle.gm_merge.specs.Trimmed.{is_run};
-ghost use Rattle.gm_merge.specs.Numbers.{step_block, is_named, flag_at};
+ghost use Rattle.gm_merge.specs.Trimmed.{is_run, counted_before};
+ghost use Rattle.gm_merge.specs.Numbers.{step_block, jump_line, is_named, is_target, step_count, flag_at, count_at};
 
 use gm_image::MasterLine;
 use std::alloc::{AllocError, Global};
@@ -15,6 +16,18 @@ pub fn step_block(line: &MasterLine) -> Option<u32>
     match line {
         MasterLine::Step(number) => Some(*number),
         _ => None,
+    }
+}
+
+// The line that a line of the master list jumps to, if it has one.
+fn jump_line(line: &MasterLine) -> Option<u32>
+    ensures { result ≡ jump_line (command line.now) }
+{
+    match line {
+        MasterLine::Jump(target) | MasterLine::Test(target, _) => Some(*target),
+        MasterLine::Turn(exit, _) => Some(*exit),
+        MasterLine::Back(head) => Some(*head),
+        MasterLine::SetGlobal(_, _) | MasterLine::Step(_) | MasterLine::Finish => None,
     }
 }
 
@@ -31,6 +44,31 @@ fn set_flag(flags: &mut Vec<bool>, number: Option<u32>)
     }
 }
 
+// Counts one more of a number, at most 255.
+fn add_one(counts: &mut Vec<u8>, number: Option<u32>)
+    ensures long { length counts.new.items ≡ length counts.old.items }
+    ensures counts { (q : ℕ) → q < length counts.old.items → count_at counts.new.items q ≡ min (counted_before (is_named number q) (count_at counts.old.items q)) 255 }
+{
+    if let Some(number) = number {
+        let at = number as usize;
+        if at < counts.len() {
+            counts[at] = counts[at].saturating_add(1);
+        }
+    }
+}
+
+// Of each line of a master list, whether some line jumps to it.
+pub fn find_targets(alloc: Global, master: &[MasterLine]) -> Result<Vec<bool>, AllocError>
+    ensures long { IfOk result (λ fs. length fs.items ≡ length master.now) }
+    ensures targets { IfOk result (λ fs. (j : ℕ) → j < length master.now → flag_at fs.items j ≡ is_target (map command master.now) j) }
+{
+    let mut flags = vec![in alloc; false; master.len()]?;
+    for line in master {
+        set_flag(&mut flags, jump_line(line));
+    }
+    Ok(flags)
+}
+
 // Of each block, whether some step runs it.
 pub fn find_runs(
     alloc: Global,
@@ -45,4 +83,20 @@ pub fn find_runs(
         set_flag(&mut flags, step_block(line));
     }
     Ok(flags)
+}
+
+// Of each block, how many steps run it, at most 255.
+pub fn count_steps(
+    alloc: Global,
+    blocks: usize,
+    master: &[MasterLine],
+) -> Result<Vec<u8>, AllocError>
+    ensures long { IfOk result (λ cs. length cs.items ≡ blocks) }
+    ensures counts { IfOk result (λ cs. (q : ℕ) → q < blocks → count_at cs.items q ≡ min (step_count q (map command master.now)) 255) }
+{
+    let mut counts = vec![in alloc; 0u8; blocks]?;
+    for line in master {
+        add_one(&mut counts, step_block(line));
+    }
+    Ok(counts)
 }

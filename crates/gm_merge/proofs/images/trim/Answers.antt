@@ -5,14 +5,14 @@ use Rattle.gm_image.specs.Soundness.{is_sound}
 use Rattle.gm_image.specs.Views.{program}
 use Rattle.gm_merge.specs.Trimmed.{trimmed}
 use Rattle.gm_merge.specs.Results.{RunsAs, HasSameRest}
-use Rattle.gm_merge.proofs.Sizes.{few-blocks, steps-inside, trimmed-rest, trimmed-runs-as}
+use Rattle.gm_merge.proofs.Sizes.{small, steps-inside, trimmed-rest, trimmed-runs-as}
 use Rattle.gm_merge.proofs.SoundTrims.{trimmed-sound}
 use Rattle.gm_merge.proofs.images.trim.Goals as goal
 
 pub trim_image-requires : goal.trim_image-requires
 trim_image-requires c =
     let p = program c.into_image.result in
-    record { few = few-blocks p c.into_image.ensures.sound; inside = steps-inside p c.into_image.ensures.sound }
+    record { few = (small p c.into_image.ensures.sound).blocks; inside = steps-inside p c.into_image.ensures.sound }
 
 pub new-requires : goal.new-requires
 new-requires c = subst (λ (q : Program). IsTrue (is_sound q)) (sym c.in_ok-trimmed.ensures) (trimmed-sound (program c.into_image.result) c.into_image.ensures.sound)
