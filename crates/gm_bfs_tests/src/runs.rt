@@ -5,7 +5,7 @@ use gm_ast::forms::Work;
 use gm_base::{Items, NoMemory};
 use gm_bfs::levelled::bfs_out;
 use gm_canon::verdict;
-use gm_graph::{Graph, RawGraph, Shape, build};
+use gm_graph::{Graph, RawGraph, Shape, Walks, build};
 use gm_meaning::{evaluate, work_of};
 use gm_value::Value;
 use std::alloc::{AllocError, Global};
@@ -18,6 +18,7 @@ pub fn cycle_with_tail(alloc: Global) -> Result<Graph, NoMemory> {
         shape: Shape {
             nodes: Items::new(Vec::new(alloc)),
             edges: Items::new(Vec::new(alloc)),
+            walks: Walks::BothWays,
         },
         from: Items::new(Vec::from_slice(alloc, &[0u64, 1, 2, 2, 2, 4, 4])?),
         to: Items::new(Vec::from_slice(alloc, &[1u64, 2, 0, 3, 3, 0, 5])?),
@@ -34,6 +35,7 @@ pub fn diamond(alloc: Global) -> Result<Graph, NoMemory> {
         shape: Shape {
             nodes: Items::new(Vec::new(alloc)),
             edges: Items::new(Vec::new(alloc)),
+            walks: Walks::BothWays,
         },
         from: Items::new(Vec::from_slice(alloc, &[0u64, 0, 1, 2, 1, 3, 3, 3, 0, 4])?),
         to: Items::new(Vec::from_slice(alloc, &[1u64, 2, 3, 3, 2, 0, 4, 3, 0, 1])?),
@@ -50,6 +52,7 @@ pub fn no_nodes(alloc: Global) -> Result<Graph, NoMemory> {
         shape: Shape {
             nodes: Items::new(Vec::new(alloc)),
             edges: Items::new(Vec::new(alloc)),
+            walks: Walks::BothWays,
         },
         from: Items::new(Vec::new(alloc)),
         to: Items::new(Vec::new(alloc)),

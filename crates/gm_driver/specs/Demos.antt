@@ -6,6 +6,7 @@ use Rattle.gm_value.specs.declared.values.Value.{Value}
 use Rattle.gm_value.specs.declared.values.Value.TheVariants.{At}
 use Rattle.gm_value.specs.declared.values.VType.TheVariants.{I32}
 use Rattle.gm_graph.specs.declared.builds.Shape.{Shape}
+use Rattle.gm_graph.specs.declared.builds.Walks.TheVariants.{Outward}
 use Rattle.gm_model.specs.declared.outcomes.Outcome.{Outcome}
 use Rattle.gm_model.specs.declared.outcomes.Outcome.TheVariants.{Done, Fault, Cut}
 use Rattle.gm_model.specs.Graphs.{NumberedGraph}
@@ -25,9 +26,9 @@ use Rattle.gm_driver.specs.declared.demos.NoLine.{NoLine}
 use Rattle.gm_driver.specs.declared.demos.NoLine.TheVariants.{Unshown, NoMemory}
 use Rattle.gm_driver.specs.Runs.{SaysRefused}
 
--- the columns of the graph: an Int for each edge, its length
+-- what the demo asks of its graph: an Int for each edge, its length, and walks along the edges
 abbrev pub demo_shape : Shape
-demo_shape = record { nodes = []; edges = I32 ∷ [] }
+demo_shape = record { nodes = []; edges = I32 ∷ []; walks = Outward }
 
 -- how many turns a run may begin where no option says it
 abbrev pub usual_turns : ℕ

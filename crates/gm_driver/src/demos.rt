@@ -18,7 +18,7 @@ use gm_ast::forms::Work;
 use gm_base::{Items, NoMemory, Status, Text};
 use gm_columns::Values;
 use gm_demo::{demo_graph, demo_line, demo_program};
-use gm_graph::{Graph, Shape};
+use gm_graph::{Graph, Shape, Walks};
 use gm_input::{Answer, GRAPH_LIMITS, Halt, settled};
 use gm_loader::{GraphFault, parse_graph};
 use gm_meaning::evaluate;
@@ -48,13 +48,14 @@ impl From<NoMemory> for NoLine {
     }
 }
 
-// The columns of the graph: an Int for each edge, its length.
+// What the demo asks of its graph: an Int for each edge, its length, and walks along the edges.
 fn shape(alloc: Global) -> Result<Shape, NoMemory>
     ensures { IfOk result (λ shape. shape ≡ demo_shape) }
 {
     Ok(Shape {
         nodes: Items::new(Vec::new(alloc)),
         edges: Items::new(Vec::from_slice(alloc, &[VType::I32])?),
+        walks: Walks::Outward,
     })
 }
 

@@ -5,6 +5,7 @@ use Rattle.std.specs.Prelude.{codes}
 use Rattle.gm_base.specs.declared.statuses.Status.TheVariants.{Done as DoneStatus}
 use Rattle.gm_value.specs.declared.values.VType.TheVariants as types
 use Rattle.gm_value.specs.declared.values.Value.TheVariants.{I32}
+use Rattle.gm_graph.specs.declared.builds.Walks.TheVariants.{Outward}
 use Rattle.gm_model.specs.declared.outcomes.Outcome.TheVariants.{Done}
 use Rattle.gm_model.specs.Graphs.{NumberedGraph}
 use Rattle.gm_machine.proofs.Samples.{total, graph_of, edge}
@@ -28,7 +29,7 @@ notes = record { step = 1; block = 0; vertices = 2; messages = 3 } ∷ record { 
 abbrev said : List ℕ
 said = listing [] (codes "s" ∷ []) (0 ∷ 1 ∷ []) (Counts 2 3) (Done [] None ((I32 (pos 0) ∷ I32 (pos 17) ∷ []) ∷ []) 0)
 
-pub total-shape : shape_of total ≡ record { nodes = types.I32 ∷ []; edges = [] }
+pub total-shape : shape_of total ≡ record { nodes = types.I32 ∷ []; edges = []; walks = Outward }
 total-shape = refl
 
 pub total-inputs : inputs_of total ≡ []

@@ -1,4 +1,5 @@
 pub mod Flaws
+pub mod Walks
 pub mod Programs
 pub mod Runs
 pub mod Answers

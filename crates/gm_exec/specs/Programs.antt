@@ -6,6 +6,7 @@ use Rattle.gm_graph.specs.declared.builds.Shape.{Shape}
 use Rattle.gm_words.specs.declared.arguments.Input.{Input}
 use Rattle.gm_image.specs.Program.{Program, Item}
 use Rattle.gm_machine.specs.Machine.{scalars, properties}
+use Rattle.gm_exec.specs.Walks.{walks_of}
 
 -- the types of some inputs, and the names of some outputs
 abbrev pub types_of : List Item → List VType
@@ -14,10 +15,10 @@ types_of items = map (λ i. i.vtype) items
 abbrev pub names_of : List Item → List (List ℕ)
 names_of items = map (λ i. i.name) items
 
--- the columns that a graph has for an image: one for each property of nodes among the inputs, in the order of their
--- lines, and those of edges that the image declares, which are its properties of edges
+-- what an image asks of its graph: a column for each property of nodes among the inputs, in the order of their lines, those of
+-- edges that the image declares, which are its properties of edges, and rows for the walks that it takes
 abbrev pub shape_of : Program → Shape
-shape_of p = record { nodes = types_of (properties p.inputs); edges = p.columns }
+shape_of p = record { nodes = types_of (properties p.inputs); edges = p.columns; walks = walks_of p }
 
 -- a scalar input, with its name as a text: the bytes of a name that are no text are replaced
 abbrev pub input_of : List ℕ → VType → Input

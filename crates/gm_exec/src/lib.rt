@@ -8,6 +8,7 @@ mod laws;
 mod programs;
 mod replies;
 mod runs;
+mod walks;
 mod watches;
 
 pub use flaws::Flaw;

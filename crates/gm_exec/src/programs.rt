@@ -5,6 +5,7 @@ ghost use Rattle.gm_image.specs.Views.{input, output, program};
 ghost use Rattle.gm_machine.specs.Machine.{properties, scalars};
 ghost use Rattle.gm_exec.specs.Programs.{input_of, inputs_of as inputs_of_lem, names_of, shape_of as shape_of_lem, types_of};
 
+use crate::walks::walks_of;
 use gm_base::{Items, NoMemory, Text};
 use gm_graph::Shape;
 use gm_image::{Image, InputItem, OutputItem};
@@ -25,13 +26,14 @@ fn property_types(alloc: Global, inputs: &[InputItem]) -> Result<Vec<VType>, NoM
     Ok(types)
 }
 
-/// The columns that a graph has for an image.
+/// The columns that a graph has for an image, and the walks for which it has rows.
 pub fn shape_of(alloc: Global, image: &Image) -> Result<Shape, NoMemory>
     ensures { IfOk result (λ shape. shape ≡ shape_of_lem (program image.now)) }
 {
     Ok(Shape {
         nodes: Items::new(property_types(alloc, image.inputs.as_slice())?),
         edges: Items::new(Vec::from_slice(alloc, image.columns.as_slice())?),
+        walks: walks_of(image),
     })
 }
 

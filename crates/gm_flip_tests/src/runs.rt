@@ -10,7 +10,7 @@ use gm_base::{Items, NoMemory};
 use gm_canon::verdict;
 use gm_columns::Column;
 use gm_flip::flip::flip;
-use gm_graph::{Graph, RawGraph, Shape, build};
+use gm_graph::{Graph, RawGraph, Shape, Walks, build};
 use gm_meaning::{evaluate, work_of};
 use gm_value::{VType, Value};
 use std::alloc::{AllocError, Global};
@@ -39,6 +39,7 @@ fn lines(alloc: Global) -> Result<RawGraph, NoMemory>
         shape: Shape {
             nodes: Items::new(Vec::new(alloc)),
             edges: Items::new(vec![in alloc; VType::I32]?),
+            walks: Walks::BothWays,
         },
         from: Items::new(vec![in alloc; 0u64, 0, 1, 2, 2, 2]?),
         to: Items::new(vec![in alloc; 1u64, 1, 2, 2, 0, 3]?),

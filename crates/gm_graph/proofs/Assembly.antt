@@ -10,7 +10,7 @@ use Rattle.gm_graph.specs.declared.groups.Groups.{Groups}
 use Rattle.gm_columns.specs.Columns.{TypedRow}
 use Rattle.gm_graph.specs.Builds.{IsBuildable, distinct, numbers_of, spread_out}
 use Rattle.gm_graph.specs.Spreads.{IsRowOf, HasRow, value_in}
-use Rattle.gm_graph.specs.Rows.{IsGrouped}
+use Rattle.gm_graph.specs.Rows.{IsGrouped, IsGroupedWith}
 use Rattle.gm_graph.proofs.Building.{numbers-few, rows-few, columns-spread, spread-rows}
 
 -- the ascending numbers that name nodes
@@ -106,6 +106,13 @@ grouped-as a b keys others xs ys g e f h held =
     let P : ℕ → Type 0 = λ m. IsGrouped m keys others g in
     let Q : List ℕ → Type 0 = λ l. IsGrouped b l others g in
     let R : List ℕ → Type 0 = λ l. IsGrouped b xs l g in
+    subst R h (subst Q f (subst P e held))
+
+pub grouped-with-as : (a b : ℕ) (keys others xs ys numbers : List ℕ) (g : Groups) → a ≡ b → keys ≡ xs → others ≡ ys → IsGroupedWith a keys others numbers g → IsGroupedWith b xs ys numbers g
+grouped-with-as a b keys others xs ys numbers g e f h held =
+    let P : ℕ → Type 0 = λ m. IsGroupedWith m keys others numbers g in
+    let Q : List ℕ → Type 0 = λ l. IsGroupedWith b l others numbers g in
+    let R : List ℕ → Type 0 = λ l. IsGroupedWith b xs l numbers g in
     subst R h (subst Q f (subst P e held))
 
 pub lengths-as : (a b : ℕ) (xs ys : List TypedRow) → a ≡ b → ys ≡ xs → All (λ c. length c.values ≡ a) xs → All (λ c. length c.values ≡ b) ys

@@ -13,3 +13,4 @@ pub mod Typing
 pub mod Lines
 pub mod ByLine
 pub mod EdgeRows
+pub mod Finding

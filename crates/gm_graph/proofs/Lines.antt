@@ -3,11 +3,11 @@ use Rattle.std.proofs.Common.{◌≡◌, ◌<◌, ◌+◌, ℕ, List, map, lengt
 use Rattle.std.specs.Prelude.{slice_index, All, ◌==◌, nat_lt}
 use Rattle.std.specs.List.{position_or_len}
 use Rattle.std.proofs.lemmas.Bool.{eq-eqb, ne_eqb, lt-ltb, le-ltb}
-use Rattle.std.proofs.lemmas.List.{get_or-map, length-map, ext_get_or}
+use Rattle.std.proofs.lemmas.List.{get_or-map, get_or_default, length-map, ext_get_or}
 use Rattle.std.proofs.lemmas.List.FromFn.{get_or-map-range_with_len, length-range_with_len}
 use Rattle.std.proofs.lemmas.List.Sums.{position_or_len_is}
 use Rattle.gm_graph.specs.declared.groups.Groups.{Groups}
-use Rattle.gm_graph.specs.Rows.{count_of, place_of, lines_of, row_of, rows_by_line, node_at, sources_in, targets_in, AreStarts, IsGroupedRow, IsGrouped}
+use Rattle.gm_graph.specs.Rows.{count_of, place_of, lines_of, row_of, rows_by_line, node_at, sources_in, targets_in, AreStarts, IsGroupedRow, IsGrouped, IsGroupedWith}
 use Rattle.gm_graph.proofs.Grouping.{count_below-mono, count_below-step, count_of-at, place_of-within}
 use Rattle.gm_graph.proofs.Ranging.{IsEdgeOf, edge-of-place, count_below-all}
 use Rattle.gm_graph.proofs.Steps.{line-at}
@@ -60,48 +60,73 @@ node-is nodes e keys starts held h within =
     omega arith
 
 -- the row of each line
-pub length-rows : (out : Groups) → length (rows_by_line out) ≡ length out.lines.items
-length-rows out = length-map (lines_of (length out.lines.items)) (row_of out.lines.items) ∙ length-range_with_len 0 (length out.lines.items)
+pub length-rows : (out : Groups) → length (rows_by_line out) ≡ length out.edges.items
+length-rows out = length-map (lines_of (length out.edges.items)) (row_of out.edges.items) ∙ length-range_with_len 0 (length out.edges.items)
 
-pub row-at : (out : Groups) (e : ℕ) → e < length out.lines.items → get_or (rows_by_line out) e 0 ≡ row_of out.lines.items e
-row-at out e h = get_or-map-range_with_len (row_of out.lines.items) 0 (length out.lines.items) e e 0 h (omega arith)
+pub row-at : (out : Groups) (e : ℕ) → e < length out.edges.items → get_or (rows_by_line out) e 0 ≡ row_of out.edges.items e
+row-at out e h = get_or-map-range_with_len (row_of out.edges.items) 0 (length out.edges.items) e e 0 h (omega arith)
 
 pub rows-are : (nodes : ℕ) (keys others : List ℕ) (out : Groups) → IsGrouped nodes keys others out → All (λ key. key < nodes) keys → rows_by_line out ≡ map (place_of keys) (lines_of (length keys))
 rows-are nodes keys others out held within =
-    let lines : AreLines nodes keys out.lines.items = record { row = held.lines_row; within = within } in
-    let count = held.lines_row.len in
+    let lines : AreLines nodes keys out.edges.items = record { row = held.edges_row; within = within } in
+    let count = held.edges_row.len in
     ext_get_or 0 (rows_by_line out) (map (place_of keys) (lines_of (length keys)))
     (omega (arith, length-rows out, length-map (lines_of (length keys)) (place_of keys), length-range_with_len 0 (length keys)))
     (λ e h. let inside : e < length keys = omega (arith, length-rows out) in
-    row-at out e (omega arith) ∙ (row-is nodes e keys out.lines.items lines inside ∙ sym (get_or-map-range_with_len (place_of keys) 0 (length keys) e e 0 inside (omega arith))))
+    row-at out e (omega arith) ∙ (row-is nodes e keys out.edges.items lines inside ∙ sym (get_or-map-range_with_len (place_of keys) 0 (length keys) e e 0 inside (omega arith))))
 
 -- the ends of the edges, as the rows show them
 sources-at : (nodes e : ℕ) (keys others : List ℕ) (out : Groups) → IsGrouped nodes keys others out → All (λ key. key < nodes) keys → e < length keys → get_or (sources_in out) e 0 ≡ get_or keys e 0
 sources-at nodes e keys others out held within h =
-    let lines : AreLines nodes keys out.lines.items = record { row = held.lines_row; within = within } in
-    get_or-map (node_at out.starts.items) (rows_by_line out) e 0 0 (omega (arith, length-rows out, held.lines_row.len))
-    ∙ (ap (node_at out.starts.items) (row-at out e (omega (arith, held.lines_row.len)) ∙ row-is nodes e keys out.lines.items lines h)
+    let lines : AreLines nodes keys out.edges.items = record { row = held.edges_row; within = within } in
+    get_or-map (node_at out.starts.items) (rows_by_line out) e 0 0 (omega (arith, length-rows out, held.edges_row.len))
+    ∙ (ap (node_at out.starts.items) (row-at out e (omega (arith, held.edges_row.len)) ∙ row-is nodes e keys out.edges.items lines h)
     ∙ node-is nodes e keys out.starts.items held.starts h (within e 0 h))
 
 targets-at : (nodes e : ℕ) (keys others : List ℕ) (out : Groups) → IsGrouped nodes keys others out → All (λ key. key < nodes) keys → e < length keys → get_or (targets_in out) e 0 ≡ get_or others e 0
 targets-at nodes e keys others out held within h =
-    let lines : AreLines nodes keys out.lines.items = record { row = held.lines_row; within = within } in
-    get_or-map (slice_index out.nodes.items) (rows_by_line out) e 0 0 (omega (arith, length-rows out, held.lines_row.len))
-    ∙ (ap (slice_index out.nodes.items) (row-at out e (omega (arith, held.lines_row.len)) ∙ row-is nodes e keys out.lines.items lines h)
+    let lines : AreLines nodes keys out.edges.items = record { row = held.edges_row; within = within } in
+    get_or-map (slice_index out.nodes.items) (rows_by_line out) e 0 0 (omega (arith, length-rows out, held.edges_row.len))
+    ∙ (ap (slice_index out.nodes.items) (row-at out e (omega (arith, held.edges_row.len)) ∙ row-is nodes e keys out.edges.items lines h)
     ∙ held.nodes_row.at e h)
 
-pub length-sources : (out : Groups) → length (sources_in out) ≡ length out.lines.items
+pub length-sources : (out : Groups) → length (sources_in out) ≡ length out.edges.items
 length-sources out = length-map (rows_by_line out) (node_at out.starts.items) ∙ length-rows out
 
-pub length-targets : (out : Groups) → length (targets_in out) ≡ length out.lines.items
+pub length-targets : (out : Groups) → length (targets_in out) ≡ length out.edges.items
 length-targets out = length-map (rows_by_line out) (slice_index out.nodes.items) ∙ length-rows out
 
 pub sources-are : (nodes : ℕ) (keys others : List ℕ) (out : Groups) → IsGrouped nodes keys others out → All (λ key. key < nodes) keys → sources_in out ≡ keys
 sources-are nodes keys others out held within =
-    ext_get_or 0 (sources_in out) keys (omega (arith, length-sources out, held.lines_row.len))
-    (λ e h. sources-at nodes e keys others out held within (omega (arith, length-sources out, held.lines_row.len)))
+    ext_get_or 0 (sources_in out) keys (omega (arith, length-sources out, held.edges_row.len))
+    (λ e h. sources-at nodes e keys others out held within (omega (arith, length-sources out, held.edges_row.len)))
 
 pub targets-are : (nodes : ℕ) (keys others : List ℕ) (out : Groups) → IsGrouped nodes keys others out → All (λ key. key < nodes) keys → length others ≡ length keys → targets_in out ≡ others
 targets-are nodes keys others out held within long =
-    ext_get_or 0 (targets_in out) others (omega (arith, length-targets out, held.lines_row.len))
-    (λ e h. targets-at nodes e keys others out held within (omega (arith, length-targets out, held.lines_row.len)))
+    ext_get_or 0 (targets_in out) others (omega (arith, length-targets out, held.edges_row.len))
+    (λ e h. targets-at nodes e keys others out held within (omega (arith, length-targets out, held.edges_row.len)))
+
+-- each row has a line
+pub lines-below-all : (nodes : ℕ) (keys others : List ℕ) (groups : Groups) → IsGrouped nodes keys others groups → All (λ key. key < nodes) keys → All (λ line. line < length keys) groups.edges.items
+lines-below-all nodes keys others groups held within = λ k d h.
+    let lines : AreLines nodes keys groups.edges.items = record { row = held.edges_row; within = within } in
+    let alone : IsAlone keys (get_or groups.edges.items k 0) k = row-held nodes (get_or groups.edges.items k 0) k keys groups.edges.items lines (omega (arith, held.edges_row.len)) refl in
+    omega (arith, alone.within, get_or_default groups.edges.items k d 0 h)
+
+-- groups whose lines are exchanged for numbers
+pub renumbered-with : (nodes : ℕ) (keys others numbers : List ℕ) (old new : Groups) → IsGrouped nodes keys others old → All (λ key. key < nodes) keys → new.starts ≡ old.starts → new.nodes ≡ old.nodes → new.edges.items ≡ map (slice_index numbers) old.edges.items → IsGroupedWith nodes keys others numbers new
+renumbered-with nodes keys others numbers old new held within starts others_are edges =
+    let lines : AreLines nodes keys old.edges.items = record { row = held.edges_row; within = within } in
+    let S : List ℕ → Type 0 = λ l. AreStarts nodes keys l in
+    let R : List ℕ → Type 0 = λ l. IsGroupedRow keys others l in
+    let len : length new.edges.items ≡ length keys = ap length edges ∙ (length-map old.edges.items (slice_index numbers) ∙ held.edges_row.len) in
+    record {
+      starts = subst S (sym (ap (λ v. v.items) starts)) held.starts;
+      nodes_row = subst R (sym (ap (λ v. v.items) others_are)) held.nodes_row;
+      edges_row = record {
+        len = len;
+        at = λ e h. ap (λ l. slice_index l (place_of keys e)) edges
+            ∙ (get_or-map (slice_index numbers) old.edges.items (place_of keys e) 0 0 (omega (arith, held.edges_row.len, place_of-within keys e h))
+            ∙ ap (slice_index numbers) (at-place nodes e keys old.edges.items lines h));
+      };
+    }

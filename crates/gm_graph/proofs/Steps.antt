@@ -7,9 +7,10 @@ use Rattle.std.proofs.lemmas.Bool.{cases_eq, eq-eqb, ne_eqb}
 use Rattle.std.proofs.lemmas.Option.{slice_get-map}
 use Rattle.std.proofs.lemmas.List.FromFn.{get_or-range_with_len}
 use Rattle.std.proofs.lemmas.List.Sums.{sum_by-cons}
-use Rattle.gm_model.specs.Graphs.{Edge, Step, nodes_of, edges_of}
+use Rattle.gm_columns.specs.Columns.{cell_at}
+use Rattle.gm_model.specs.Graphs.{Edge, NumberedGraph, Step, nodes_of, edges_of, value_along}
 use Rattle.gm_graph.specs.declared.groups.Groups.{Groups}
-use Rattle.gm_graph.specs.Rows.{edge_list, count_of, count_below, place_of, lines_of, AreStarts, IsGrouped}
+use Rattle.gm_graph.specs.Rows.{edge_list, count_of, count_below, place_of, lines_of, AreStarts, IsGroupedWith}
 use Rattle.gm_graph.proofs.Grouping.{same, same-self, same-other, place_of-within, count_below-step}
 
 -- steps along the edges from a node, and against the edges to it, with the edges numbered from a base
@@ -115,16 +116,17 @@ line-at count e h =
     get_or-range_with_len 0 count e 0 h ∙ none_more
 
 -- where the k-th step of a node has its edge, and the node at the other end
-pub record IsEdgeAt (n k : ℕ) (ss ts : List ℕ) (groups : Groups) (steps : List Step) : Type 0 where
+pub record IsEdgeAt (n k : ℕ) (ss ts numbers : List ℕ) (groups : Groups) (steps : List Step) : Type 0 where
   pub placed : slice_index groups.starts.items n + k < length ss
   pub edge : ℕ
-  pub is : slice_index groups.lines.items (slice_index groups.starts.items n + k) ≡ edge
+  pub here : place_of ss edge ≡ slice_index groups.starts.items n + k
+  pub is : slice_index groups.edges.items (slice_index groups.starts.items n + k) ≡ slice_index numbers edge
   pub other : slice_index groups.nodes.items (slice_index groups.starts.items n + k) ≡ get_or ts edge 0
   pub within : edge < length ss
   pub step : slice_get steps k ≡ Some (record { node = get_or ts edge 0; edge = edge })
 
-pub edge-at : (nodes n k : ℕ) (ss ts : List ℕ) (groups : Groups) → IsGrouped nodes ss ts groups → length ss ≡ length ts → n < nodes → k < length (steps_out 0 n (edge_list ss ts)) → IsEdgeAt n k ss ts groups (steps_out 0 n (edge_list ss ts))
-edge-at nodes n k ss ts groups held long within some =
+pub edge-at : (nodes n k : ℕ) (ss ts numbers : List ℕ) (groups : Groups) → IsGroupedWith nodes ss ts numbers groups → length ss ≡ length ts → n < nodes → k < length (steps_out 0 n (edge_list ss ts)) → IsEdgeAt n k ss ts numbers groups (steps_out 0 n (edge_list ss ts))
+edge-at nodes n k ss ts numbers groups held long within some =
     let at : IsStepAt 0 n k ss ts (steps_out 0 n (edge_list ss ts)) = step-at 0 n k ss ts long (omega (arith, length-steps 0 n ss ts long)) in
     let start = held.starts.at n (omega arith) in
     let moved : place_of ss at.place ≡ count_below n ss + count_of n (take at.place ss) = ap (λ m. count_below m ss + count_of m (take at.place ss)) at.key in
@@ -132,7 +134,8 @@ edge-at nodes n k ss ts groups held long within some =
     record {
       placed = omega (arith, place_of-within ss at.place at.within);
       edge = at.place;
-      is = ap (λ p. slice_index groups.lines.items p) (sym here) ∙ (held.lines_row.at at.place at.within ∙ line-at (length ss) at.place at.within);
+      here = here;
+      is = ap (λ p. slice_index groups.edges.items p) (sym here) ∙ held.edges_row.at at.place at.within;
       other = ap (λ p. slice_index groups.nodes.items p) (sym here) ∙ held.nodes_row.at at.place at.within;
       within = at.within;
       step = at.step ∙ ap (step_to (get_or ts at.place 0)) (omega arith);
@@ -144,3 +147,9 @@ edge-of steps k n e is = slice_get-map (λ s. s.edge) steps k ∙ ap (option_map
 
 pub node-of : (steps : List Step) (k n e : ℕ) → slice_get steps k ≡ Some (record { node = n; edge = e }) → slice_get (nodes_of steps) k ≡ Some n
 node-of steps k n e is = slice_get-map (λ s. s.node) steps k ∙ ap (option_map (λ s. s.node)) is
+
+-- the value along a step is that of its edge
+pub along-edge : (g : NumberedGraph) (steps : List Step) (k column e : ℕ) → slice_get (edges_of steps) k ≡ Some e → value_along g steps k column ≡ cell_at g.edge_columns column e
+along-edge g [] k column e is = cc
+along-edge g (s ∷ steps) zero column e is = let same : s.edge ≡ e = cc in ap (cell_at g.edge_columns column) same
+along-edge g (s ∷ steps) (suc k) column e is = along-edge g steps k column e is

@@ -1,5 +1,6 @@
 pub mod Builds
 pub mod Rows
+pub mod Walks
 pub mod Ranges
 pub mod Spreads
 pub mod Numberings

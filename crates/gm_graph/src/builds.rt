@@ -1,8 +1,8 @@
 //! The making of a graph from its lines.
 
-ghost use Rattle.std.specs.Prelude.{◌≡◌, ◌<◌, ◌≤◌, ℕ, All, IfOk, length, map, slice_index};
+ghost use Rattle.std.specs.Prelude.{◌≡◌, ◌<◌, ◌≤◌, ℕ, All, IfOk, IfSome, length, map, slice_index};
 ghost use Rattle.gm_graph.specs.Builds.{IsBuildable, IsBuiltOf, HasShape};
-ghost use Rattle.gm_graph.specs.Rows.{count_below, lines_of, place_of, value_at};
+ghost use Rattle.gm_graph.specs.Rows.{IsGrouped, IsGroupedWith, count_below, lines_of, place_of, rows_by_line, value_at};
 ghost use Rattle.gm_columns.specs.Columns.{CanHold};
 
 use crate::graphs::Graph;
@@ -14,11 +14,23 @@ use gm_columns::Column;
 use gm_value::VType;
 use std::alloc::Global;
 
-/// The types of a graph's node columns and of its edge columns, in order.
+/// The ways in which the edges of a graph are walked along. Each has rows of its own in memory.
+#[derive(Clone, Copy, PartialEq, Eq, Debug)]
+pub enum Walks {
+    /// From nodes to the ends of their edges only. What is asked of the edges that lead to a node is searched for among
+    /// all edges.
+    Outward,
+    /// Also from nodes to the starts of the edges that lead to them.
+    BothWays,
+}
+
+/// What is asked of a graph: the types of its node columns and of its edge columns, in order, and the walks for which it
+/// has rows.
 #[derive(Debug, Drop)]
 pub struct Shape {
     pub nodes: Items<VType>,
     pub edges: Items<VType>,
+    pub walks: Walks,
 }
 
 /// What a graph is made of. `from` and `to` have the node numbers of the edges, in the order of their lines,
@@ -58,20 +70,21 @@ pub fn build(alloc: Global, raw: RawGraph) -> Result<Graph, NoMemory>
     drop(node_rows);
     let count = numbers.len();
     let outward = Groups::new(alloc, sources.as_slice(), targets.as_slice(), count)?;
-    let inward = Groups::new(alloc, targets.as_slice(), sources.as_slice(), count)?;
+    let inward = inward_for(
+        alloc,
+        raw.shape.walks,
+        targets.as_slice(),
+        sources.as_slice(),
+        &outward,
+        count,
+    )?;
     drop(targets);
+    drop(sources);
     know_types(raw.edge_columns.as_slice());
     know_types(raw.node_columns.as_slice());
-    let rows = rows_of_lines(
-        alloc,
-        raw.edge_columns.len(),
-        sources.as_slice(),
-        outward.starts.as_slice(),
-    )?;
-    drop(sources);
     let edge_columns = columns_by_row(
         alloc,
-        outward.lines.as_slice(),
+        outward.edges.as_slice(),
         raw.edge_columns.as_slice(),
     )?;
     Ok(Graph {
@@ -80,26 +93,52 @@ pub fn build(alloc: Global, raw: RawGraph) -> Result<Graph, NoMemory>
         inward,
         node_columns,
         edge_columns,
-        rows,
     })
 }
 
-// The row of each line among the rows of the edges that are grouped by their keys, if there are columns of edges.
-fn rows_of_lines(
+// The edges grouped by the nodes to which they lead, where a walk asks for them.
+fn inward_for(
     alloc: Global,
-    columns: usize,
-    keys: &[u32],
-    starts: &[u32],
-) -> Result<Vec<u32>, NoMemory>
-    requires keys_within { All (λ key. key < length starts.now) keys.now }
-    requires few_keys { length keys.now ≤ 2147483647 }
-    requires starts_at { (n : ℕ) → n < length starts.now → slice_index starts.now n ≡ count_below n keys.now }
-    ensures { IfOk result (λ rows. 0 < columns → rows.items ≡ map (place_of keys.now) (lines_of (length keys.now))) }
+    walks: Walks,
+    targets: &[u32],
+    sources: &[u32],
+    outward: &Groups,
+    nodes: usize,
+) -> Result<Option<Groups>, NoMemory>
+    requires targets_within { All (λ node. node < nodes) targets.now }
+    requires sources_within { All (λ node. node < nodes) sources.now }
+    requires ends { length sources.now ≡ length targets.now }
+    requires few_edges { length targets.now ≤ 2147483647 }
+    requires few_nodes { nodes ≤ 2147483647 }
+    requires outward { IsGrouped nodes sources.now targets.now outward.now }
+    ensures { IfOk result (λ inward. IfSome inward (IsGroupedWith nodes targets.now sources.now (rows_by_line outward.now))) }
 {
-    if columns == 0 {
-        return Ok(Vec::new(alloc));
+    match walks {
+        Walks::Outward => Ok(None),
+        Walks::BothWays => Ok(Some(inward_of(alloc, targets, sources, outward, nodes)?)),
     }
-    places(alloc, keys, starts)
+}
+
+// The edges grouped by the nodes to which they lead, with the row of each among those that are grouped by the nodes from which
+// they lead.
+fn inward_of(
+    alloc: Global,
+    targets: &[u32],
+    sources: &[u32],
+    outward: &Groups,
+    nodes: usize,
+) -> Result<Groups, NoMemory>
+    requires targets_within { All (λ node. node < nodes) targets.now }
+    requires sources_within { All (λ node. node < nodes) sources.now }
+    requires ends { length sources.now ≡ length targets.now }
+    requires few_edges { length targets.now ≤ 2147483647 }
+    requires few_nodes { nodes ≤ 2147483647 }
+    requires outward { IsGrouped nodes sources.now targets.now outward.now }
+    ensures { IfOk result (IsGroupedWith nodes targets.now sources.now (rows_by_line outward.now)) }
+{
+    let inward = Groups::new(alloc, targets, sources, nodes)?;
+    let rows = places(alloc, sources, outward.starts.as_slice())?;
+    Ok(inward.renumbered(rows.as_slice()))
 }
 
 // The place of each edge among the edges that are grouped by their keys.

@@ -3,6 +3,7 @@
 ghost use Rattle.std.specs.Prelude.{◌≡◌, ◌<◌, ◌≤◌, ◌==◌, Some, All, length, map, position, slice_get};
 ghost use Rattle.gm_columns.specs.Columns.{cell_at};
 ghost use Rattle.gm_model.specs.Graphs.{IsGraph, HasNode, HasEdge, HasStep, HasNodeColumn, HasEdgeColumn, node_count, edge_count, out_steps, in_steps, nodes_of, edges_of, value_along};
+ghost use Rattle.gm_graph.specs.Walks.{edge_at};
 
 use crate::groups::Groups;
 use crate::numbers::index_in;
@@ -12,17 +13,18 @@ use std::marker::Model;
 
 /// A graph. Contracts see its ascending node numbers, its edges between node indices, in the order of their
 /// lines, and the values of its columns. In memory the edges, with their values, stand as a walk along them goes:
-/// those away from the first node, then those away from the second, and so on.
+/// those away from the first node, then those away from the second, and so on. The place of an edge in this walk is its
+/// row; where the value of an edge is asked for, its row leads there at once, and its number by line does not.
 #[derive(Debug, Drop)]
 pub struct Graph {
     pub(crate) numbers: Vec<u64>,
+    // With the line of each edge.
     pub(crate) outward: Groups,
-    pub(crate) inward: Groups,
+    // With the row of each edge among those of `outward`, where a walk asks for them.
+    pub(crate) inward: Option<Groups>,
     pub(crate) node_columns: Vec<Column>,
     // In the order of the rows of `outward`.
     pub(crate) edge_columns: Vec<Column>,
-    // The row of each line among those of `outward`. It is empty where there is no column of edges.
-    pub(crate) rows: Vec<u32>,
 }
 
 impl Model for Graph {
@@ -51,7 +53,7 @@ impl Graph {
         ensures count { result ≡ edge_count self.now }
         ensures known { IsGraph self.now }
     {
-        self.outward.lines.len() as u32
+        self.outward.edges.len() as u32
     }
 
     /// How many node columns there are. Their indices are the numbers below.
@@ -99,7 +101,17 @@ impl Graph {
         ensures edge { slice_get (edges_of (out_steps self.now node)) k ≡ Some result }
         ensures known { HasEdge self.now result }
     {
-        self.outward.line(node, k)
+        self.outward.edge(node, k)
+    }
+
+    /// The row of the k-th edge that leads from a node, from 0 and in the order of the lines: its place in the walk.
+    pub fn out_row(&self, node: u32, k: u32) -> u32
+        requires node { HasNode self.now node }
+        requires step { HasStep (out_steps self.now node) k }
+        ensures edge { slice_get (edges_of (out_steps self.now node)) k ≡ Some (edge_at self.now (Some result)) }
+        ensures known { HasEdge self.now result }
+    {
+        self.outward.row(node, k)
     }
 
     /// The node to which the k-th edge leads that leads from a node, from 0 and in the order of the lines.
@@ -132,7 +144,10 @@ impl Graph {
         ensures degree { result ≡ length (in_steps self.now node) }
         ensures fits { result ≤ 2147483647 }
     {
-        self.inward.size(node)
+        match &self.inward {
+            Some(inward) => inward.size(node),
+            None => self.outward.count_to(node),
+        }
     }
 
     /// The k-th edge that leads to a node, from 0 and in the order of the lines: its place among all edges.
@@ -142,7 +157,20 @@ impl Graph {
         ensures edge { slice_get (edges_of (in_steps self.now node)) k ≡ Some result }
         ensures known { HasEdge self.now result }
     {
-        self.inward.line(node, k)
+        self.outward.edges[self.in_row(node, k) as usize]
+    }
+
+    /// The row of the k-th edge that leads to a node, from 0 and in the order of the lines: its place in the walk.
+    pub fn in_row(&self, node: u32, k: u32) -> u32
+        requires node { HasNode self.now node }
+        requires step { HasStep (in_steps self.now node) k }
+        ensures edge { slice_get (edges_of (in_steps self.now node)) k ≡ Some (edge_at self.now (Some result)) }
+        ensures known { HasEdge self.now result }
+    {
+        match &self.inward {
+            Some(inward) => inward.edge(node, k),
+            None => self.outward.row_of(self.outward.line_to(node, k)),
+        }
     }
 
     /// The node from which the k-th edge leads that leads to a node, from 0 and in the order of the lines.
@@ -152,7 +180,69 @@ impl Graph {
         ensures source { slice_get (nodes_of (in_steps self.now node)) k ≡ Some result }
         ensures known { HasNode self.now result }
     {
-        self.inward.node(node, k)
+        match &self.inward {
+            Some(inward) => inward.node(node, k),
+            None => {
+                let line = self.outward.line_to(node, k);
+                self.outward.group_of(self.outward.row_of(line))
+            }
+        }
+    }
+
+    /// The value in an edge column at the k-th edge that leads to a node.
+    pub fn in_value(&self, node: u32, k: u32, column: u32) -> Value
+        requires node { HasNode self.now node }
+        requires step { HasStep (in_steps self.now node) k }
+        requires column { HasEdgeColumn self.now column }
+        ensures { value_along self.now (in_steps self.now node) k column ≡ Some result }
+    {
+        self.row_value(self.in_row(node, k), column)
+    }
+
+    /// The value in an edge column at the edge of a row.
+    pub fn row_value(&self, row: u32, column: u32) -> Value
+        requires row { HasEdge self.now row }
+        requires column { HasEdgeColumn self.now column }
+        ensures { cell_at self.now.edge_columns column (edge_at self.now (Some row)) ≡ Some result }
+    {
+        cell(self.edge_columns.as_slice(), column, row)
+    }
+
+    /// The value in an edge column at the edge of a row, and at the first edge where no row is named. There is none where
+    /// the graph has no such column or no such edge.
+    pub fn value_in(&self, row: Option<u32>, column: u32) -> Option<Value>
+        ensures { result ≡ cell_at self.now.edge_columns column (edge_at self.now row) }
+    {
+        match row {
+            Some(row) => self.value_at(row, column),
+            None => self.first_value(column),
+        }
+    }
+
+    // The value in an edge column at the edge of a row, if there are such a column and such an edge.
+    fn value_at(&self, row: u32, column: u32) -> Option<Value>
+        ensures { result ≡ cell_at self.now.edge_columns column (edge_at self.now (Some row)) }
+    {
+        if row >= self.edge_count() {
+            return None;
+        }
+        if column as usize >= self.edge_column_count() {
+            return None;
+        }
+        Some(self.row_value(row, column))
+    }
+
+    // The value in an edge column at the first edge, if there are such a column and an edge.
+    fn first_value(&self, column: u32) -> Option<Value>
+        ensures { result ≡ cell_at self.now.edge_columns column 0 }
+    {
+        if self.edge_count() == 0 {
+            return None;
+        }
+        if column as usize >= self.edge_column_count() {
+            return None;
+        }
+        Some(self.edge_value(0, column))
     }
 
     /// The value of a node in a node column.
@@ -164,17 +254,15 @@ impl Graph {
         cell(self.node_columns.as_slice(), column, node)
     }
 
-    /// The value of an edge in an edge column.
+    /// The value of an edge in an edge column. The edge's row is searched for, in time that grows with the number of all
+    /// edges: along a step it is known, and `out_value`, `in_value` and `row_value` take it from there.
     pub fn edge_value(&self, edge: u32, column: u32) -> Value
         requires edge { HasEdge self.now edge }
         requires column { HasEdgeColumn self.now column }
         ensures { cell_at self.now.edge_columns column edge ≡ Some result }
     {
-        cell(
-            self.edge_columns.as_slice(),
-            column,
-            self.rows[edge as usize],
-        )
+        let row = self.outward.row_of(edge);
+        cell(self.edge_columns.as_slice(), column, row)
     }
 }
 

@@ -11,7 +11,8 @@ mod numberings;
 mod numbers;
 mod ranges;
 mod rows;
+mod searches;
 
-pub use builds::{RawGraph, Shape, build};
+pub use builds::{RawGraph, Shape, Walks, build};
 pub use graphs::Graph;
 pub use laws::graphs_are_determined;

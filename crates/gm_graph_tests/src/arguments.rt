@@ -3,7 +3,7 @@ ghost use Rattle.std.specs.Prelude.{◌≡◌, IfOk};
 ghost use Rattle.gm_words.specs.Jobs.{AllAssign};
 
 use gm_base::{Items, NoMemory, Text};
-use gm_graph::{Graph, RawGraph, Shape, build};
+use gm_graph::{Graph, RawGraph, Shape, Walks, build};
 use gm_value::{VType, Value};
 use gm_words::{ArgFault, Input, Job, bind, read_words};
 use std::alloc::{AllocError, Global};
@@ -85,6 +85,7 @@ fn small_graph(alloc: Global) -> Result<Graph, NoMemory> {
     let shape = Shape {
         nodes: Items::new(Vec::new(alloc)),
         edges: Items::new(Vec::new(alloc)),
+        walks: Walks::BothWays,
     };
     let from = numbers_of(alloc, &[0, 9223372036854775807])?;
     let to = numbers_of(alloc, &[7, 7])?;

@@ -8,7 +8,7 @@ ghost use Rattle.gm_loader.specs.Rows.{weighted};
 
 use crate::compare::same;
 use gm_base::Items;
-use gm_graph::{Graph, Shape};
+use gm_graph::{Graph, Shape, Walks};
 use gm_loader::{GraphFault, Limits, consume_graph};
 use gm_value::{VType, Value};
 use std::alloc::{AllocError, Global};
@@ -99,6 +99,7 @@ fn shape(alloc: Global) -> Result<Shape, AllocError>
     Ok(Shape {
         nodes: Items::new(Vec::new(alloc)),
         edges: Items::new(vec![in alloc; VType::I32]?),
+        walks: Walks::BothWays,
     })
 }
 
@@ -141,7 +142,7 @@ fn has_in_row(graph: &Graph, ends: &[Ends], node: u32) -> bool
     for k in 0..graph.in_degree(node) {
         let edge = graph.in_edge(node, k);
         let from = graph.in_source(node, k);
-        let value = graph.edge_value(edge, 0);
+        let value = graph.in_value(node, k, 0);
         let here = Ends { from, to: node };
         if u64::from(edge) < least || ends.get(edge as usize) != Some(&here) {
             return false;

@@ -5,7 +5,7 @@ ghost use Rattle.gm_loader.specs.GraphText.{HasColumns};
 ghost use Rattle.gm_model.specs.Graphs.{HasNode, HasStep, out_steps};
 
 use gm_base::Items;
-use gm_graph::{Graph, Shape};
+use gm_graph::{Graph, Shape, Walks};
 use gm_loader::Limits;
 use gm_value::{VType, Value};
 use std::alloc::{AllocError, Global};
@@ -41,6 +41,7 @@ pub(crate) fn shape_of(alloc: Global, letters: (&str, &str)) -> Result<Shape, Al
     Ok(Shape {
         nodes: types(alloc, letters.0)?,
         edges: types(alloc, letters.1)?,
+        walks: Walks::BothWays,
     })
 }
 

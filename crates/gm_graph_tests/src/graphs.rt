@@ -8,7 +8,7 @@ ghost use Rattle.gm_model.specs.Graphs.{HasNode};
 use crate::compare::{same, same_text};
 use gm_base::{Items, NoMemory};
 use gm_columns::{Column, Values};
-use gm_graph::{Graph, RawGraph, Shape, build};
+use gm_graph::{Graph, RawGraph, Shape, Walks, build};
 use gm_value::{VType, Value};
 use std::alloc::{AllocError, Global};
 use std::fmt::Write;
@@ -28,14 +28,15 @@ fn counted_rows(alloc: Global, rows: u8) -> Result<Items<Column>, NoMemory>
     Ok(Items::new(columns))
 }
 
-// The lines `7 3`, `7 3`, `3 7` and `7 7`, and the nodes 9 and 3 with a value each.
-fn lines(alloc: Global) -> Result<RawGraph, NoMemory>
+// The lines `7 3`, `7 3`, `3 7` and `7 7`, and the nodes 9 and 3 with a value each, with rows for some walks.
+fn lines(alloc: Global, walks: Walks) -> Result<RawGraph, NoMemory>
     ensures { IfOk result IsBuildable }
 {
     Ok(RawGraph {
         shape: Shape {
             nodes: Items::new(vec![in alloc; VType::I32]?),
             edges: Items::new(vec![in alloc; VType::I32]?),
+            walks,
         },
         from: Items::new(vec![in alloc; 7u64, 7, 3, 7]?),
         to: Items::new(vec![in alloc; 3u64, 3, 7, 7]?),
@@ -53,6 +54,7 @@ fn far_line(alloc: Global) -> Result<RawGraph, NoMemory>
         shape: Shape {
             nodes: Items::new(Vec::new(alloc)),
             edges: Items::new(Vec::new(alloc)),
+            walks: Walks::BothWays,
         },
         from: Items::new(vec![in alloc; 9_223_372_036_854_775_807u64]?),
         to: Items::new(vec![in alloc; 3u64]?),
@@ -109,16 +111,22 @@ fn listing(alloc: Global, graph: &Graph) -> Result<String, AllocError> {
     Ok(text)
 }
 
+// The listing of those lines.
+const LISTING: &str = "3: >2/1 <0/1 <1/1;7: >0/0 >1/0 >3/1 <2/0 <3/1;9:;";
+
+#[test]
+fn edges_without_rows_are_found(rt: HostRuntime) -> Result<(), Fail> {
+    let graph = build(rt.alloc(), lines(rt.alloc(), Walks::Outward)?)?;
+    let text = listing(rt.alloc(), &graph)?;
+    same_text(&rt, 0, text.as_str(), LISTING);
+    Ok(())
+}
+
 #[test]
 fn a_graph_is_made_and_read(rt: HostRuntime) -> Result<(), Fail> {
-    let graph = build(rt.alloc(), lines(rt.alloc())?)?;
+    let graph = build(rt.alloc(), lines(rt.alloc(), Walks::BothWays)?)?;
     let text = listing(rt.alloc(), &graph)?;
-    same_text(
-        &rt,
-        0,
-        text.as_str(),
-        "3: >2/1 <0/1 <1/1;7: >0/0 >1/0 >3/1 <2/0 <3/1;9:;",
-    );
+    same_text(&rt, 0, text.as_str(), LISTING);
     same(&rt, 1, graph.edge_count(), 4);
     same(&rt, 2, graph.node_column_count(), 1);
     same(&rt, 3, graph.edge_column_count(), 1);

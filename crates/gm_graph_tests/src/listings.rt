@@ -7,7 +7,7 @@ ghost use Rattle.gm_columns.specs.Columns.{CanHold};
 use crate::compare::{same, same_bytes};
 use gm_base::{Items, NoMemory, Place, Status};
 use gm_columns::{Column, Values};
-use gm_graph::{Graph, RawGraph, Shape, build};
+use gm_graph::{Graph, RawGraph, Shape, Walks, build};
 use gm_listing::{Ending, Outputs, listing, status_of};
 use gm_model::Outcome;
 use gm_value::{FaultKind, VType, Value};
@@ -23,6 +23,7 @@ fn far_lines(alloc: Global) -> Result<RawGraph, NoMemory>
         shape: Shape {
             nodes: Items::new(Vec::new(alloc)),
             edges: Items::new(Vec::new(alloc)),
+            walks: Walks::BothWays,
         },
         from: Items::new(vec![in alloc; 70u64]?),
         to: Items::new(vec![in alloc; 3u64]?),
@@ -40,6 +41,7 @@ fn no_line(alloc: Global) -> Result<RawGraph, NoMemory>
         shape: Shape {
             nodes: Items::new(Vec::new(alloc)),
             edges: Items::new(Vec::new(alloc)),
+            walks: Walks::BothWays,
         },
         from: Items::new(Vec::new(alloc)),
         to: Items::new(Vec::new(alloc)),

@@ -8,7 +8,7 @@ ghost use Rattle.gm_machine.specs.Masters.{FitsGraph};
 use crate::texts::{text_of, verified};
 use gm_base::{Items, NoMemory};
 use gm_columns::Values;
-use gm_graph::{Graph, RawGraph, Shape, build};
+use gm_graph::{Graph, RawGraph, Shape, Walks, build};
 use gm_image::Image;
 use gm_image_text::read_image;
 use gm_machine::{Master, inboxes_have_no_order, master_run, run_one};
@@ -35,6 +35,7 @@ fn two_nodes(alloc: Global) -> Result<RawGraph, NoMemory>
         shape: Shape {
             nodes: Items::new(Vec::new(alloc)),
             edges: Items::new(Vec::new(alloc)),
+            walks: Walks::BothWays,
         },
         from: Items::new(vec![in alloc; 7u64]?),
         to: Items::new(vec![in alloc; 3u64]?),
@@ -53,6 +54,7 @@ pub(crate) fn four_nodes(alloc: Global) -> Result<RawGraph, NoMemory>
         shape: Shape {
             nodes: Items::new(Vec::new(alloc)),
             edges: Items::new(Vec::new(alloc)),
+            walks: Walks::BothWays,
         },
         from: Items::new(vec![in alloc; 1u64, 2, 3, 3]?),
         to: Items::new(vec![in alloc; 4u64, 4, 4, 1]?),

@@ -21,6 +21,7 @@ pub fn shape_like(alloc: Global, shape: &Shape) -> Result<Shape, AllocError>
     Ok(Shape {
         nodes: Items::new(Vec::from_slice(alloc, shape.nodes.as_slice())?),
         edges: Items::new(Vec::from_slice(alloc, shape.edges.as_slice())?),
+        walks: shape.walks,
     })
 }
 

@@ -12,7 +12,7 @@ use Rattle.gm_semantics.specs.declared.slots.Write.{Write}
 use Rattle.gm_semantics.specs.Contributions.{Contribution, settled_store, total_faults}
 use Rattle.gm_semantics.specs.Expressions.{View, Answer, value}
 use Rattle.gm_semantics.specs.Faults.{least}
-use Rattle.gm_semantics.specs.Iterations.{Iteration, Mode, Outermost, AtEdge, as_it_is, begun, edge_of, failed, inner_done, one_way, turn_at, view_in, with_ok, wrote}
+use Rattle.gm_semantics.specs.Iterations.{Iteration, Mode, Outermost, AtEdge, as_it_is, begun, failed, inner_done, one_way, turn_at, view_in, with_ok, wrote}
 use Rattle.gm_semantics.specs.Stores.{Store, write}
 use Rattle.gm_store.specs.Held.{Held, Shape, HasSlot, shape_of, store_of}
 use Rattle.gm_store.proofs.Reversing.{Reversible-refl, Reversible-trans}
@@ -22,7 +22,8 @@ use Rattle.gm_totals.specs.Standing.{StandsFor, Within, Settles}
 use Rattle.gm_loops.specs.declared.around.Around.{Around}
 use Rattle.gm_loops.specs.declared.goings.Going.{Going}
 use Rattle.gm_loops.specs.declared.sights.Setting.{Setting}
-use Rattle.gm_loops.specs.Around.{loop_of}
+use Rattle.gm_loops.specs.declared.around.Mode as C
+use Rattle.gm_loops.specs.Around.{loop_of, mode_in, sight_of}
 use Rattle.gm_loops.specs.Goings.{Before, Does, Stands}
 use Rattle.gm_loops.specs.Parts.{sooner}
 use Rattle.gm_loops.specs.Scopes.{no_scope}
@@ -50,47 +51,47 @@ begins-by answer start a m key test iterator node s body same e =
     ∙ ap (λ (r : Answer). with_ok start r (λ v. one_way (is_true v) body as_it_is start)) e
 
 -- what a filter's value is in an iteration that has begun
-pub seen-by : (answer : Answer) (a : Around) (m : Mode) (key : Key) (test : P.Expr) (h : Held) (it : Iteration)
-    → answer ≡ value test (view_of (record { setting = a.setting; levels = a.levels; parallel = true; edge = edge_of m; key = key }) no_scope h)
-    → store_of (edges_in a.setting.now) h ≡ it.store → value test (view_in (loop_of a) m it key) ≡ answer
+pub seen-by : (answer : Answer) (a : Around) (m : C.Mode) (key : Key) (test : P.Expr) (h : Held) (it : Iteration)
+    → answer ≡ value test (view_of (sight_of a m key) no_scope h)
+    → store_of (edges_in a.setting.now) h ≡ it.store → value test (view_in (loop_of a) (mode_in a m) it key) ≡ answer
 seen-by answer a m key test h it e same = sym (e ∙ ap (λ (w : View). value test w) (view-same a m key h it same))
 
 -- the filter has a value
-pub begins-value : (a : Around) (m : Mode) (key : Key) (test : P.Expr) (iterator node : ℕ) (old mid : Going) (v : Value) (passed : Bool)
-    → Does a.setting.now m (unfaulted old) mid (in_iterator iterator node)
-    → Ok v ≡ value test (view_of (record { setting = a.setting; levels = a.levels; parallel = true; edge = edge_of m; key = key }) no_scope mid.store)
+pub begins-value : (a : Around) (m : C.Mode) (key : Key) (test : P.Expr) (iterator node : ℕ) (old mid : Going) (v : Value) (passed : Bool)
+    → Does a.setting.now (mode_in a m) (unfaulted old) mid (in_iterator iterator node)
+    → Ok v ≡ value test (view_of (sight_of a m key) no_scope mid.store)
     → passed ≡ is_true v
-    → Begins a.setting.now m old mid passed (λ body s. turn_at (loop_of a) m key test body iterator node s)
+    → Begins a.setting.now (mode_in a m) old mid passed (λ body s. turn_at (loop_of a) (mode_in a m) key test body iterator node s)
 begins-value a m key test iterator node old mid v passed written e same = record {
   ready = λ r. written.ready (record { fits = r.fits; inner = r.inner; outermost = r.outermost; deferred = r.deferred });
   back = written.back;
   stands = λ b h.
       let it : Iteration = in_iterator iterator node (begun (seen a.setting.now old)) in
-      let s : Stands (edges_in a.setting.now) m b mid it = written.stands b (begun (seen a.setting.now old)) (begun-stands a.setting.now m b old h) in (
+      let s : Stands (edges_in a.setting.now) (mode_in a m) b mid it = written.stands b (begun (seen a.setting.now old)) (begun-stands a.setting.now (mode_in a m) b old h) in (
         it,
         s,
         λ body.
-            begins-by (Ok v) it a m key test iterator node (seen a.setting.now old) body refl (seen-by (Ok v) a m key test mid.store it e s.store)
+            begins-by (Ok v) it a (mode_in a m) key test iterator node (seen a.setting.now old) body refl (seen-by (Ok v) a m key test mid.store it e s.store)
             ∙ ap (λ (p : Bool). one_way p body as_it_is it) (sym same),
       );
 }
 
 -- the filter faults
-pub begins-fault : (a : Around) (m : Mode) (key : Key) (test : P.Expr) (iterator node : ℕ) (old mid new : Going) (fault : Fault)
-    → Does a.setting.now m (unfaulted old) mid (in_iterator iterator node)
-    → Err fault ≡ value test (view_of (record { setting = a.setting; levels = a.levels; parallel = true; edge = edge_of m; key = key }) no_scope mid.store)
-    → Does a.setting.now m mid new (λ it. failed it fault)
-    → Begins a.setting.now m old new false (λ body s. turn_at (loop_of a) m key test body iterator node s)
+pub begins-fault : (a : Around) (m : C.Mode) (key : Key) (test : P.Expr) (iterator node : ℕ) (old mid new : Going) (fault : Fault)
+    → Does a.setting.now (mode_in a m) (unfaulted old) mid (in_iterator iterator node)
+    → Err fault ≡ value test (view_of (sight_of a m key) no_scope mid.store)
+    → Does a.setting.now (mode_in a m) mid new (λ it. failed it fault)
+    → Begins a.setting.now (mode_in a m) old new false (λ body s. turn_at (loop_of a) (mode_in a m) key test body iterator node s)
 begins-fault a m key test iterator node old mid new fault written e fails = record {
   ready = λ r. fails.ready (written.ready (record { fits = r.fits; inner = r.inner; outermost = r.outermost; deferred = r.deferred }));
   back = Reversible-trans old.store mid.store new.store written.back fails.back;
   stands = λ b h.
       let it : Iteration = in_iterator iterator node (begun (seen a.setting.now old)) in
-      let s : Stands (edges_in a.setting.now) m b mid it = written.stands b (begun (seen a.setting.now old)) (begun-stands a.setting.now m b old h) in (
+      let s : Stands (edges_in a.setting.now) (mode_in a m) b mid it = written.stands b (begun (seen a.setting.now old)) (begun-stands a.setting.now (mode_in a m) b old h) in (
         failed it fault,
         fails.stands b it s,
         λ body.
-            begins-by (Err fault) it a m key test iterator node (seen a.setting.now old) body refl (seen-by (Err fault) a m key test mid.store it e s.store),
+            begins-by (Err fault) it a (mode_in a m) key test iterator node (seen a.setting.now old) body refl (seen-by (Err fault) a m key test mid.store it e s.store),
       );
 }
 

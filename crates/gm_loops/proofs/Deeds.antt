@@ -14,7 +14,7 @@ use Rattle.gm_semantics.specs.declared.slots.Slot.{Slot}
 use Rattle.gm_semantics.specs.declared.slots.Slot.TheVariants.{Scalar, Node}
 use Rattle.gm_semantics.specs.declared.slots.Write.{Write}
 use Rattle.gm_semantics.specs.Expressions.{evaluated, plain, settled, value}
-use Rattle.gm_semantics.specs.Iterations.{Iteration, Loop, Mode, as_it_is, begun, does, edge_of, one_way, turn_at, view_in, with_ok}
+use Rattle.gm_semantics.specs.Iterations.{Iteration, Loop, Mode, as_it_is, begun, does, one_way, turn_at, view_in, with_ok}
 use Rattle.gm_semantics.specs.Loops.{left_at, own_left}
 use Rattle.gm_semantics.specs.Stores.{Store, overlaid, write}
 use Rattle.gm_store.specs.Held.{Held, Shape, HasSlot, scalar_of, store_of}
@@ -23,13 +23,14 @@ use Rattle.gm_loops.specs.declared.scopes.Scope.{Scope}
 use Rattle.gm_loops.specs.declared.sights.Sight.{Sight}
 use Rattle.gm_loops.specs.declared.shorts.Deed.{Deed}
 use Rattle.gm_loops.specs.declared.shorts.Deed.TheVariants.{Nothing, Writes, Gives}
-use Rattle.gm_loops.specs.Around.{loop_of}
+use Rattle.gm_loops.specs.declared.around.Mode as C
+use Rattle.gm_loops.specs.Around.{loop_of, mode_in, sight_of}
 use Rattle.gm_loops.specs.Own.{is_at}
 use Rattle.gm_loops.specs.Scopes.{inside, no_scope, scalar_in}
 use Rattle.gm_loops.specs.Sights.{edges_in, view_of}
 use Rattle.gm_loops.specs.Shorts.{after_deed, own_of, IsOwn, IsWithin}
 use Rattle.gm_loops.specs.Turns.{KeepsOwn}
-use Rattle.gm_loops.proofs.Effects.{inside-none}
+use Rattle.gm_loops.proofs.Effects.{inside-none, view-inside}
 use Rattle.gm_loops.proofs.Keeping.{all-push, left-before, left-other, left-own, overlaid-last, same-store}
 
 -- an iteration whose filter has a value
@@ -111,45 +112,46 @@ slots-deed shape own (Gives c) all within = subst (λ (ws : List Write). All (λ
 slots-deed shape own (Writes w) all within = all-push (λ (w : Write). HasSlot shape w.slot) own w all within
 
 -- what a filter has for its value inside a scope that holds the iterator
-filter-inside : (a : Around) (m : Mode) (key : Key) (test : Expr) (i n : ℕ) (h : Held) (scope : Scope) (v : Value) (sight : Sight)
+filter-inside : (a : Around) (m : C.Mode) (key : Key) (test : Expr) (i n : ℕ) (h : Held) (scope : Scope) (v : Value) (sight : Sight)
     → evaluated test (view_of sight scope h) ≡ plain (Ok v)
-    → sight ≡ record { setting = a.setting; levels = a.levels; parallel = true; edge = edge_of m; key = key }
+    → sight ≡ sight_of a m key
     → inside scope (store_of (edges_in a.setting.now) h) ≡ write (store_of (edges_in a.setting.now) h) (Scalar i) (At (Some n))
-    → value test (view_in (loop_of a) m (begun (write (store_of (edges_in a.setting.now) h) (Scalar i) (At (Some n)))) key) ≡ Ok v
+    → value test (view_in (loop_of a) (mode_in a m) (begun (write (store_of (edges_in a.setting.now) h) (Scalar i) (At (Some n)))) key) ≡ Ok v
 filter-inside a m key test i n h scope v sight found seen_by written =
-    ap (λ (s : Store). value test (view_in (loop_of a) m (begun s) key)) (sym written)
+    ap (λ (s : Store). value test (view_in (loop_of a) (mode_in a m) (begun s) key)) (sym written)
+    ∙ ap (value test) (sym (view-inside a m key scope h))
     ∙ ap (λ (g : Sight). value test (view_of g scope h)) (sym seen_by)
     ∙ ap settled found
 
 -- an iteration whose filter passes its node does what its body does
-pub deed-passed : (a : Around) (m : Mode) (key : Key) (test : Expr) (body : Stmt) (i n : ℕ) (h : Held) (scope : Scope) (v : Value) (sight : Sight) (found : Option Deed)
+pub deed-passed : (a : Around) (m : C.Mode) (key : Key) (test : Expr) (body : Stmt) (i n : ℕ) (h : Held) (scope : Scope) (v : Value) (sight : Sight) (found : Option Deed)
     → evaluated test (view_of sight scope h) ≡ plain (Ok v)
-    → sight ≡ record { setting = a.setting; levels = a.levels; parallel = true; edge = edge_of m; key = key }
+    → sight ≡ sight_of a m key
     → is_true v ≡ true
-    → IfSome found (λ deed. does body m (loop_of a) (begun (inside scope (store_of (edges_in a.setting.now) h))) ≡ after_deed deed (begun (inside scope (store_of (edges_in a.setting.now) h))))
+    → IfSome found (λ deed. does body (mode_in a m) (loop_of a) (begun (inside scope (store_of (edges_in a.setting.now) h))) ≡ after_deed deed (begun (inside scope (store_of (edges_in a.setting.now) h))))
     → scalar_in scope (scalar_of h) ≡ (λ y. if nat_eq i y then At (Some n) else scalar_in no_scope (scalar_of h) y)
-    → IfSome found (λ deed. turn_at (loop_of a) m key test (does body m (loop_of a)) i n (store_of (edges_in a.setting.now) h) ≡ after_deed deed (begun (write (store_of (edges_in a.setting.now) h) (Scalar i) (At (Some n)))))
+    → IfSome found (λ deed. turn_at (loop_of a) (mode_in a m) key test (does body (mode_in a m) (loop_of a)) i n (store_of (edges_in a.setting.now) h) ≡ after_deed deed (begun (write (store_of (edges_in a.setting.now) h) (Scalar i) (At (Some n)))))
 deed-passed a m key test body i n h scope v sight found sees seen_by holds done bound =
     let s : Store = store_of (edges_in a.setting.now) h in
     let written : inside scope s ≡ write s (Scalar i) (At (Some n)) =
     ap (λ (f : ℕ → Value). let t : Store = record { scalar = f; node = s.node; edge = s.edge } in t) bound ∙ ap (λ (t : Store). write t (Scalar i) (At (Some n))) (inside-none s) in
     let start : Iteration = begun (write s (Scalar i) (At (Some n))) in
-    let filtered : turn_at (loop_of a) m key test (does body m (loop_of a)) i n s ≡ does body m (loop_of a) start =
-    turn-filtered (loop_of a) m key test (does body m (loop_of a)) i n s v (filter-inside a m key test i n h scope v sight sees seen_by written)
-    ∙ ap (λ (b : Bool). one_way b (does body m (loop_of a)) as_it_is start) holds in
-    IfSome_then found done (λ deed e. filtered ∙ subst (λ (t : Store). does body m (loop_of a) (begun t) ≡ after_deed deed (begun t)) written e)
+    let filtered : turn_at (loop_of a) (mode_in a m) key test (does body (mode_in a m) (loop_of a)) i n s ≡ does body (mode_in a m) (loop_of a) start =
+    turn-filtered (loop_of a) (mode_in a m) key test (does body (mode_in a m) (loop_of a)) i n s v (filter-inside a m key test i n h scope v sight sees seen_by written)
+    ∙ ap (λ (b : Bool). one_way b (does body (mode_in a m) (loop_of a)) as_it_is start) holds in
+    IfSome_then found done (λ deed e. filtered ∙ subst (λ (t : Store). does body (mode_in a m) (loop_of a) (begun t) ≡ after_deed deed (begun t)) written e)
 
 -- an iteration whose filter does not pass its node does nothing
-pub deed-over : (a : Around) (m : Mode) (key : Key) (test : Expr) (body : Stmt) (i n : ℕ) (h : Held) (scope : Scope) (v : Value) (sight : Sight)
+pub deed-over : (a : Around) (m : C.Mode) (key : Key) (test : Expr) (body : Stmt) (i n : ℕ) (h : Held) (scope : Scope) (v : Value) (sight : Sight)
     → evaluated test (view_of sight scope h) ≡ plain (Ok v)
-    → sight ≡ record { setting = a.setting; levels = a.levels; parallel = true; edge = edge_of m; key = key }
+    → sight ≡ sight_of a m key
     → is_true v ≡ false
     → scalar_in scope (scalar_of h) ≡ (λ y. if nat_eq i y then At (Some n) else scalar_in no_scope (scalar_of h) y)
-    → turn_at (loop_of a) m key test (does body m (loop_of a)) i n (store_of (edges_in a.setting.now) h) ≡ begun (write (store_of (edges_in a.setting.now) h) (Scalar i) (At (Some n)))
+    → turn_at (loop_of a) (mode_in a m) key test (does body (mode_in a m) (loop_of a)) i n (store_of (edges_in a.setting.now) h) ≡ begun (write (store_of (edges_in a.setting.now) h) (Scalar i) (At (Some n)))
 deed-over a m key test body i n h scope v sight sees seen_by fails bound =
     let s : Store = store_of (edges_in a.setting.now) h in
     let written : inside scope s ≡ write s (Scalar i) (At (Some n)) =
     ap (λ (f : ℕ → Value). let t : Store = record { scalar = f; node = s.node; edge = s.edge } in t) bound ∙ ap (λ (t : Store). write t (Scalar i) (At (Some n))) (inside-none s) in
     let start : Iteration = begun (write s (Scalar i) (At (Some n))) in
-    turn-filtered (loop_of a) m key test (does body m (loop_of a)) i n s v (filter-inside a m key test i n h scope v sight sees seen_by written)
-    ∙ ap (λ (b : Bool). one_way b (does body m (loop_of a)) as_it_is start) fails
+    turn-filtered (loop_of a) (mode_in a m) key test (does body (mode_in a m) (loop_of a)) i n s v (filter-inside a m key test i n h scope v sight sees seen_by written)
+    ∙ ap (λ (b : Bool). one_way b (does body (mode_in a m) (loop_of a)) as_it_is start) fails

@@ -7,7 +7,8 @@ use Rattle.gm_semantics.specs.Contributions.{Contribution}
 use Rattle.gm_semantics.specs.declared.faults.Fault.{Fault}
 use Rattle.gm_semantics.specs.declared.slots.Write.{Write}
 use Rattle.gm_semantics.specs.Stores.{Store, write}
-use Rattle.gm_model.specs.Graphs.{node_count}
+use Rattle.gm_model.specs.Graphs.{NumberedGraph, node_count}
+use Rattle.gm_graph.specs.Walks.{edge_at}
 use Rattle.gm_ast.specs.declared.tree.Key.{Key}
 use Rattle.gm_value.specs.declared.values.Value.{Value}
 use Rattle.gm_value.specs.declared.values.Value.TheVariants.{At}
@@ -17,7 +18,7 @@ use Rattle.gm_ast.specs.declared.tree.Target.{Target}
 use Rattle.gm_ast.specs.declared.tree.Target.TheVariants as T
 use Rattle.gm_semantics.specs.Faults.{then_with}
 use Rattle.gm_semantics.specs.Expressions.{View, Answer}
-use Rattle.gm_semantics.specs.Iterations.{Ends, AtOnce, later, alone, wrote_all, Loop, WithInner, WithOutermost, scalar_ends, own_ends, ends_of, with_ok, edge_of, view_in, Iteration, Mode, Outermost, AtEdge, failed, wrote, gave_inner, gave_outermost}
+use Rattle.gm_semantics.specs.Iterations.{Ends, AtOnce, later, alone, wrote_all, Loop, WithInner, WithOutermost, scalar_ends, own_ends, ends_of, with_ok, edge_of, view_in, Iteration, begun, Mode, Outermost, AtEdge, failed, wrote, gave_inner, gave_outermost}
 use Rattle.gm_store.specs.Held.{Held, Shape, HasSlot, Reversible, shape_of, store_of}
 use Rattle.gm_store.specs.Laws.{IsLogged}
 use Rattle.gm_totals.specs.declared.totals.Totals.{Totals}
@@ -27,7 +28,9 @@ use Rattle.gm_loops.specs.declared.sights.Setting.{Setting}
 use Rattle.gm_loops.specs.declared.around.Around.{Around}
 use Rattle.gm_loops.specs.declared.scopes.Scope as S
 use Rattle.gm_loops.specs.declared.scopes.Scope.{the_lemmas as scope_lemmas}
-use Rattle.gm_loops.specs.Around.{loop_of}
+use Rattle.gm_loops.specs.declared.around.Mode as C
+use Rattle.gm_loops.specs.declared.around.Mode.TheVariants as modes
+use Rattle.gm_loops.specs.Around.{loop_of, mode_in, mode_of, row_of, sight_of}
 use Rattle.gm_loops.specs.Scopes.{inside, no_scope, scalar_in}
 use Rattle.gm_loops.specs.Sights.{Fits, edges_in, level_in, view_of}
 use Rattle.gm_loops.specs.Targets.{room}
@@ -128,18 +131,29 @@ inside-none s = search (rules, scope_lemmas)
 pub scalar-bound : (i n : ℕ) (o : Bor S.Scope) (f : ℕ → Value) (y : ℕ) → scalar_in (S.Bound i n o) f y ≡ (if nat_eq i y then At (Some n) else scalar_in o.now f y)
 scalar-bound i n o f y = search (rules, scope_lemmas)
 
--- what a statement of a body sees is what the code's sight shows
-pub view-same : (a : Around) (m : Mode) (key : Key) (h : Held) (it : Iteration) → store_of (edges_in a.setting.now) h ≡ it.store
-    → view_of (record { setting = a.setting; levels = a.levels; parallel = true; edge = edge_of m; key = key }) no_scope h ≡ view_in (loop_of a) m it key
-view-same a m key h it e =
-    ap (λ (s : Store). let v : View = record {
+-- the edge of the row that a body sees is that at which it stands
+row-seen : (g : NumberedGraph) (m : C.Mode) → edge_at g (row_of m) ≡ edge_of (mode_of g m)
+row-seen g modes.Outermost = refl
+row-seen g (modes.AtEdge row) = refl
+
+-- what a statement of a body sees in a scope is what the code's sight shows
+pub view-inside : (a : Around) (m : C.Mode) (key : Key) (scope : S.Scope) (h : Held)
+    → view_of (sight_of a m key) scope h ≡ view_in (loop_of a) (mode_in a m) (begun (inside scope (store_of (edges_in a.setting.now) h))) key
+view-inside a m key scope h =
+    ap (λ (edge : ℕ). let v : View = record {
       graph = a.setting.now.graph.now;
       levels = level_in (option_map (λ l. l.now) a.levels);
       parallel = true;
-      store = s;
-      edge = edge_of m;
+      store = inside scope (store_of (edges_in a.setting.now) h);
+      edge = edge;
       key = key;
-    } in v) (inside-none (store_of (edges_in a.setting.now) h) ∙ e)
+    } in v) (row-seen a.setting.now.graph.now m)
+
+-- the same in no scope
+pub view-same : (a : Around) (m : C.Mode) (key : Key) (h : Held) (it : Iteration) → store_of (edges_in a.setting.now) h ≡ it.store
+    → view_of (sight_of a m key) no_scope h ≡ view_in (loop_of a) (mode_in a m) it key
+view-same a m key h it e =
+    view-inside a m key no_scope h ∙ ap (λ (s : Store). view_in (loop_of a) (mode_in a m) (begun s) key) (inside-none (store_of (edges_in a.setting.now) h) ∙ e)
 
 -- the same, by another name
 pub does-as : (f : Setting) (m : Mode) (old new : Going) (next other : Iteration → Iteration) → Does f m old new next

@@ -18,10 +18,11 @@ use Rattle.gm_ast.specs.Tree.{stmt_of}
 use Rattle.gm_ast.specs.Program as P
 use Rattle.gm_semantics.specs.declared.faults.Fault.{Fault}
 use Rattle.gm_semantics.specs.Expressions.{Answer, value}
-use Rattle.gm_semantics.specs.Iterations.{Iteration, Loop, Mode, does, edge_of, failed, one_way, with_ok}
+use Rattle.gm_semantics.specs.Iterations.{Iteration, Loop, does, failed, one_way, with_ok}
 use Rattle.gm_store.specs.Held.{Held, store_of}
 use Rattle.gm_loops.specs.declared.around.Around.{Around}
-use Rattle.gm_loops.specs.Around.{loop_of}
+use Rattle.gm_loops.specs.declared.around.Mode as C
+use Rattle.gm_loops.specs.Around.{loop_of, mode_in, sight_of}
 use Rattle.gm_loops.specs.Targets.{AreSeveral}
 use Rattle.gm_loops.specs.Bounds.{bound_of, target_bound, targets_bound}
 use Rattle.gm_loops.specs.Scopes.{no_scope}
@@ -49,28 +50,28 @@ drop-end [] (suc i) h = refl
 drop-end (x ∷ xs) zero h = absurd (omega arith)
 drop-end (x ∷ xs) (suc i) h = drop-end xs i (omega arith)
 
-by-test : (answer : Answer) (a : Around) (m : Mode) (key : Key) (test : P.Expr) (first other : P.Stmt) (h : Held) (it : Iteration)
-    → answer ≡ value test (view_of (record { setting = a.setting; levels = a.levels; parallel = true; edge = edge_of m; key = key }) no_scope h)
+by-test : (answer : Answer) (a : Around) (m : C.Mode) (key : Key) (test : P.Expr) (first other : P.Stmt) (h : Held) (it : Iteration)
+    → answer ≡ value test (view_of (sight_of a m key) no_scope h)
     → store_of (edges_in a.setting.now) h ≡ it.store
-    → does (P.If key test first other) m (loop_of a) it ≡ with_ok it answer (λ v. one_way (is_true v) (does first m (loop_of a)) (does other m (loop_of a)) it)
+    → does (P.If key test first other) (mode_in a m) (loop_of a) it ≡ with_ok it answer (λ v. one_way (is_true v) (does first (mode_in a m) (loop_of a)) (does other (mode_in a m) (loop_of a)) it)
 by-test answer a m key test first other h it e same =
-    ap (λ (r : Answer). with_ok it r (λ v. one_way (is_true v) (does first m (loop_of a)) (does other m (loop_of a)) it)) (seen-by answer a m key test h it e same)
+    ap (λ (r : Answer). with_ok it r (λ v. one_way (is_true v) (does first (mode_in a m) (loop_of a)) (does other (mode_in a m) (loop_of a)) it)) (seen-by answer a m key test h it e same)
 
-pub if-yes : (a : Around) (m : Mode) (key : Key) (test : P.Expr) (first other : P.Stmt) (h : Held) (v : Value) (it : Iteration)
-    → Ok v ≡ value test (view_of (record { setting = a.setting; levels = a.levels; parallel = true; edge = edge_of m; key = key }) no_scope h)
-    → is_true v ≡ true → store_of (edges_in a.setting.now) h ≡ it.store → does first m (loop_of a) it ≡ does (P.If key test first other) m (loop_of a) it
+pub if-yes : (a : Around) (m : C.Mode) (key : Key) (test : P.Expr) (first other : P.Stmt) (h : Held) (v : Value) (it : Iteration)
+    → Ok v ≡ value test (view_of (sight_of a m key) no_scope h)
+    → is_true v ≡ true → store_of (edges_in a.setting.now) h ≡ it.store → does first (mode_in a m) (loop_of a) it ≡ does (P.If key test first other) (mode_in a m) (loop_of a) it
 if-yes a m key test first other h v it e t same =
-    sym (by-test (Ok v) a m key test first other h it e same ∙ ap (λ (p : Bool). one_way p (does first m (loop_of a)) (does other m (loop_of a)) it) t)
+    sym (by-test (Ok v) a m key test first other h it e same ∙ ap (λ (p : Bool). one_way p (does first (mode_in a m) (loop_of a)) (does other (mode_in a m) (loop_of a)) it) t)
 
-pub if-no : (a : Around) (m : Mode) (key : Key) (test : P.Expr) (first other : P.Stmt) (h : Held) (v : Value) (it : Iteration)
-    → Ok v ≡ value test (view_of (record { setting = a.setting; levels = a.levels; parallel = true; edge = edge_of m; key = key }) no_scope h)
-    → is_true v ≡ false → store_of (edges_in a.setting.now) h ≡ it.store → does other m (loop_of a) it ≡ does (P.If key test first other) m (loop_of a) it
+pub if-no : (a : Around) (m : C.Mode) (key : Key) (test : P.Expr) (first other : P.Stmt) (h : Held) (v : Value) (it : Iteration)
+    → Ok v ≡ value test (view_of (sight_of a m key) no_scope h)
+    → is_true v ≡ false → store_of (edges_in a.setting.now) h ≡ it.store → does other (mode_in a m) (loop_of a) it ≡ does (P.If key test first other) (mode_in a m) (loop_of a) it
 if-no a m key test first other h v it e t same =
-    sym (by-test (Ok v) a m key test first other h it e same ∙ ap (λ (p : Bool). one_way p (does first m (loop_of a)) (does other m (loop_of a)) it) t)
+    sym (by-test (Ok v) a m key test first other h it e same ∙ ap (λ (p : Bool). one_way p (does first (mode_in a m) (loop_of a)) (does other (mode_in a m) (loop_of a)) it) t)
 
-pub if-fault : (a : Around) (m : Mode) (key : Key) (test : P.Expr) (first other : P.Stmt) (h : Held) (fault : Fault) (it : Iteration)
-    → Err fault ≡ value test (view_of (record { setting = a.setting; levels = a.levels; parallel = true; edge = edge_of m; key = key }) no_scope h)
-    → store_of (edges_in a.setting.now) h ≡ it.store → failed it fault ≡ does (P.If key test first other) m (loop_of a) it
+pub if-fault : (a : Around) (m : C.Mode) (key : Key) (test : P.Expr) (first other : P.Stmt) (h : Held) (fault : Fault) (it : Iteration)
+    → Err fault ≡ value test (view_of (sight_of a m key) no_scope h)
+    → store_of (edges_in a.setting.now) h ≡ it.store → failed it fault ≡ does (P.If key test first other) (mode_in a m) (loop_of a) it
 if-fault a m key test first other h fault it e same = sym (by-test (Err fault) a m key test first other h it e same)
 
 -- one element is the whole list

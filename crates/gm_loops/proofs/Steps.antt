@@ -1,6 +1,10 @@
 -- The nodes by their numbers, and steps one by one.
 use Rattle.std.proofs.Common.{◌≡◌, ◌∙◌, ◌<◌, ◌+◌, ℕ, zero, suc, true, false, List, [], ◌∷◌, length, map, drop, slice_get, Some, Option, refl, ap, sym, arith}
+use Rattle.std.specs.Prelude.{slice_index_or, unwrap_or}
 use Rattle.std.proofs.lemmas.List.{length-map}
+use Rattle.std.proofs.lemmas.Option.{unwrap_or-slice_get}
+use Rattle.gm_value.specs.declared.values.Value.{Value}
+use Rattle.gm_columns.specs.Columns.{cell_at}
 use Rattle.gm_model.specs.Graphs.{NumberedGraph, Step, nodes_of, edges_of, node_count}
 use Rattle.gm_semantics.specs.Levels.{numbers_from, nodes, node_steps}
 use Rattle.gm_loops.specs.declared.ranges.Course.{Course}
@@ -54,3 +58,9 @@ pub left-step : (levels : ℕ → Option ℕ) (c : Course) (s : Step) (steps : L
 left-step levels Any s steps e = cc
 left-step levels (Above level) s steps e = rw e refl
 left-step levels (Below level) s steps e = rw e refl
+
+-- the value of a cell, or another where there is none, is that of the cell's list of values
+pub cell-or : (columns : List (List Value)) (column row : ℕ) (d : Value) → unwrap_or (cell_at columns column row) d ≡ slice_index_or (slice_index_or columns column []) row d
+cell-or [] column row d = refl
+cell-or (values ∷ columns) zero row d = unwrap_or-slice_get values row d
+cell-or (values ∷ columns) (suc column) row d = cell-or columns column row d

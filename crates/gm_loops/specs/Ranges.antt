@@ -1,6 +1,7 @@
 -- The steps of a loop or a reduction, as the code goes over them.
 use Rattle.std.specs.Prelude.{◌<◌, ℕ, ⊤, Bool, true, List, [], ◌∷◌, filter, drop, Option, Some, None, option_map}
 use Rattle.gm_model.specs.Graphs.{NumberedGraph, Step, out_steps, in_steps}
+use Rattle.gm_graph.specs.Walks.{edge_at}
 use Rattle.gm_semantics.specs.Levels.{node_steps, is_next}
 use Rattle.gm_loops.specs.declared.ranges.Edges.{Edges}
 use Rattle.gm_loops.specs.declared.ranges.Edges.TheVariants.{NoStep, AllNodes, From, To}
@@ -11,8 +12,8 @@ use Rattle.gm_loops.specs.declared.ranges.Hop.{Hop}
 use Rattle.gm_loops.specs.Sights.{level_in}
 
 -- a step
-abbrev pub step_of : Hop → Step
-step_of hop = record { node = hop.node; edge = hop.edge }
+abbrev pub step_of : NumberedGraph → Hop → Step
+step_of g hop = record { node = hop.node; edge = edge_at g hop.row }
 
 -- the steps along some edges
 abbrev pub steps_along : NumberedGraph → Edges → List Step
@@ -52,6 +53,6 @@ abbrev pub steps_at : Range → ℕ → List Step
 steps_at r k = taken_by (levels_by r) r.course (drop k (all_steps r))
 
 -- a step, if it is taken, before others
-abbrev pub with_hop : Option Hop → List Step → List Step
-with_hop None steps = steps
-with_hop (Some hop) steps = step_of hop ∷ steps
+abbrev pub with_hop : NumberedGraph → Option Hop → List Step → List Step
+with_hop g None steps = steps
+with_hop g (Some hop) steps = step_of g hop ∷ steps

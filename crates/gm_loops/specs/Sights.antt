@@ -3,6 +3,7 @@ use Rattle.std.specs.Prelude.{◌≡◌, ◌<◌, ℕ, ⊤, All, pos, List, [], 
 use Rattle.gm_value.specs.declared.values.Value.{Value}
 use Rattle.gm_value.specs.declared.values.Value.TheVariants.{I32}
 use Rattle.gm_model.specs.Graphs.{NumberedGraph, node_count}
+use Rattle.gm_graph.specs.Walks.{edge_at}
 use Rattle.gm_levels.specs.Views.{NodeLevels}
 use Rattle.gm_semantics.specs.Expressions.{View}
 use Rattle.gm_store.specs.Held.{Held, store_of}
@@ -45,7 +46,7 @@ view_of s scope h = record {
   levels = levels_of s;
   parallel = s.parallel;
   store = inside scope (store_of (edges_in s.setting.now) h);
-  edge = s.edge;
+  edge = edge_at s.setting.now.graph.now s.row;
   key = s.key;
 }
 

@@ -1,13 +1,14 @@
 //! What stays the same over an outermost loop.
 
-ghost use Rattle.std.specs.Prelude.{◌≡◌, true, map};
+ghost use Rattle.std.specs.Prelude.{◌≡◌, map};
 ghost use Rattle.std.specs.List.{list_any};
 ghost use Rattle.gm_ast.specs.Program.{sequence};
 ghost use Rattle.gm_ast.specs.Tree.{stmt_of};
-ghost use Rattle.gm_semantics.specs.Iterations.{ends_of, ends_of_all, later, edge_of, own_ends, scalar_ends};
+ghost use Rattle.gm_model.specs.Graphs.{NumberedGraph};
+ghost use Rattle.gm_semantics.specs.Iterations.{ends_of, ends_of_all, later, own_ends, scalar_ends};
 ghost use Rattle.gm_semantics.specs.Loops.{is_elsewhere, pushes};
 ghost use Rattle.gm_semantics.specs.Statements.{variable_at};
-ghost use Rattle.gm_loops.specs.Around.{body_of, ends_as, loop_of, mode_of};
+ghost use Rattle.gm_loops.specs.Around.{body_of, ends_as, loop_of, mode_in, mode_of, row_of, sight_of};
 
 use crate::sights::{Setting, Sight};
 use crate::targets::is_elsewhere;
@@ -23,11 +24,11 @@ pub(crate) enum Ends {
     WithOutermost,
 }
 
-// Where a body stands: it is an outer body, or an inner one at an edge.
+// Where a body stands: it is an outer body, or an inner one at an edge, by its row.
 #[derive(Clone, Copy)]
 pub(crate) enum Mode {
     Outermost,
-    AtEdge(u32),
+    AtEdge(Option<u32>),
 }
 
 /// The body of an outermost loop: a statement, or the assignment of a group.
@@ -68,20 +69,20 @@ impl Setting<'_> {
 }
 
 impl Mode {
-    // The edge that a body sees.
+    // The row of the edge that a body sees.
     #[inline(always)]
-    pub fn edge(self) -> u32
-        ensures { result ≡ edge_of (mode_of self) }
+    pub fn row(self) -> Option<u32>
+        ensures { result ≡ row_of self }
     {
         match self {
-            Mode::Outermost => 0,
-            Mode::AtEdge(edge) => edge,
+            Mode::Outermost => None,
+            Mode::AtEdge(row) => row,
         }
     }
 
     // When a reduction to a scalar ends, by the loops around the scalar's declaration.
     fn scalar_ends(self, depth: u32) -> Ends
-        ensures { ends_as result ≡ scalar_ends (mode_of self) depth }
+        ensures { (g : NumberedGraph) → ends_as result ≡ scalar_ends (mode_of g self) depth }
     {
         match self {
             Mode::Outermost => {
@@ -166,20 +167,20 @@ impl<'a> Around<'a> {
     // What the operators of a statement see.
     #[inline(always)]
     pub(crate) fn sight(&self, mode: Mode, key: Key) -> Sight<'a>
-        ensures { result ≡ record { setting = self.now.setting; levels = self.now.levels; parallel = true; edge = edge_of (mode_of mode); key = key } }
+        ensures { result ≡ sight_of self.now mode key }
     {
         Sight {
             setting: self.setting,
             levels: self.levels,
             parallel: true,
-            edge: mode.edge(),
+            row: mode.row(),
             key,
         }
     }
 
     // When a reduction to a property of the outer iterator ends.
     fn own_ends(&self, mode: Mode, property: u32) -> Ends
-        ensures { ends_as result ≡ own_ends (mode_of mode) ((loop_of self.now).pushed property) }
+        ensures { ends_as result ≡ own_ends (mode_in self.now mode) ((loop_of self.now).pushed property) }
     {
         match mode {
             Mode::Outermost => Ends::AtOnce,
@@ -195,7 +196,7 @@ impl<'a> Around<'a> {
 
     // When a reduction to a target ends.
     pub(crate) fn ends_of(&self, mode: Mode, target: &Target) -> Ends
-        ensures { ends_as result ≡ ends_of (mode_of mode) (loop_of self.now) target.now }
+        ensures { ends_as result ≡ ends_of (mode_in self.now mode) (loop_of self.now) target.now }
     {
         match *target {
             Target::Scalar { variable, .. } => {
@@ -217,7 +218,7 @@ impl<'a> Around<'a> {
 
     // When a reduction to targets ends: as late as the latest of them would.
     pub(crate) fn ends_of_all(&self, mode: Mode, targets: &[Target]) -> Ends
-        ensures { ends_as result ≡ ends_of_all (mode_of mode) (loop_of self.now) targets.now }
+        ensures { ends_as result ≡ ends_of_all (mode_in self.now mode) (loop_of self.now) targets.now }
     {
         let mut ends = Ends::AtOnce;
         let mut k = targets.len();

@@ -8,7 +8,7 @@ ghost use Rattle.gm_ast.specs.Tree.{expr_of, stmt_of};
 ghost use Rattle.gm_semantics.specs.Expressions.{steps_in};
 ghost use Rattle.gm_semantics.specs.Iterations as iterations;
 ghost use Rattle.gm_semantics.specs.Iterations.{does, view_in, begun};
-ghost use Rattle.gm_loops.specs.Around.{loop_of, mode_of};
+ghost use Rattle.gm_loops.specs.Around.{loop_of, mode_in};
 ghost use Rattle.gm_loops.specs.Bounds.{bound_of};
 ghost use Rattle.gm_loops.specs.Goings.{Does, IsReady};
 ghost use Rattle.gm_loops.specs.Ranges.{step_of};
@@ -30,7 +30,7 @@ impl Going {
     fn does_all(&mut self, stmts: &Vec<Stmt>, mode: Mode, around: &Around) -> Result<(), NoMemory>
         requires ready { IsReady around.now.setting.now self.old }
         requires bound { bound_of (program.sequence (map stmt_of stmts.now.items)) ≤ around.now.setting.now.variables }
-        ensures { OnOk result (Does around.now.setting.now (mode_of mode) self.old self.new (does (program.sequence (map stmt_of stmts.now.items)) (mode_of mode) (loop_of around.now))) }
+        ensures { OnOk result (Does around.now.setting.now (mode_in around.now mode) self.old self.new (does (program.sequence (map stmt_of stmts.now.items)) (mode_in around.now mode) (loop_of around.now))) }
     {
         for stmt in stmts {
             self.does(stmt, mode, around)?;
@@ -47,7 +47,7 @@ impl Going {
     pub(crate) fn does(&mut self, s: &Stmt, mode: Mode, around: &Around) -> Result<(), NoMemory>
         requires ready { IsReady around.now.setting.now self.old }
         requires bound { bound_of (stmt_of s.now) ≤ around.now.setting.now.variables }
-        ensures { OnOk result (Does around.now.setting.now (mode_of mode) self.old self.new (does (stmt_of s.now) (mode_of mode) (loop_of around.now))) }
+        ensures { OnOk result (Does around.now.setting.now (mode_in around.now mode) self.old self.new (does (stmt_of s.now) (mode_in around.now mode) (loop_of around.now))) }
     {
         match s {
             Stmt::Block(stmts) => self.does_all(stmts, mode, around)?,
@@ -172,7 +172,7 @@ impl Going {
         requires iterator { iterator < around.now.setting.now.variables }
         requires bound { bound_of (stmt_of body.now) ≤ around.now.setting.now.variables }
         ensures { OnOk result (DoesTurns around.now.setting.now (iterations.AtEdge 0) self.old self.new self.new.fault
-            (λ s. inner_turn (loop_of around.now) key (expr_of filter.now) (stmt_of body.now) iterator (step_of hop) s ∷ [])) }
+            (λ s. inner_turn (loop_of around.now) key (expr_of filter.now) (stmt_of body.now) iterator (step_of around.now.setting.now.graph.now hop) s ∷ [])) }
     {
         match self.deed_at(
             key,
@@ -180,7 +180,7 @@ impl Going {
             Body::Statement(body),
             filter,
             hop.node,
-            Mode::AtEdge(hop.edge),
+            Mode::AtEdge(hop.row),
             around,
         ) {
             Some(deed) => self.take(deed)?,
@@ -204,10 +204,10 @@ impl Going {
         requires iterator { iterator < around.now.setting.now.variables }
         requires bound { bound_of (stmt_of body.now) ≤ around.now.setting.now.variables }
         ensures { OnOk result (DoesTurns around.now.setting.now (iterations.AtEdge 0) self.old self.new self.new.fault
-            (λ s. inner_turn (loop_of around.now) key (expr_of filter.now) (stmt_of body.now) iterator (step_of hop) s ∷ [])) }
+            (λ s. inner_turn (loop_of around.now) key (expr_of filter.now) (stmt_of body.now) iterator (step_of around.now.setting.now.graph.now hop) s ∷ [])) }
     {
         let mark = self.store.mark();
-        let mode = Mode::AtEdge(hop.edge);
+        let mode = Mode::AtEdge(hop.row);
         if self.begins(key, iterator, filter, hop.node, mode, around)? {
             self.does(body, mode, around)?;
         }

@@ -8,7 +8,7 @@ ghost use Rattle.gm_semantics.specs.declared.slots.Slot.TheVariants.{Scalar};
 ghost use Rattle.gm_semantics.specs.Faults.{then_with};
 ghost use Rattle.gm_semantics.specs.Iterations as iterations;
 ghost use Rattle.gm_semantics.specs.Iterations.{does};
-ghost use Rattle.gm_loops.specs.Around.{loop_of, mode_of};
+ghost use Rattle.gm_loops.specs.Around.{loop_of, mode_in};
 ghost use Rattle.gm_loops.specs.Bounds.{target_bound, targets_bound};
 ghost use Rattle.gm_loops.specs.Goings.{Does, IsReady};
 ghost use Rattle.gm_loops.specs.Targets.{pair_of, AreSeveral};
@@ -34,7 +34,7 @@ impl Going {
     ) -> Result<(), NoMemory>
         requires ready { IsReady around.now.setting.now self.old }
         requires bound { target_bound target.now ≤ around.now.setting.now.variables }
-        ensures { OnOk result (Does around.now.setting.now (mode_of mode) self.old self.new (does (program.Assign key target.now (expr_of value.now)) (mode_of mode) (loop_of around.now))) }
+        ensures { OnOk result (Does around.now.setting.now (mode_in around.now mode) self.old self.new (does (program.Assign key target.now (expr_of value.now)) (mode_in around.now mode) (loop_of around.now))) }
     {
         let answer = around.sight(mode, key).assigned(&self.store, target, value);
         self.put(answer)?;
@@ -66,7 +66,7 @@ impl Going {
     ) -> Result<(), NoMemory>
         requires ready { IsReady around.now.setting.now self.old }
         requires bound { x < around.now.setting.now.variables }
-        ensures { OnOk result (Does around.now.setting.now (mode_of mode) self.old self.new (does (program.Declare key x (Some (expr_of value.now))) (mode_of mode) (loop_of around.now))) }
+        ensures { OnOk result (Does around.now.setting.now (mode_in around.now mode) self.old self.new (does (program.Declare key x (Some (expr_of value.now))) (mode_in around.now mode) (loop_of around.now))) }
     {
         let answer = around.sight(mode, key).value(value, &self.store);
         self.put(for_scalar(x, answer))?;
@@ -84,7 +84,7 @@ impl Going {
     ) -> Result<(), NoMemory>
         requires ready { IsReady around.now.setting.now self.old }
         requires bound { x < around.now.setting.now.variables }
-        ensures { OnOk result (Does around.now.setting.now (mode_of mode) self.old self.new (does (program.Declare key x (option_map expr_of value.now)) (mode_of mode) (loop_of around.now))) }
+        ensures { OnOk result (Does around.now.setting.now (mode_in around.now mode) self.old self.new (does (program.Declare key x (option_map expr_of value.now)) (mode_in around.now mode) (loop_of around.now))) }
     {
         match value {
             None => self.declare_first(x, around)?,
@@ -125,7 +125,7 @@ impl Going {
     ) -> Result<(), NoMemory>
         requires ready { IsReady around.now.setting.now self.old }
         requires bound { target_bound target.now ≤ around.now.setting.now.variables }
-        ensures { OnOk result (Does around.now.setting.now (mode_of mode) self.old self.new (does (program.Combine key total reduce (target.now ∷ []) (expr_of value.now ∷ [])) (mode_of mode) (loop_of around.now))) }
+        ensures { OnOk result (Does around.now.setting.now (mode_in around.now mode) self.old self.new (does (program.Combine key total reduce (target.now ∷ []) (expr_of value.now ∷ [])) (mode_in around.now mode) (loop_of around.now))) }
     {
         let sight = around.sight(mode, key);
         match (around.ends_of(mode, target), mode) {
@@ -160,7 +160,7 @@ impl Going {
         requires ready { IsReady around.now.setting.now self.old }
         requires bound { targets_bound targets.now ≤ around.now.setting.now.variables }
         requires several { AreSeveral targets.now values.now }
-        ensures { OnOk result (Does around.now.setting.now (mode_of mode) self.old self.new (does (program.Combine key total reduce targets.now (map expr_of values.now)) (mode_of mode) (loop_of around.now))) }
+        ensures { OnOk result (Does around.now.setting.now (mode_in around.now mode) self.old self.new (does (program.Combine key total reduce targets.now (map expr_of values.now)) (mode_in around.now mode) (loop_of around.now))) }
     {
         let sight = around.sight(mode, key);
         match (around.ends_of_all(mode, targets), mode) {
@@ -202,7 +202,7 @@ impl Going {
     ) -> Result<(), NoMemory>
         requires ready { IsReady around.now.setting.now self.old }
         requires bound { targets_bound targets.now ≤ around.now.setting.now.variables }
-        ensures { OnOk result (Does around.now.setting.now (mode_of mode) self.old self.new (does (program.Combine key total reduce targets.now (map expr_of values.now)) (mode_of mode) (loop_of around.now))) }
+        ensures { OnOk result (Does around.now.setting.now (mode_in around.now mode) self.old self.new (does (program.Combine key total reduce targets.now (map expr_of values.now)) (mode_in around.now mode) (loop_of around.now))) }
     {
         if targets.len() == 1 && values.len() == 1 {
             self.reduce(key, total, reduce, &targets[0], &values[0], mode, around)?;

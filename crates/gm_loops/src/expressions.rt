@@ -34,7 +34,7 @@ impl Sight<'_> {
                 self.property(scope, store, *owner, *property, *place),
             ),
             Expr::EdgeProperty { property, .. } => {
-                Evaluated::plain(Ok(self.setting.edge_property(*property, self.edge)))
+                Evaluated::plain(Ok(self.setting.edge_property(*property, self.row)))
             }
             Expr::Degree {
                 direction,

@@ -95,7 +95,7 @@ impl Sight<'_> {
                 Some(self.setting.property(store, *property, node))
             }
             Expr::EdgeProperty { property, .. } => {
-                Some(self.setting.edge_property(*property, self.edge))
+                Some(self.setting.edge_property(*property, self.row))
             }
             Expr::Degree {
                 direction,

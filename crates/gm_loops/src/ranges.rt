@@ -33,11 +33,11 @@ pub(crate) enum Course {
     Below(Option<u32>),
 }
 
-// A node, and the edge that leads to it.
+// A node, and the row of the edge that leads to it, if one does.
 #[derive(Clone, Copy)]
 pub(crate) struct Hop {
     pub node: u32,
-    pub edge: u32,
+    pub row: Option<u32>,
 }
 
 // The steps of a loop or a reduction.
@@ -69,19 +69,19 @@ impl Range<'_> {
     fn hop(&self, k: u32) -> Hop
         requires start { HasStart (node_count self.now.graph.now) self.now.edges }
         requires within { k < length (all_steps self.now) }
-        ensures step { slice_get (all_steps self.now) k ≡ Some (step_of result) }
+        ensures step { slice_get (all_steps self.now) k ≡ Some (step_of self.now.graph.now result) }
         ensures known { result.node < node_count self.now.graph.now }
     {
         match self.edges {
             Edges::NoStep => unreachable!(),
-            Edges::AllNodes => Hop { node: k, edge: 0 },
+            Edges::AllNodes => Hop { node: k, row: None },
             Edges::From(node) => Hop {
                 node: self.graph.out_target(node, k),
-                edge: self.graph.out_edge(node, k),
+                row: Some(self.graph.out_row(node, k)),
             },
             Edges::To(node) => Hop {
                 node: self.graph.in_source(node, k),
-                edge: self.graph.in_edge(node, k),
+                row: Some(self.graph.in_row(node, k)),
             },
         }
     }
@@ -113,7 +113,7 @@ impl Range<'_> {
     pub fn at(&self, k: u32) -> Option<Hop>
         requires start { HasStart (node_count self.now.graph.now) self.now.edges }
         requires within { k < length (all_steps self.now) }
-        ensures step { steps_at self.now k ≡ with_hop result (steps_at self.now (k + 1)) }
+        ensures step { steps_at self.now k ≡ with_hop self.now.graph.now result (steps_at self.now (k + 1)) }
         ensures known { IfSome result (λ hop. hop.node < node_count self.now.graph.now) }
     {
         let hop = self.hop(k);
@@ -127,7 +127,7 @@ impl Range<'_> {
     // All steps in their order, in place of what a list had.
     pub fn gather(&self, hops: &mut Vec<Hop>) -> Result<(), NoMemory>
         requires { HasStart (node_count self.now.graph.now) self.now.edges }
-        ensures { OnOk result (map step_of hops.new.items ≡ steps_at self.now 0) }
+        ensures { OnOk result (map (step_of self.now.graph.now) hops.new.items ≡ steps_at self.now 0) }
     {
         let count = self.count();
         hops.clear();

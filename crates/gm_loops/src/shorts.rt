@@ -10,7 +10,7 @@ ghost use Rattle.gm_semantics.specs.Iterations as iterations;
 ghost use Rattle.gm_semantics.specs.Iterations.{Iteration, Loop, begun, does, turn_at};
 ghost use Rattle.gm_store.specs.Held.{shape_of, store_of, HasSlot};
 ghost use Rattle.gm_loops.specs.declared.sights.Setting.{Setting};
-ghost use Rattle.gm_loops.specs.Around.{body_of, loop_of, mode_of};
+ghost use Rattle.gm_loops.specs.Around.{body_of, loop_of, mode_in};
 ghost use Rattle.gm_loops.specs.Bounds.{bound_of, target_bound, targets_bound};
 ghost use Rattle.gm_loops.specs.Goings.{IsReady};
 ghost use Rattle.gm_loops.specs.Scopes.{inside};
@@ -89,7 +89,7 @@ impl Going {
         requires ready { IsReady around.now.setting.now self.now }
         requires bound { target_bound target.now ≤ around.now.setting.now.variables }
         ensures does { let it = begun (inside scope.now (store_of (edges_in around.now.setting.now) self.now.store)) in
-            IfSome result (λ deed. does (program.Assign key target.now (expr_of value.now)) (mode_of mode) (loop_of around.now) it ≡ after_deed deed it) }
+            IfSome result (λ deed. does (program.Assign key target.now (expr_of value.now)) (mode_in around.now mode) (loop_of around.now) it ≡ after_deed deed it) }
         ensures within { IfSome result (IsWithin (shape_of self.now.store)) }
         ensures own { IfSome result (IsOwn node) }
     {
@@ -119,7 +119,7 @@ impl Going {
         requires ready { IsReady around.now.setting.now self.now }
         requires bound { target_bound target.now ≤ around.now.setting.now.variables }
         ensures does { let it = begun (inside scope.now (store_of (edges_in around.now.setting.now) self.now.store)) in
-            IfSome result (λ deed. does (program.Combine key total reduce (target.now ∷ []) (expr_of value.now ∷ [])) (mode_of mode) (loop_of around.now) it ≡ after_deed deed it) }
+            IfSome result (λ deed. does (program.Combine key total reduce (target.now ∷ []) (expr_of value.now ∷ [])) (mode_in around.now mode) (loop_of around.now) it ≡ after_deed deed it) }
         ensures within { IfSome result (IsWithin (shape_of self.now.store)) }
         ensures own { (node : ℕ) → IfSome result (IsOwn node) }
     {
@@ -145,7 +145,7 @@ impl Going {
         requires ready { IsReady around.now.setting.now self.now }
         requires bound { bound_of (stmt_of s.now) ≤ around.now.setting.now.variables }
         ensures does { let it = begun (inside scope.now (store_of (edges_in around.now.setting.now) self.now.store)) in
-            IfSome result (λ deed. does (stmt_of s.now) (mode_of mode) (loop_of around.now) it ≡ after_deed deed it) }
+            IfSome result (λ deed. does (stmt_of s.now) (mode_in around.now mode) (loop_of around.now) it ≡ after_deed deed it) }
         ensures within { IfSome result (IsWithin (shape_of self.now.store)) }
         ensures own { IfSome result (IsOwn node) }
     {
@@ -192,7 +192,7 @@ impl Going {
         requires ready { IsReady around.now.setting.now self.now }
         requires bound { bound_of (body_of body) ≤ around.now.setting.now.variables }
         ensures does { let it = begun (inside scope.now (store_of (edges_in around.now.setting.now) self.now.store)) in
-            IfSome result (λ deed. does (body_of body.entry) (mode_of mode) (loop_of around.now) it ≡ after_deed deed it) }
+            IfSome result (λ deed. does (body_of body.entry) (mode_in around.now mode) (loop_of around.now) it ≡ after_deed deed it) }
         ensures within { IfSome result (IsWithin (shape_of self.now.store)) }
         ensures own { IfSome result (IsOwn node) }
     {
@@ -219,7 +219,7 @@ impl Going {
         requires ready { IsReady around.now.setting.now self.now }
         requires bound { bound_of (body_of body) ≤ around.now.setting.now.variables }
         ensures turn { let s = seen around.now.setting.now self.now in
-            IfSome result (λ deed. turn_at (loop_of around.now) (mode_of mode) key (expr_of filter.now) (does (body_of body.entry) (mode_of mode) (loop_of around.now)) iterator node s
+            IfSome result (λ deed. turn_at (loop_of around.now) (mode_in around.now mode) key (expr_of filter.now) (does (body_of body.entry) (mode_in around.now mode) (loop_of around.now)) iterator node s
             ≡ after_deed deed (begun (write s (Scalar iterator) (At (Some node))))) }
         ensures within { IfSome result (IsWithin (shape_of self.now.store)) }
         ensures own { IfSome result (IsOwn node) }

@@ -1,13 +1,14 @@
 //! What expressions and statements see.
 
-ghost use Rattle.std.specs.Prelude.{◌≡◌, ◌<◌, true, All, IfOk, slice_index_or};
+ghost use Rattle.std.specs.Prelude.{◌≡◌, ◌<◌, true, IfOk, slice_index_or};
 ghost use Rattle.gm_value.specs.declared.values.Value.TheVariants.{At};
 ghost use Rattle.gm_model.specs.Graphs.{node_count};
+ghost use Rattle.gm_graph.specs.Walks.{edge_at};
 ghost use Rattle.gm_semantics.specs.Levels.{node_in};
 ghost use Rattle.gm_semantics.specs.Expressions.{View, node_of, at_node, degree_of};
 ghost use Rattle.gm_store.specs.Held.{scalar_of, node_of as held_node};
 ghost use Rattle.gm_loops.specs.Scopes.{scalar_in};
-ghost use Rattle.gm_loops.specs.Sights.{edges_in, values_in, view_of, HasColumn, Fits};
+ghost use Rattle.gm_loops.specs.Sights.{edges_in, values_in, view_of, Fits};
 
 use crate::parts::Answer;
 use crate::scopes::Scope;
@@ -39,30 +40,23 @@ pub struct Setting<'a> {
 }
 
 /// What an expression sees beside the store: the levels of the search around it, whether it is parallel code, the
-/// edge of the inner loop around it, and the key of its operators' faults.
+/// row of the edge of the inner loop around it, and the key of its operators' faults.
 #[derive(Clone, Copy)]
 pub struct Sight<'a> {
     pub setting: &'a Setting<'a>,
     pub levels: Option<&'a Levels>,
     pub parallel: bool,
-    pub edge: u32,
+    pub row: Option<u32>,
     pub key: Key,
 }
 
-// The value of an edge property at an edge.
+// The value of an edge property at an edge, by its row.
 #[inline(always)]
-fn edge_value(graph: &Graph, column: &EdgeColumn, edge: u32) -> Value
-    requires { HasColumn graph.now column.now.column }
-    ensures { result ≡ slice_index_or (values_in graph.now column.now.column) edge column.now.first }
+fn edge_value(graph: &Graph, column: &EdgeColumn, row: Option<u32>) -> Value
+    ensures { result ≡ slice_index_or (values_in graph.now column.now.column) (edge_at graph.now row) column.now.first }
 {
     match column.column {
-        Some(index) => {
-            if edge < graph.edge_count() {
-                graph.edge_value(edge, index)
-            } else {
-                column.first
-            }
-        }
+        Some(index) => graph.value_in(row, index).unwrap_or(column.first),
         None => column.first,
     }
 }
@@ -128,14 +122,13 @@ impl Setting<'_> {
         }
     }
 
-    // The value of an edge property at an edge.
+    // The value of an edge property at an edge, by its row.
     #[inline(always)]
-    pub fn edge_property(&self, property: u32, edge: u32) -> Value
-        requires { All (λ c. HasColumn self.now.graph.now c.column) self.now.edges.now }
-        ensures { result ≡ edges_in self.now property edge }
+    pub fn edge_property(&self, property: u32, row: Option<u32>) -> Value
+        ensures { result ≡ edges_in self.now property (edge_at self.now.graph.now row) }
     {
         match self.edges.get(property as usize) {
-            Some(column) => edge_value(self.graph, column, edge),
+            Some(column) => edge_value(self.graph, column, row),
             None => Value::I32(0),
         }
     }

@@ -7,7 +7,7 @@ ghost use Rattle.gm_semantics.specs.Iterations.{Outermost, begun, turn_at, view_
 ghost use Rattle.gm_store.specs.Held.{HasSlot, shape_of};
 ghost use Rattle.gm_totals.specs.Standing.{Within};
 ghost use Rattle.gm_loops.specs.declared.sights.Setting.{Setting};
-ghost use Rattle.gm_loops.specs.Around.{loop_of, mode_of};
+ghost use Rattle.gm_loops.specs.Around.{loop_of, mode_in};
 ghost use Rattle.gm_loops.specs.Goings.{IsReady};
 ghost use Rattle.gm_loops.specs.Parts.{sooner};
 ghost use Rattle.gm_loops.specs.Ranges.{step_of};
@@ -72,8 +72,8 @@ impl Going {
     ) -> Result<bool, NoMemory>
         requires ready { IsReady around.now.setting.now self.old }
         requires bound { iterator < around.now.setting.now.variables }
-        ensures { IfOk result (λ passed. Begins around.now.setting.now (mode_of mode) self.old self.new passed
-            (λ body s. turn_at (loop_of around.now) (mode_of mode) key (expr_of filter.now) body iterator node s)) }
+        ensures { IfOk result (λ passed. Begins around.now.setting.now (mode_in around.now mode) self.old self.new passed
+            (λ body s. turn_at (loop_of around.now) (mode_in around.now mode) key (expr_of filter.now) body iterator node s)) }
     {
         self.fault = None;
         self.write(Write {
@@ -97,7 +97,7 @@ impl Going {
         around: &Around,
     ) -> Result<Vec<Hop>, NoMemory>
         requires { IsReady around.now.setting.now self.old }
-        ensures steps { IfOk result (λ hops. map step_of hops.items
+        ensures steps { IfOk result (λ hops. map (step_of around.now.setting.now.graph.now) hops.items
             ≡ steps_in (view_in (loop_of around.now) Outermost (begun (seen around.now.setting.now self.old)) key) head.now) }
         ensures keeps { Keeps self.old self.new }
     {

@@ -1,6 +1,7 @@
 -- What a vertex sees and what it changes, as the code holds them.
 use Rattle.std.specs.Prelude.{ℕ, Bool, true, false, Option, Some, None, Result, Ok, Err, ◌≡◌, List, ◌++◌, length, map}
 use Rattle.gm_model.specs.Graphs.{NumberedGraph}
+use Rattle.gm_graph.specs.Walks.{edge_at}
 use Rattle.gm_image.specs.Program.{Block, Direction, Out, In}
 use Rattle.gm_image.specs.Views.{handler, line}
 use Rattle.gm_machine.specs.declared.bodies.BlockCode as T
@@ -23,7 +24,7 @@ context_of s = record {
   globals = s.globals.now;
   node = s.node;
   message = s.message.now;
-  near = record { node = s.neighbour; edge = s.edge };
+  near = record { node = s.neighbour; edge = edge_at s.graph.now s.row };
 }
 
 abbrev pub state_of : W.VertexState → VertexState

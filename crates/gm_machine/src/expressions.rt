@@ -5,6 +5,7 @@ ghost use Rattle.gm_value.specs.Numbers.{number_of};
 ghost use Rattle.gm_value.specs.declared.values.Value.TheVariants.{I32};
 ghost use Rattle.gm_value.specs.Operations.{is_true, result2};
 ghost use Rattle.gm_model.specs.Graphs.{out_steps, in_steps};
+ghost use Rattle.gm_graph.specs.Walks.{edge_at};
 ghost use Rattle.gm_image.specs.Views.{term};
 ghost use Rattle.gm_image.specs.Term.{NodeAt, Live, And, Or, Choose};
 ghost use Rattle.gm_machine.specs.Faults.{at_place};
@@ -18,7 +19,7 @@ use gm_image::Expr;
 use gm_value::{FaultKind, Op1, Op2, Value, apply1, apply2};
 
 /// What an expression sees and a vertex does not change: a graph with so many edge columns, globals, a node, in a
-/// handler the values of the message, and in an each the neighbour and the edge.
+/// handler the values of the message, and in an each the neighbour and the edge, by its row in the graph.
 #[derive(Clone, Copy)]
 pub(crate) struct VertexContext<'a> {
     pub(crate) graph: &'a Graph,
@@ -27,7 +28,7 @@ pub(crate) struct VertexContext<'a> {
     pub(crate) node: u32,
     pub(crate) message: &'a [Value],
     pub(crate) neighbour: u32,
-    pub(crate) edge: u32,
+    pub(crate) row: Option<u32>,
 }
 
 // The value of an index, NIL where there is none.
@@ -72,16 +73,12 @@ fn in_degree(graph: &Graph, node: u32) -> u32
     }
 }
 
-// The value of an edge in a column, NIL where there is none.
-fn edge_value_at(graph: &Graph, columns: usize, column: u32, edge: u32) -> Value
-    requires { HasColumns graph.now columns }
-    ensures { result ≡ edge_value_at graph.now column edge }
+// The value of an edge, by its row, in a column, NIL where there is none.
+#[inline(always)]
+fn edge_value_at(graph: &Graph, column: u32, row: Option<u32>) -> Value
+    ensures { result ≡ edge_value_at graph.now column (edge_at graph.now row) }
 {
-    if (column as usize) < columns && edge < graph.edge_count() {
-        graph.edge_value(edge, column)
-    } else {
-        Value::At(None)
-    }
+    graph.value_in(row, column).unwrap_or(Value::At(None))
 }
 
 // The node with an index, NIL where there is none.
@@ -333,7 +330,7 @@ fn by_shape(
         Expr::Register(r) => Ok(value_at(registers, *r)),
         Expr::Message(i) => Ok(value_at(s.message, *i)),
         Expr::Neighbour => Ok(Value::At(Some(s.neighbour))),
-        Expr::Column(c) => Ok(edge_value_at(s.graph, s.columns, *c, s.edge)),
+        Expr::Column(c) => Ok(edge_value_at(s.graph, *c, s.row)),
         Expr::NodeAt(a) => node_at(a, s, fields, registers),
         Expr::Live(p, a) => live_at(*p, a, s, fields, registers),
         Expr::Add(p, a, b) => binary(Op2::Add, *p, a, b, s, fields, registers),

@@ -3,6 +3,7 @@
 ghost use Rattle.std.specs.Prelude.{◌≡◌, ◌<◌, ◌++◌, ◌∷◌, [], ℕ, Some, IfOk, OnOk, map, length, slice_get, slice_set};
 ghost use Rattle.gm_value.specs.Numbers.{zero_of};
 ghost use Rattle.gm_model.specs.Graphs.{HasNode};
+ghost use Rattle.gm_graph.specs.Walks.{edge_at};
 ghost use Rattle.gm_image.specs.Views.{term, line, target};
 ghost use Rattle.gm_image.specs.Program.{SetField, Fold, SetRegister, Put, Send, Skip};
 ghost use Rattle.gm_machine.specs.Expressions.{value, values};
@@ -404,16 +405,16 @@ fn degree(graph: &Graph, out: bool, node: u32) -> u32
     }
 }
 
-// The neighbour and the edge of a turn of an each.
+// The neighbour and the edge, by its row, of a turn of an each.
 fn step_at(graph: &Graph, out: bool, node: u32, k: u32) -> (u32, u32)
     requires node { HasNode graph.now node }
     requires step { k < length (steps (direction out) graph.now node) }
-    ensures { slice_get (steps (direction out) graph.now node) k ≡ Some (record { node = result.0; edge = result.1 }) }
+    ensures { slice_get (steps (direction out) graph.now node) k ≡ Some (record { node = result.0; edge = edge_at graph.now (Some result.1) }) }
 {
     if out {
-        (graph.out_target(node, k), graph.out_edge(node, k))
+        (graph.out_target(node, k), graph.out_row(node, k))
     } else {
-        (graph.in_source(node, k), graph.in_edge(node, k))
+        (graph.in_source(node, k), graph.in_row(node, k))
     }
 }
 
@@ -432,10 +433,10 @@ pub(crate) fn run_turns(
 {
     let mut fault = None;
     for k in 0..degree(context.graph, out, context.node) {
-        let (neighbour, edge) = step_at(context.graph, out, context.node, k);
+        let (neighbour, row) = step_at(context.graph, out, context.node, k);
         let turn = VertexContext {
             neighbour,
-            edge,
+            row: Some(row),
             ..*context
         };
         let one = run_lines(lines, &turn, state)?;

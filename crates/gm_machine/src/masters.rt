@@ -31,7 +31,7 @@ fn master_context<'a>(graph: &'a Graph, columns: usize, globals: &'a [Value]) ->
         node: 0,
         message: &[],
         neighbour: 0,
-        edge: 0,
+        row: None,
     }
 }
 

@@ -165,7 +165,7 @@ fn step_at(
         node: round.nodes.node(place),
         message: &[],
         neighbour: 0,
-        edge: 0,
+        row: None,
     };
     let headers = headers_at(round.sorted, round.starts, place);
     fields.load(place, &mut state.fields)?;

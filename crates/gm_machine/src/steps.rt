@@ -75,7 +75,7 @@ pub(crate) fn step(
         node,
         message: &[],
         neighbour: 0,
-        edge: 0,
+        row: None,
     };
     let mut state = VertexState::idle(alloc, mem::replace(fields, Vec::new(alloc)));
     mem::swap(&mut state.messages, &mut sent.messages);

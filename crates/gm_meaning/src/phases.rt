@@ -49,7 +49,7 @@ pub(crate) fn sight<'a>(setting: &'a Setting<'a>, key: Key) -> Sight<'a>
         setting,
         levels: None,
         parallel: false,
-        edge: 0,
+        row: None,
         key,
     }
 }

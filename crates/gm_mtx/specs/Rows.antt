@@ -2,17 +2,18 @@
 use Rattle.std.specs.Prelude.{ℕ, List, [], ◌∷◌, ◌++◌, codes}
 use Rattle.gm_value.specs.declared.values.VType.TheVariants.{I32}
 use Rattle.gm_graph.specs.declared.builds.Shape.{Shape}
+use Rattle.gm_graph.specs.declared.builds.Walks.TheVariants.{BothWays}
 use Rattle.gm_loader.specs.declared.limits.Limits.{Limits}
 
 -- no columns; one Int column of edges; two Int columns of edges
 abbrev pub plain : Shape
-plain = record { nodes = []; edges = [] }
+plain = record { nodes = []; edges = []; walks = BothWays }
 
 abbrev pub weighted : Shape
-weighted = record { nodes = []; edges = I32 ∷ [] }
+weighted = record { nodes = []; edges = I32 ∷ []; walks = BothWays }
 
 abbrev pub twice_weighted : Shape
-twice_weighted = record { nodes = []; edges = I32 ∷ I32 ∷ [] }
+twice_weighted = record { nodes = []; edges = I32 ∷ I32 ∷ []; walks = BothWays }
 
 abbrev pub ample : Limits
 ample = record { nodes = 100; edges = 100; bytes = 1000 }

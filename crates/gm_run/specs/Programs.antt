@@ -10,6 +10,7 @@ use Rattle.gm_ast.specs.declared.tree.Sort.{Sort}
 use Rattle.gm_ast.specs.declared.tree.Sort.TheVariants.{Scalar, NodeProperty, EdgeProperty}
 use Rattle.gm_ast.specs.Names.{is}
 use Rattle.gm_ast.specs.Program.{Program}
+use Rattle.gm_run.specs.Walks.{walks_of}
 
 -- the declarations of the inputs, and of the outputs
 abbrev pub input_declarations : Program → List Declaration
@@ -30,9 +31,14 @@ types_of sort ds = map (λ d. d.variable.vtype) (of_sort sort ds)
 abbrev pub names_of : Sort → List Declaration → List (List ℕ)
 names_of sort ds = map (λ d. d.name) (of_sort sort ds)
 
--- the columns that a graph has for a program: one for each property among the inputs, in order of declaration
+-- what a program asks of its graph: a column for each property among the inputs, in order of declaration, and rows for the walks
+-- that it takes
 abbrev pub shape_of : Program → Shape
-shape_of p = record { nodes = types_of NodeProperty (input_declarations p); edges = types_of EdgeProperty (input_declarations p) }
+shape_of p = record {
+  nodes = types_of NodeProperty (input_declarations p);
+  edges = types_of EdgeProperty (input_declarations p);
+  walks = walks_of p;
+}
 
 -- a scalar input, with its name as a text: the bytes of a name that are no text are replaced
 abbrev pub input_of : Declaration → Input

@@ -4,6 +4,7 @@
 mod answers;
 mod laws;
 mod programs;
+mod walks;
 
 pub use answers::run_text;
 pub use laws::rows_are_worked;

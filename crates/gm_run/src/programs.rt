@@ -5,6 +5,7 @@ ghost use Rattle.gm_ast.specs.Names.{is};
 ghost use Rattle.gm_ast.specs.Tree.{program_of};
 ghost use Rattle.gm_run.specs.Programs.{input_of as input_of_lem, inputs_of as inputs_of_lem, names_of as names_of_lem, output_declarations, shape_of as shape_of_lem, types_of as types_of_lem};
 
+use crate::walks::walks_of;
 use gm_ast::tree::{Declaration, Sort, Tree};
 use gm_base::{Items, NoMemory, Text};
 use gm_graph::Shape;
@@ -70,7 +71,7 @@ pub fn names_of<'a>(
     Ok(names)
 }
 
-/// The columns that a graph has for a program.
+/// The columns that a graph has for a program, and the walks for which it has rows.
 pub fn shape_of(alloc: Global, tree: &Tree) -> Result<Shape, NoMemory>
     ensures { IfOk result (λ shape. shape ≡ shape_of_lem (program_of tree.now)) }
 {
@@ -78,6 +79,7 @@ pub fn shape_of(alloc: Global, tree: &Tree) -> Result<Shape, NoMemory>
     Ok(Shape {
         nodes: Items::new(types_of(alloc, inputs, Sort::NodeProperty)?),
         edges: Items::new(types_of(alloc, inputs, Sort::EdgeProperty)?),
+        walks: walks_of(tree),
     })
 }
 

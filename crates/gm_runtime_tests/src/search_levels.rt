@@ -3,7 +3,7 @@
 ghost use Rattle.std.specs.Prelude.{◌≡◌, ◌≤◌, IfOk, length};
 
 use gm_base::{Items, NoMemory};
-use gm_graph::{Graph, RawGraph, Shape, build};
+use gm_graph::{Graph, RawGraph, Shape, Walks, build};
 use gm_levels::levels_from;
 use std::alloc::Global;
 use std::fmt::Write;
@@ -32,6 +32,7 @@ fn graph_of(alloc: Global, edges: &[(u64, u64)], lonely: u64) -> Result<Graph, N
         shape: Shape {
             nodes: Items::new(Vec::new(alloc)),
             edges: Items::new(Vec::new(alloc)),
+            walks: Walks::BothWays,
         },
         from: Items::new(from),
         to: Items::new(to),

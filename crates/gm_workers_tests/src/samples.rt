@@ -3,7 +3,7 @@
 ghost use Rattle.std.specs.Prelude.{◌≡◌, ◌≤◌, [], IfOk};
 
 use gm_base::{Items, NoMemory};
-use gm_graph::{Graph, Shape};
+use gm_graph::{Graph, Shape, Walks};
 use gm_image::{Image, Sound};
 use gm_image_text::read_image;
 use gm_loader::{Limits, parse_graph};
@@ -238,6 +238,7 @@ fn one_column(alloc: Global) -> Result<Shape, NoMemory>
     Ok(Shape {
         nodes: Items::new(nodes),
         edges: Items::new(Vec::new(alloc)),
+        walks: Walks::BothWays,
     })
 }
 

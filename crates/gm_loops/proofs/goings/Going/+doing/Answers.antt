@@ -14,7 +14,8 @@ use Rattle.gm_store.specs.Laws.{IsRolledBack}
 use Rattle.gm_loops.specs.declared.goings.Going.{Going}
 use Rattle.gm_loops.specs.declared.ranges.Hop.{Hop}
 use Rattle.gm_loops.specs.declared.sights.Sight.{Sight}
-use Rattle.gm_loops.specs.Around.{loop_of, mode_of}
+use Rattle.gm_graph.specs.Walks.{edge_at}
+use Rattle.gm_loops.specs.Around.{loop_of, mode_in}
 use Rattle.gm_loops.specs.Bounds.{bound_of}
 use Rattle.gm_loops.specs.Goings.{Does}
 use Rattle.gm_loops.specs.Parts.{sooner}
@@ -33,7 +34,7 @@ use Rattle.gm_loops.proofs.goings.Going.+doing.Goals.{long_inner_turn-then-branc
 pub does-returns-in_ok-does-in-Ok : goal.does-returns-in_ok-does-in-Ok
 does-returns-in_ok-does-in-Ok t c =
     let a = c.args.around.now in
-    let m : I.Mode = mode_of c.args.mode in
+    let m : I.Mode = mode_in a c.args.mode in
     let i = c.in-If in
     let first : P.Stmt = stmt_of i.yes.value in
     let other : P.Stmt = stmt_of i.no.value in
@@ -42,14 +43,14 @@ does-returns-in_ok-does-in-Ok t c =
     subst (λ (s : P.Stmt). Does a.setting.now m c.args.self.now c.does.new.self (does s m (loop_of a))) (sym (ap stmt_of i.is ∙ stmt_of-If i.key i.test i.yes i.no))
     (does-as a.setting.now m c.args.self.now c.does.new.self (λ it. does first m (loop_of a) it) (λ it. does (P.If i.key test first other) m (loop_of a) it)
     (subst (λ (s : S.Stmt). Does a.setting.now m c.args.self.now c.does.new.self (does (stmt_of s) m (loop_of a))) c.deref.ensures c.in_ok-does-in-Ok.ensures)
-    (λ it h. if-yes a m i.key test first other store c.in-Ok.holds it
+    (λ it h. if-yes a c.args.mode i.key test first other store c.in-Ok.holds it
     (sym c.in-Ok.is ∙ c.value.ensures ∙ ap (λ (s : Sight). value test (view_of s no_scope store)) c.sight.ensures)
     (sym c.is_true.ensures ∙ c.if-is_true.true) h))
 
 pub does-returns-in_ok-does-in-Ok-2 : goal.does-returns-in_ok-does-in-Ok-2
 does-returns-in_ok-does-in-Ok-2 t c =
     let a = c.args.around.now in
-    let m : I.Mode = mode_of c.args.mode in
+    let m : I.Mode = mode_in a c.args.mode in
     let i = c.in-If in
     let first : P.Stmt = stmt_of i.yes.value in
     let other : P.Stmt = stmt_of i.no.value in
@@ -59,14 +60,14 @@ does-returns-in_ok-does-in-Ok-2 t c =
     subst (λ (s : P.Stmt). Does a.setting.now m c.args.self.now new (does s m (loop_of a))) (sym (ap stmt_of i.is ∙ stmt_of-If i.key i.test i.yes i.no))
     (does-as a.setting.now m c.args.self.now new (λ it. does other m (loop_of a) it) (λ it. does (P.If i.key test first other) m (loop_of a) it)
     (subst (λ (s : S.Stmt). Does a.setting.now m c.args.self.now new (does (stmt_of s) m (loop_of a))) c.deref-else-is_true.ensures c.in_ok-does-in-Ok-2.ensures)
-    (λ it h. if-no a m i.key test first other store c.in-Ok.holds it
+    (λ it h. if-no a c.args.mode i.key test first other store c.in-Ok.holds it
     (sym c.in-Ok.is ∙ c.value.ensures ∙ ap (λ (s : Sight). value test (view_of s no_scope store)) c.sight.ensures)
     (sym c.is_true.ensures ∙ c.if-is_true.false) h))
 
 pub does-returns-in-Err : goal.does-returns-in-Err
 does-returns-in-Err t c =
     let a = c.args.around.now in
-    let m : I.Mode = mode_of c.args.mode in
+    let m : I.Mode = mode_in a c.args.mode in
     let i = c.in-If in
     let first : P.Stmt = stmt_of i.yes.value in
     let other : P.Stmt = stmt_of i.no.value in
@@ -75,7 +76,7 @@ does-returns-in-Err t c =
     subst (λ (s : P.Stmt). Does a.setting.now m c.args.self.now c.fail.new.self (does s m (loop_of a))) (sym (ap stmt_of i.is ∙ stmt_of-If i.key i.test i.yes i.no))
     (does-as a.setting.now m c.args.self.now c.fail.new.self (λ it. failed it c.in-Err.fault) (λ it. does (P.If i.key test first other) m (loop_of a) it)
     (c.fail.ensures a.setting.now m)
-    (λ it h. if-fault a m i.key test first other store c.in-Err.fault it
+    (λ it h. if-fault a c.args.mode i.key test first other store c.in-Err.fault it
     (sym c.in-Err.is ∙ c.value.ensures ∙ ap (λ (s : Sight). value test (view_of s no_scope store)) c.sight.ensures) h))
 
 pub does-returns-in_ok-inner_loop-in-Foreach : goal.does-returns-in_ok-inner_loop-in-Foreach
@@ -83,7 +84,7 @@ does-returns-in_ok-inner_loop-in-Foreach t c =
     let a = c.args.around.now in
     let l = c.in-Foreach in
     let new = c.inner_loop.new.self in
-    subst (λ (m : I.Mode). Does a.setting.now m c.args.self.now new (does (stmt_of c.args.s.now) m (loop_of a))) (sym (ap mode_of c.in-Outermost-mode.is))
+    subst (λ (m : I.Mode). Does a.setting.now m c.args.self.now new (does (stmt_of c.args.s.now) m (loop_of a))) (sym (ap (mode_in a) c.in-Outermost-mode.is))
     (subst (λ (s : P.Stmt). Does a.setting.now I.Outermost c.args.self.now new (does s I.Outermost (loop_of a)))
     (sym (ap stmt_of l.is ∙ stmt_of-Foreach l.key l.place l.head l.filter l.body))
     (subst (λ (s : S.Stmt). Does a.setting.now I.Outermost c.args.self.now new (does (P.Foreach l.key l.place l.head (expr_of l.filter) (stmt_of s)) I.Outermost (loop_of a)))
@@ -99,7 +100,7 @@ pub does_all-returns-then-is_some : goal.does_all-returns-then-is_some
 does_all-returns-then-is_some t c =
     let a = c.args.around.now in
     let f = a.setting.now in
-    let m : I.Mode = mode_of c.args.mode in
+    let m : I.Mode = mode_in a c.args.mode in
     let items = c.args.stmts.now.items in
     let i = c.loop-stmt.stmt-index in
     let lt : i < length items = subst (λ (l : List S.Stmt). i < length l) c.deref-stmt-items.ensures.value c.loop-stmt-test.true in
@@ -114,7 +115,7 @@ pub does_all-loop-stmt-preserved : goal.does_all-loop-stmt-preserved
 does_all-loop-stmt-preserved t c =
     let a = c.args.around.now in
     let f = a.setting.now in
-    let m : I.Mode = mode_of c.args.mode in
+    let m : I.Mode = mode_in a c.args.mode in
     let items = c.args.stmts.now.items in
     let i = c.loop-stmt.stmt-index in
     let lt : i < length items = subst (λ (l : List S.Stmt). i < length l) c.deref-stmt-items.ensures.value c.loop-stmt-test.true in
@@ -134,7 +135,7 @@ pub does_all-returns : goal.does_all-returns
 does_all-returns t c =
     let a = c.args.around.now in
     let f = a.setting.now in
-    let m : I.Mode = mode_of c.args.mode in
+    let m : I.Mode = mode_in a c.args.mode in
     let items = c.args.stmts.now.items in
     let i = c.loop-stmt.stmt-index in
     let ge : length items ≤ i = subst (λ (l : List S.Stmt). length l ≤ i) c.deref-stmt-items.ensures.value c.loop-stmt-test.false in
@@ -154,14 +155,14 @@ pub inner_turn-returns-in_ok-take-in-Some : goal.inner_turn-returns-in_ok-take-i
 inner_turn-returns-in_ok-take-in-Some t c =
     let a = c.args.around.now in
     c.in_ok-take-in-Some.ensures a.setting.now (I.AtEdge 0)
-    (λ s. inner_turn (loop_of a) c.args.key (expr_of c.args.filter.now) (stmt_of c.args.body.now) c.args.iterator (step_of c.args.hop) s)
+    (λ s. inner_turn (loop_of a) c.args.key (expr_of c.args.filter.now) (stmt_of c.args.body.now) c.args.iterator (step_of a.setting.now.graph.now c.args.hop) s)
     _ c.in-Some.ensures.turn
 
 pub long_inner_turn-returns : goal.long_inner_turn-returns
 long_inner_turn-returns t c =
     let a = c.args.around.now in
     let f = a.setting.now in
-    let m : I.Mode = I.AtEdge c.args.hop.edge in
+    let m : I.Mode = I.AtEdge (edge_at f.graph.now c.args.hop.row) in
     let test : P.Expr = expr_of c.args.filter.now in
     let body : Iteration → Iteration = does (stmt_of c.args.body.now) m (loop_of a) in
     let turn : (Iteration → Iteration) → Store → Iteration = λ b s. turn_at (loop_of a) m c.args.key test b c.args.iterator c.args.hop.node s in
@@ -175,7 +176,7 @@ long_inner_turn-returns t c =
           (turn-skipped f m c.args.self.now c.begins.new.self turn body
           (subst (λ (p : Bool). Begins f m c.args.self.now c.begins.new.self p turn) w.if-branch.false begins)))
     ] in
-    turns-anywhere f c.args.hop.edge 0 c.args.self.now _ _ (λ s. turn body s ∷ [])
+    turns-anywhere f (edge_at f.graph.now c.args.hop.row) 0 c.args.self.now _ _ (λ s. turn body s ∷ [])
     (turns-once f m c.args.self.now c.if-branch.self _ (turn body) done
     (subst (λ (mark : ℕ). IsRolledBack mark c.if-branch.self.store c.roll_back.new.self) c.mark-mark.ensures
     (record { store = c.in_ok-roll_back.ensures.store; undo = c.in_ok-roll_back.ensures.undo; shape = c.in_ok-roll_back.ensures.shape }))
@@ -200,15 +201,15 @@ inner_turns-loop-hop-preserved t c =
     let h = c.loop-hop.invariant in
     let items : List Hop = c.deref-hop-items.result.now in
     let i = c.loop-hop.hop-index in
-    let none : Hop = record { node = 0; edge = 0 } in
+    let none : Hop = record { node = 0; row = None } in
     let hop : Hop = get_or items i none in
     record {
       ready = c.in_ok-inner_turn.ensures.ready h.ready;
       turns =
-          subst (λ (o : Option Fault). DoesTurns f (I.AtEdge 0) c.args.self.now c.inner_turn.new.self o (λ s. map (λ y. turn y s) (map step_of (take (i + 1) items)))) (sym c.keep_least.ensures)
+          subst (λ (o : Option Fault). DoesTurns f (I.AtEdge 0) c.args.self.now c.inner_turn.new.self o (λ s. map (λ y. turn y s) (map (step_of f.graph.now) (take (i + 1) items)))) (sym c.keep_least.ensures)
           (subst (λ (steps : List Step). DoesTurns f (I.AtEdge 0) c.args.self.now c.inner_turn.new.self (sooner c.loop-hop.least c.inner_turn.new.self.fault) (λ s. map (λ y. turn y s) steps))
-          (sym (taken-more step_of items i none c.loop-hop-test.true))
-          (turns-step f (I.AtEdge 0) c.args.self.now c.loop-hop.self c.inner_turn.new.self c.loop-hop.least c.inner_turn.new.self.fault turn (map step_of (take i items)) (step_of hop) h.turns c.in_ok-inner_turn.ensures));
+          (sym (taken-more (step_of f.graph.now) items i none c.loop-hop-test.true))
+          (turns-step f (I.AtEdge 0) c.args.self.now c.loop-hop.self c.inner_turn.new.self c.loop-hop.least c.inner_turn.new.self.fault turn (map (step_of f.graph.now) (take i items)) (step_of f.graph.now hop) h.turns c.in_ok-inner_turn.ensures));
     }
 
 pub inner_turns-returns : goal.inner_turns-returns
@@ -219,11 +220,11 @@ inner_turns-returns t c =
     let last = c.loop-hop.self in
     let turn : Step → Store → Iteration = λ step s. inner_turn (loop_of a) c.args.key (expr_of c.args.filter.now) (stmt_of c.args.body.now) c.args.head.now.iterator step s in
     let items : List Hop = c.deref-hop-items.result.now in
-    let all : map step_of (take c.loop-hop.hop-index items) ≡ steps_in (view_in (loop_of a) I.Outermost (begun (seen f old)) c.args.key) c.args.head.now =
-    ap (map step_of) (take_all c.loop-hop.hop-index items c.loop-hop-test.false ∙ c.deref-hop-items.ensures.value) ∙ c.in_ok-hops.ensures.steps in
+    let all : map (step_of f.graph.now) (take c.loop-hop.hop-index items) ≡ steps_in (view_in (loop_of a) I.Outermost (begun (seen f old)) c.args.key) c.args.head.now =
+    ap (map (step_of f.graph.now)) (take_all c.loop-hop.hop-index items c.loop-hop-test.false ∙ c.deref-hop-items.ensures.value) ∙ c.in_ok-hops.ensures.steps in
     turns-kept f (I.AtEdge 0) old last _ c.loop-hop.least
     (λ s. map (λ step. turn step s) (steps_in (view_in (loop_of a) I.Outermost (begun s) c.args.key) c.args.head.now))
     (record { store = refl; inner = refl; outermost = refl; deferred = refl; fault = refl })
-    (turns-at f (I.AtEdge 0) old last c.loop-hop.least (λ s. map (λ step. turn step s) (map step_of (take c.loop-hop.hop-index items)))
+    (turns-at f (I.AtEdge 0) old last c.loop-hop.least (λ s. map (λ step. turn step s) (map (step_of f.graph.now) (take c.loop-hop.hop-index items)))
     (λ s. map (λ step. turn step s) (steps_in (view_in (loop_of a) I.Outermost (begun s) c.args.key) c.args.head.now))
     (ap (λ (l : List Step). map (λ step. turn step (seen f old)) l) all) c.loop-hop.invariant.turns)

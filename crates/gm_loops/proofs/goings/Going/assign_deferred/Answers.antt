@@ -9,6 +9,7 @@ use Rattle.gm_semantics.specs.Iterations as I
 use Rattle.gm_semantics.specs.Iterations.{Iteration, assigned, at_once, contribution, does, ends_of, gave_inner, gave_outermost, reduced, view_in, with_ok, wrote}
 use Rattle.gm_loops.specs.declared.sights.Sight.{Sight}
 use Rattle.gm_loops.specs.Around.{loop_of}
+use Rattle.gm_loops.specs.declared.around.Mode.TheVariants as modes
 use Rattle.gm_loops.specs.Scopes.{no_scope}
 use Rattle.gm_loops.specs.Sights.{view_of}
 use Rattle.gm_loops.specs.Targets.{pair_of}
@@ -27,4 +28,4 @@ returns c =
     (λ it. does (P.Defer c.args.key target e) I.Outermost (loop_of a) it)
     (c.in_ok-defer.ensures a.setting.now)
     (λ it h. ap (λ (r : Result (Slot × Value) Fault). with_ok it r (deferred_to it)) (c.assigned-answer.ensures.pair
-    ∙ ap (λ (w : View). assigned w target (evaluated e w)) (ap (λ (s : Sight). view_of s no_scope store) c.sight.ensures ∙ view-same a I.Outermost c.args.key store it h)))
+    ∙ ap (λ (w : View). assigned w target (evaluated e w)) (ap (λ (s : Sight). view_of s no_scope store) c.sight.ensures ∙ view-same a modes.Outermost c.args.key store it h)))

@@ -6,7 +6,7 @@ use Rattle.gm_ast.specs.Program as P
 use Rattle.gm_ast.specs.Tree.{expr_of}
 use Rattle.gm_semantics.specs.Iterations as I
 use Rattle.gm_semantics.specs.Iterations.{does}
-use Rattle.gm_loops.specs.Around.{loop_of, mode_of}
+use Rattle.gm_loops.specs.Around.{loop_of, mode_in}
 use Rattle.gm_loops.specs.Goings.{Does}
 use Rattle.gm_loops.proofs.Statements.{one-target-bound, only-one, several-unless}
 use Rattle.gm_loops.proofs.goings.Going.reduce_all.Goals as goal
@@ -22,7 +22,7 @@ reduce-requires-clause-bound c = omega (arith, one-target-bound c.args.targets.n
 pub returns-in_ok-reduce : goal.returns-in_ok-reduce
 returns-in_ok-reduce c =
     let a = c.args.around.now in
-    let m : I.Mode = mode_of c.args.mode in
+    let m : I.Mode = mode_in a c.args.mode in
     let values : List P.Expr = map expr_of c.args.values.now in
     subst (λ (ts : List Target). Does a.setting.now m c.args.self.now c.reduce.new.self (does (P.Combine c.args.key c.args.total c.args.reduce ts values) m (loop_of a)))
     (sym (only-one c.args.targets.now none c.if-targets-eq1.true))

@@ -7,6 +7,7 @@ use Rattle.gm_semantics.specs.Iterations.{Iteration, Outermost, begun, does, vie
 use Rattle.gm_loops.specs.declared.sights.Sight.{Sight}
 use Rattle.gm_loops.specs.Around.{body_of, loop_of}
 use Rattle.gm_loops.specs.Columns.{IsColumn}
+use Rattle.gm_loops.specs.declared.around.Mode.TheVariants as modes
 use Rattle.gm_loops.specs.Scopes.{no_scope}
 use Rattle.gm_loops.specs.Sights.{view_of}
 use Rattle.gm_loops.specs.Turns.{seen}
@@ -25,7 +26,7 @@ returns-in-Some-clause-renews c =
     let column : IsColumn (expr_of b.value.now) (view_of c.sight-sight.result no_scope h) b.owner c.in-Some.cells = search rules in
     let start : Iteration = begun (seen a.setting.now c.args.self.now) in
     let sees : view_of c.sight-sight.result no_scope h ≡ view_in (loop_of a) Outermost start b.key =
-    ap (λ (s : Sight). view_of s no_scope h) c.sight-sight.ensures ∙ view-same a Outermost b.key h start refl in
+    ap (λ (s : Sight). view_of s no_scope h) c.sight-sight.ensures ∙ view-same a modes.Outermost b.key h start refl in
     record {
       passes = c.if-passes_all.ensures refl;
       all = c.if-are_all.ensures refl;

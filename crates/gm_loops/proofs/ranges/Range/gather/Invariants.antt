@@ -6,5 +6,5 @@ use Rattle.gm_loops.proofs.ranges.Range.gather.Given as goal
 abbrev pub invariant-loop-k : goal.invariant-loop-k
 invariant-loop-k l = record {
   room : vec_len l.hops + l.count ≤ vec_capacity l.hops + l.k;
-  steps : map step_of l.hops.items ++ steps_at l.self l.k ≡ steps_at l.self 0;
+  steps : map (step_of l.self.graph.now) l.hops.items ++ steps_at l.self l.k ≡ steps_at l.self 0;
 }

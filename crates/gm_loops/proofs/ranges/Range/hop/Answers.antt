@@ -14,8 +14,8 @@ returns-in-AllNodes-clause-step c =
 
 pub returns-in-From-clause-step : goal.returns-in-From-clause-step
 returns-in-From-clause-step c =
-    rw c.in-From.is (step-parts (out_steps c.args.self.now.graph.now c.in-From.node) c.args.k _ _ c.out_target.ensures.target c.out_edge.ensures.edge)
+    rw c.in-From.is (step-parts (out_steps c.args.self.now.graph.now c.in-From.node) c.args.k _ _ c.out_target.ensures.target c.out_row.ensures.edge)
 
 pub returns-in-To-clause-step : goal.returns-in-To-clause-step
 returns-in-To-clause-step c =
-    rw c.in-To.is (step-parts (in_steps c.args.self.now.graph.now c.in-To.node) c.args.k _ _ c.in_source.ensures.source c.in_edge.ensures.edge)
+    rw c.in-To.is (step-parts (in_steps c.args.self.now.graph.now c.in-To.node) c.args.k _ _ c.in_source.ensures.source c.in_row.ensures.edge)

@@ -43,18 +43,18 @@ elements-preserved-in-Some t c =
     let hop = c.in-Some.hop in
     let k = c.elements.k in
     let same : k - 1 + 1 ≡ k = omega arith in
-    let steps : steps_at r (k - 1) ≡ step_of hop ∷ steps_at r k = c.in-Some.ensures.step ∙ ap (λ (m : ℕ). step_of hop ∷ steps_at r m) same in
+    let steps : steps_at r (k - 1) ≡ step_of r.graph.now hop ∷ steps_at r k = c.in-Some.ensures.step ∙ ap (λ (m : ℕ). step_of r.graph.now hop ∷ steps_at r m) same in
     let others = elements_at f head test body w (steps_at r k) in
-    let seen : parts c.evaluated-in-Some.result ≡ evaluated test (entered w head (step_of hop) f.filter) = search (rules, scope_lemmas) in
-    let passed : c.settled-test.result ≡ settled (evaluated test (entered w head (step_of hop) f.filter)) =
+    let seen : parts c.evaluated-in-Some.result ≡ evaluated test (entered w head (step_of r.graph.now hop) f.filter) = search (rules, scope_lemmas) in
+    let passed : c.settled-test.result ≡ settled (evaluated test (entered w head (step_of r.graph.now hop) f.filter)) =
     c.settled-test.ensures ∙ ap settled seen in
-    let value : element f.word c.settled-test.result c.if-passes.value ≡ element f.word c.settled-test.result (settled (evaluated body (entered w head (step_of hop) f.body))) =
+    let value : element f.word c.settled-test.result c.if-passes.value ≡ element f.word c.settled-test.result (settled (evaluated body (entered w head (step_of r.graph.now hop) f.body))) =
     elim c.if-passes.branch [
-      | then-passes b ↦ ap (element f.word c.settled-test.result) (b.value-is ∙ b.settled-value.ensures ∙ ap settled (let sight : parts b.evaluated-then-passes.result ≡ evaluated body (entered w head (step_of hop) f.body) = search (rules, scope_lemmas) in sight))
+      | then-passes b ↦ ap (element f.word c.settled-test.result) (b.value-is ∙ b.settled-value.ensures ∙ ap settled (let sight : parts b.evaluated-then-passes.result ≡ evaluated body (entered w head (step_of r.graph.now hop) f.body) = search (rules, scope_lemmas) in sight))
       | else-passes b ↦ unpassed f.word c.settled-test.result _ _ (sym c.passes.ensures ∙ b.if-passes.false)
     ] in
-    let one : listed c.element.result ≡ element f.word (settled (evaluated test (entered w head (step_of hop) f.filter))) (settled (evaluated body (entered w head (step_of hop) f.body))) =
-    c.element.ensures.element ∙ value ∙ ap (λ (a : Answer). element f.word a (settled (evaluated body (entered w head (step_of hop) f.body)))) passed in
+    let one : listed c.element.result ≡ element f.word (settled (evaluated test (entered w head (step_of r.graph.now hop) f.filter))) (settled (evaluated body (entered w head (step_of r.graph.now hop) f.body))) =
+    c.element.ensures.element ∙ value ∙ ap (λ (a : Answer). element f.word a (settled (evaluated body (entered w head (step_of r.graph.now hop) f.body)))) passed in
     let more : listed c.element.result ∷ others ≡ elements_at f head test body w (steps_at r (k - 1)) =
     ap (λ (x : Result (List Value) Fault). x ∷ others) one ∙ sym (ap (elements_at f head test body w) steps) in
     let before : Runs c.reduce_of-reduce.result f.vtype c.elements.run others = rw c.reduce_of-reduce.ensures c.elements.invariant.runs in

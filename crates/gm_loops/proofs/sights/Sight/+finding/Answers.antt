@@ -48,13 +48,13 @@ faultless_fold-elements-preserved-then-is_true t c =
     let passed : Value = c.in_ok-passed.passed in
     let value : Value = c.in_ok-value.value in
     let same : k - 1 + 1 ≡ k = omega arith in
-    let steps : steps_at r (k - 1) ≡ step_of hop ∷ steps_at r k = c.in-Some-at.ensures.step ∙ ap (λ (m : ℕ). step_of hop ∷ steps_at r m) same in
+    let steps : steps_at r (k - 1) ≡ step_of r.graph.now hop ∷ steps_at r k = c.in-Some-at.ensures.step ∙ ap (λ (m : ℕ). step_of r.graph.now hop ∷ steps_at r m) same in
     let others : List (Result (List Value) Fault) = elements_at f head test body w (steps_at r k) in
-    let sees : evaluated test (entered w head (step_of hop) f.filter) ≡ plain (Ok passed) = search (rules, scope_lemmas) in
-    let takes : evaluated body (entered w head (step_of hop) f.body) ≡ plain (Ok value) = search (rules, scope_lemmas) in
+    let sees : evaluated test (entered w head (step_of r.graph.now hop) f.filter) ≡ plain (Ok passed) = search (rules, scope_lemmas) in
+    let takes : evaluated body (entered w head (step_of r.graph.now hop) f.body) ≡ plain (Ok value) = search (rules, scope_lemmas) in
     let holds : is_true passed ≡ true = sym c.is_true.ensures ∙ c.if-is_true.true in
-    let one : element f.word (settled (evaluated test (entered w head (step_of hop) f.filter))) (settled (evaluated body (entered w head (step_of hop) f.body))) ≡ Ok (members_of f.word value) =
-    ap (λ (e : Evaluated). element f.word (settled e) (settled (evaluated body (entered w head (step_of hop) f.body)))) sees
+    let one : element f.word (settled (evaluated test (entered w head (step_of r.graph.now hop) f.filter))) (settled (evaluated body (entered w head (step_of r.graph.now hop) f.body))) ≡ Ok (members_of f.word value) =
+    ap (λ (e : Evaluated). element f.word (settled e) (settled (evaluated body (entered w head (step_of r.graph.now hop) f.body)))) sees
     ∙ ap (λ (e : Evaluated). element f.word (Ok passed) (settled e)) takes
     ∙ passed-element f.word passed value holds in
     let more : Ok (members_of f.word value) ∷ others ≡ elements_at f head test body w (steps_at r (k - 1)) =
@@ -81,12 +81,12 @@ faultless_fold-elements-preserved-else-is_true t c =
     let k = c.elements.k in
     let passed : Value = c.in_ok-passed.passed in
     let same : k - 1 + 1 ≡ k = omega arith in
-    let steps : steps_at r (k - 1) ≡ step_of hop ∷ steps_at r k = c.in-Some-at.ensures.step ∙ ap (λ (m : ℕ). step_of hop ∷ steps_at r m) same in
+    let steps : steps_at r (k - 1) ≡ step_of r.graph.now hop ∷ steps_at r k = c.in-Some-at.ensures.step ∙ ap (λ (m : ℕ). step_of r.graph.now hop ∷ steps_at r m) same in
     let others : List (Result (List Value) Fault) = elements_at f head test body w (steps_at r k) in
-    let sees : evaluated test (entered w head (step_of hop) f.filter) ≡ plain (Ok passed) = search (rules, scope_lemmas) in
+    let sees : evaluated test (entered w head (step_of r.graph.now hop) f.filter) ≡ plain (Ok passed) = search (rules, scope_lemmas) in
     let fails : is_true passed ≡ false = sym c.is_true.ensures ∙ c.if-is_true.false in
-    let taken : Answer = settled (evaluated body (entered w head (step_of hop) f.body)) in
-    let one : element f.word (settled (evaluated test (entered w head (step_of hop) f.filter))) taken ≡ Ok [] =
+    let taken : Answer = settled (evaluated body (entered w head (step_of r.graph.now hop) f.body)) in
+    let one : element f.word (settled (evaluated test (entered w head (step_of r.graph.now hop) f.filter))) taken ≡ Ok [] =
     ap (λ (e : Evaluated). element f.word (settled e) taken) sees ∙ unpassed-element f.word passed taken fails in
     let more : Ok [] ∷ others ≡ elements_at f head test body w (steps_at r (k - 1)) =
     ap (λ (x : Result (List Value) Fault). x ∷ others) (sym one) ∙ sym (ap (elements_at f head test body w) steps) in
