@@ -6,4 +6,6 @@ mod branches;
 #[cfg(test)]
 mod deferred;
 #[cfg(test)]
+mod pieces;
+#[cfg(test)]
 mod runs;

@@ -5,12 +5,14 @@ ghost use Rattle.gm_value.specs.declared.values.VType.TheVariants.{I32};
 ghost use Rattle.gm_graph.specs.Builds.{types_of};
 
 use gm_ast::forms::Work;
+use gm_ast::tree::Stmt;
 use gm_base::{Items, NoMemory};
 use gm_canon::verdict;
 use gm_columns::Column;
+use gm_cut::pieces::cut_bodies;
 use gm_dissect::all_deferred::deferred_out;
 use gm_dissect::conditions::save_conditions;
-use gm_graph::{Graph, RawGraph, Shape, build};
+use gm_graph::{Graph, RawGraph, Shape, Walks, build};
 use gm_meaning::{evaluate, work_of};
 use gm_value::{VType, Value};
 use std::alloc::{AllocError, Global};
@@ -37,6 +39,7 @@ fn cycle_with_tail(alloc: Global) -> Result<Graph, NoMemory> {
         shape: Shape {
             nodes: Items::new(Vec::new(alloc)),
             edges: Items::new(vec![in alloc; VType::I32]?),
+            walks: Walks::BothWays,
         },
         from: Items::new(vec![in alloc; 0u64, 1, 2, 2, 2, 3]?),
         to: Items::new(vec![in alloc; 1u64, 2, 0, 3, 3, 3]?),
@@ -53,6 +56,7 @@ fn no_nodes(alloc: Global) -> Result<Graph, NoMemory> {
         shape: Shape {
             nodes: Items::new(Vec::new(alloc)),
             edges: Items::new(vec![in alloc; VType::I32]?),
+            walks: Walks::BothWays,
         },
         from: Items::new(Vec::new(alloc)),
         to: Items::new(Vec::new(alloc)),
@@ -138,6 +142,72 @@ pub fn variables(alloc: Global, body: &str, passes: u32) -> Result<Option<usize>
         Some(program) => {
             let program = after(alloc, program, passes)?;
             Ok(Some(program.tree().declarations.len()))
+        }
+    }
+}
+
+// How a text's program ends on a graph with its deferred writes out and its bodies in pieces.
+fn ending_in_pieces(alloc: Global, text: &str, graph: &Graph) -> Result<String, NoMemory> {
+    match work(alloc, text)? {
+        None => Ok(String::from_str(alloc, "refused")?),
+        Some(program) => {
+            let program = deferred_out(alloc, program)?;
+            let program = cut_bodies(alloc, program)?;
+            ending(alloc, &program, graph)
+        }
+    }
+}
+
+// Whether a body's run ends the same, or does not, with its loops in pieces.
+fn ends_in_pieces(
+    rt: &impl Abort,
+    alloc: Global,
+    body: &str,
+    graph: &Graph,
+    same: bool,
+) -> Result<(), Fail> {
+    let text = procedure(alloc, body)?;
+    let before = ending_after(alloc, text.as_str(), graph, 0)?;
+    assert!(rt; before.as_str() != "refused", "{body}");
+    let after = ending_in_pieces(alloc, text.as_str(), graph)?;
+    assert!(rt; (after.as_str() == before.as_str()) == same, "{body}");
+    Ok(())
+}
+
+// Whether each of some bodies ends the same in pieces, on a small graph and on the empty one.
+pub fn all_same_in_pieces(rt: &impl Abort, alloc: Global, bodies: &[&str]) -> Result<(), Fail> {
+    let graph = cycle_with_tail(alloc)?;
+    let empty = no_nodes(alloc)?;
+    for body in bodies {
+        ends_in_pieces(rt, alloc, body, &graph, true)?;
+        ends_in_pieces(rt, alloc, body, &empty, true)?;
+    }
+    Ok(())
+}
+
+// Whether each of some bodies ends otherwise in pieces on a small graph.
+pub fn all_differ_in_pieces(rt: &impl Abort, alloc: Global, bodies: &[&str]) -> Result<(), Fail> {
+    let graph = cycle_with_tail(alloc)?;
+    for body in bodies {
+        ends_in_pieces(rt, alloc, body, &graph, false)?;
+    }
+    Ok(())
+}
+
+// How many loops the pieces of a body's last loop make, if it is cut.
+pub fn count_pieces(alloc: Global, body: &str) -> Result<Option<usize>, NoMemory> {
+    let text = procedure(alloc, body)?;
+    match work(alloc, text.as_str())? {
+        None => Ok(None),
+        Some(program) => {
+            let program = cut_bodies(alloc, program)?;
+            match &program.tree().body {
+                Stmt::Block(stmts) => match stmts.last() {
+                    Some(Stmt::Block(loops)) => Ok(Some(loops.len())),
+                    _ => Ok(None),
+                },
+                _ => Ok(None),
+            }
         }
     }
 }

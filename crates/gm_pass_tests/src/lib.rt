@@ -12,6 +12,8 @@ mod folds;
 #[cfg(test)]
 mod groups;
 #[cfg(test)]
+mod hoisting;
+#[cfg(test)]
 mod literals;
 #[cfg(test)]
 mod reads;

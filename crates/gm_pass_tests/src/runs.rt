@@ -9,7 +9,9 @@ use gm_desugar::conditions::conditions_out;
 use gm_desugar::groups::groups_out;
 use gm_desugar::literals::literals_out;
 use gm_desugar::reads::reads_out;
-use gm_graph::{Graph, RawGraph, Shape, build};
+use gm_desugaring::phases::desugar_phases;
+use gm_graph::{Graph, RawGraph, Shape, Walks, build};
+use gm_hoisting::hoisting::inner_folds_out;
 use gm_meaning::{evaluate, work_of};
 use gm_reductions::accesses::accesses_out;
 use gm_reductions::folds::folds_out;
@@ -24,6 +26,7 @@ fn cycle_with_tail(alloc: Global) -> Result<Graph, NoMemory> {
         shape: Shape {
             nodes: Items::new(Vec::new(alloc)),
             edges: Items::new(Vec::new(alloc)),
+            walks: Walks::BothWays,
         },
         from: Items::new(Vec::from_slice(alloc, &[0u64, 1, 2, 2, 2])?),
         to: Items::new(Vec::from_slice(alloc, &[1u64, 2, 0, 3, 3])?),
@@ -40,6 +43,7 @@ fn no_nodes(alloc: Global) -> Result<Graph, NoMemory> {
         shape: Shape {
             nodes: Items::new(Vec::new(alloc)),
             edges: Items::new(Vec::new(alloc)),
+            walks: Walks::BothWays,
         },
         from: Items::new(Vec::new(alloc)),
         to: Items::new(Vec::new(alloc)),
@@ -58,10 +62,16 @@ fn work(alloc: Global, text: &str) -> Result<Option<Work>, NoMemory> {
     }
 }
 
+// All passes of the sequential phase in one call, behind the passes one by one.
+const TOGETHER: u32 = 9;
+
 // A program after so many passes.
 fn after(alloc: Global, program: Work, passes: u32) -> Result<Work, NoMemory> {
     if passes == 0 {
         return Ok(program);
+    }
+    if passes == TOGETHER {
+        return desugar_phases(alloc, program);
     }
     let program = groups_out(alloc, program)?;
     if passes == 1 {
@@ -87,7 +97,11 @@ fn after(alloc: Global, program: Work, passes: u32) -> Result<Work, NoMemory> {
     if passes == 6 {
         return Ok(program);
     }
-    folds_out(alloc, program)
+    let program = folds_out(alloc, program)?;
+    if passes == 7 {
+        return Ok(program);
+    }
+    inner_folds_out(alloc, program)
 }
 
 // How a run ends, in words.
@@ -131,7 +145,7 @@ fn same_on(rt: &impl Abort, alloc: Global, body: &str, graph: &Graph) -> Result<
     let text = procedure(alloc, body)?;
     let before = ending_after(alloc, text.as_str(), graph, 0)?;
     assert!(rt; before.as_str() != "refused", "{body}");
-    for passes in 1..=7u32 {
+    for passes in 1..=TOGETHER {
         let ending = ending_after(alloc, text.as_str(), graph, passes)?;
         assert_eq!(rt; ending.as_str(), before.as_str(), "{body}");
     }
