@@ -6,11 +6,9 @@ use Rattle.std.proofs.lemmas.List.{length-map, get_or_default}
 use Rattle.std.proofs.lemmas.List.Elements.{Contains-get_or, Contains-append_left, Contains-append_right, All-weaker}
 use Rattle.gm_value.specs.declared.values.Value.{Value}
 use Rattle.gm_graph.specs.declared.builds.RawGraph.{RawGraph}
-use Rattle.gm_graph.specs.declared.groups.Groups.{Groups}
 use Rattle.gm_columns.specs.Columns.{TypedRow}
 use Rattle.gm_graph.specs.Builds.{IsBuildable, distinct, numbers_of, spread_out}
 use Rattle.gm_graph.specs.Spreads.{IsRowOf, HasRow, value_in}
-use Rattle.gm_graph.specs.Rows.{IsGrouped, IsGroupedWith}
 use Rattle.gm_graph.proofs.Building.{numbers-few, rows-few, columns-spread, spread-rows}
 
 -- the ascending numbers that name nodes
@@ -33,13 +31,7 @@ numbering-as raw numbers known from to extra same a b e up members =
     let P : List ℕ → Type 0 = λ l. IsNumbering raw l in
     subst P (sym same) (numbering raw known from to extra a b e up members)
 
--- there are no more different numbers in the lists that were lent
-pub lent-few : (raw : RawGraph) (from to extra : List ℕ) → from ≡ raw.from → to ≡ raw.to → extra ≡ raw.extra → IsBuildable raw → length (distinct (from ++ to ++ extra)) ≤ 2147483647
-lent-few raw from to extra a b e can =
-    let P : List ℕ → Type 0 = λ l. length (distinct l) ≤ 2147483647 in
-    let same : from ++ to ++ extra ≡ numbers_of raw = cc in
-    subst P (sym same) can.few_nodes
-
+-- there are few of them
 pub nodes-few : (raw : RawGraph) (numbers : List ℕ) → IsBuildable raw → IsNumbering raw numbers → length numbers ≤ 2147483647
 nodes-few raw numbers can held = omega (arith, numbers-few numbers (numbers_of raw) held.ascending held.members, can.few_nodes)
 
@@ -99,21 +91,6 @@ ends-length f xs ys e = sym (length-map xs f) ∙ ap length e
 
 pub within-as : (a b : ℕ) (xs : List ℕ) → a ≡ b → All (λ n. n < a) xs → All (λ n. n < b) xs
 within-as a b xs e h = let P : ℕ → Type 0 = λ m. All (λ n. n < m) xs in subst P e h
-
--- groups by the lists that were lent
-pub grouped-as : (a b : ℕ) (keys others xs ys : List ℕ) (g : Groups) → a ≡ b → keys ≡ xs → others ≡ ys → IsGrouped a keys others g → IsGrouped b xs ys g
-grouped-as a b keys others xs ys g e f h held =
-    let P : ℕ → Type 0 = λ m. IsGrouped m keys others g in
-    let Q : List ℕ → Type 0 = λ l. IsGrouped b l others g in
-    let R : List ℕ → Type 0 = λ l. IsGrouped b xs l g in
-    subst R h (subst Q f (subst P e held))
-
-pub grouped-with-as : (a b : ℕ) (keys others xs ys numbers : List ℕ) (g : Groups) → a ≡ b → keys ≡ xs → others ≡ ys → IsGroupedWith a keys others numbers g → IsGroupedWith b xs ys numbers g
-grouped-with-as a b keys others xs ys numbers g e f h held =
-    let P : ℕ → Type 0 = λ m. IsGroupedWith m keys others numbers g in
-    let Q : List ℕ → Type 0 = λ l. IsGroupedWith b l others numbers g in
-    let R : List ℕ → Type 0 = λ l. IsGroupedWith b xs l numbers g in
-    subst R h (subst Q f (subst P e held))
 
 pub lengths-as : (a b : ℕ) (xs ys : List TypedRow) → a ≡ b → ys ≡ xs → All (λ c. length c.values ≡ a) xs → All (λ c. length c.values ≡ b) ys
 lengths-as a b xs ys e f h =

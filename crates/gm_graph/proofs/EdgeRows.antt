@@ -1,7 +1,6 @@
 -- What the rows of the edges say of a graph, when it is put together.
-use Rattle.std.proofs.Common.{◌≡◌, ◌<◌, ◌≤◌, ℕ, List, Option, map, length, refl, sym, subst, ◌∙◌, ap, arith}
+use Rattle.std.proofs.Common.{◌≡◌, ◌<◌, ◌≤◌, ℕ, List, Option, map, length, sym, subst, ◌∙◌, ap, arith}
 use Rattle.std.specs.Prelude.{slice_index, All, IfSome}
-use Rattle.std.proofs.lemmas.Option.{IfSome_then}
 use Rattle.gm_columns.specs.Columns.{TypedRow}
 use Rattle.gm_model.specs.Graphs.{Edge, IsWithin}
 use Rattle.gm_graph.specs.declared.builds.RawGraph.{RawGraph}
@@ -9,11 +8,18 @@ use Rattle.gm_graph.specs.declared.groups.Groups.{Groups}
 use Rattle.gm_graph.specs.Builds.{IsBuildable}
 use Rattle.gm_graph.specs.Rows.{edge_list, sources_in, targets_in, rows_by_line, value_at, by_line, IsGrouped, IsGroupedWith}
 use Rattle.gm_graph.proofs.Building.{map-from, map-to, edges-within}
-use Rattle.gm_graph.proofs.Assembly.{ends-length, within-as, grouped-as, grouped-with-as}
+use Rattle.gm_graph.proofs.Assembly.{ends-length, within-as}
 use Rattle.gm_graph.proofs.Lines.{lines-below-all, sources-are, targets-are}
 use Rattle.gm_graph.proofs.ByLine.{columns-back, placed-rows}
 
--- the rows of edges between so many nodes
+-- the ends of edges between so many nodes, by line
+pub record AreEnds (nodes : ℕ) (ss ts : List ℕ) : Type 0 where
+  pub long : length ts ≡ length ss
+  pub few : length ss ≤ 2147483647
+  pub from_within : All (λ n. n < nodes) ss
+  pub to_within : All (λ n. n < nodes) ts
+
+-- the rows of these edges
 pub record AreRows (nodes : ℕ) (ss ts : List ℕ) (out : Groups) (inw : Option Groups) : Type 0 where
   pub long : length ts ≡ length ss
   pub few : length ss ≤ 2147483647
@@ -22,20 +28,31 @@ pub record AreRows (nodes : ℕ) (ss ts : List ℕ) (out : Groups) (inw : Option
   pub out_rows : IsGrouped nodes ss ts out
   pub in_rows : IfSome inw (IsGroupedWith nodes ts ss (rows_by_line out))
 
--- the rows of the edges that a graph is made of, by the lists that were lent
-pub grouped : (raw : RawGraph) (known numbers ss ts from to a b d e : List ℕ) (count : ℕ) (out : Groups) (inw : Option Groups) → IsBuildable raw → numbers ≡ known → from ≡ raw.from → to ≡ raw.to → All (λ n. n < length known) ss → All (λ n. n < length known) ts → map (slice_index known) ss ≡ from → map (slice_index known) ts ≡ to → count ≡ length numbers → a ≡ ss → b ≡ ts → d ≡ ts → e ≡ ss → IsGrouped count a b out → IfSome inw (IsGroupedWith count d e (rows_by_line out)) → AreRows (length numbers) ss ts out inw
-grouped raw known numbers ss ts from to a b d e count out inw can same f t from_in to_in from_are to_are nodes is_a is_b is_d is_e outward inward =
-    let from_count = ends-length (slice_index known) ss from from_are in
-    let to_count = ends-length (slice_index known) ts to to_are in
-    let fits : length ss ≡ length raw.from = from_count ∙ ap length f in
+-- the indices of the numbers between which the edges lead are their ends
+pub ends : (raw : RawGraph) (known numbers ss ts : List ℕ) (count : ℕ) → IsBuildable raw → numbers ≡ known → All (λ n. n < length known) ss → All (λ n. n < length known) ts → map (slice_index known) ss ≡ raw.from → map (slice_index known) ts ≡ raw.to → count ≡ length numbers → AreEnds count ss ts
+ends raw known numbers ss ts count can same from_in to_in from_are to_are nodes =
+    let from_count = ends-length (slice_index known) ss raw.from from_are in
+    let to_count = ends-length (slice_index known) ts raw.to to_are in
+    let size : length known ≡ count = ap length (sym same) ∙ sym nodes in
     record {
-      long = to_count ∙ (ap length t ∙ (can.both_ends ∙ sym fits));
-      few = omega (arith, fits, can.few_edges);
-      from_within = within-as (length known) (length numbers) ss (ap length (sym same)) from_in;
-      to_within = within-as (length known) (length numbers) ts (ap length (sym same)) to_in;
-      out_rows = grouped-as count (length numbers) a b ss ts out nodes is_a is_b outward;
-      in_rows = IfSome_then inw inward (λ i h. grouped-with-as count (length numbers) d e ts ss (rows_by_line out) i nodes is_d is_e h);
+      long = to_count ∙ (can.both_ends ∙ sym from_count);
+      few = omega (arith, from_count, can.few_edges);
+      from_within = within-as (length known) count ss size from_in;
+      to_within = within-as (length known) count ts size to_in;
     }
+
+-- the rows of these edges, when they are grouped
+pub grouped : (nodes count : ℕ) (ss ts : List ℕ) (out : Groups) (inw : Option Groups) → count ≡ nodes → AreEnds count ss ts → IsGrouped count ss ts out → IfSome inw (IsGroupedWith count ts ss (rows_by_line out)) → AreRows nodes ss ts out inw
+grouped nodes count ss ts out inw same held outward inward =
+    let P : ℕ → Type 0 = λ m. AreRows m ss ts out inw in
+    subst P same (record {
+      long = held.long;
+      few = held.few;
+      from_within = held.from_within;
+      to_within = held.to_within;
+      out_rows = outward;
+      in_rows = inward;
+    })
 
 -- the ends of the edges are those that the rows show
 pub from-shown : (nodes : ℕ) (ss ts : List ℕ) (out : Groups) (inw : Option Groups) → AreRows nodes ss ts out inw → sources_in out ≡ ss
@@ -110,27 +127,3 @@ from-numbers nodes ss ts numbers ends out inw held same =
 pub to-numbers : (nodes : ℕ) (ss ts numbers ends : List ℕ) (out : Groups) (inw : Option Groups) → AreRows nodes ss ts out inw → map (slice_index numbers) ts ≡ ends → map (λ e. slice_index numbers e.to) (edge_list (sources_in out) (targets_in out)) ≡ ends
 to-numbers nodes ss ts numbers ends out inw held same =
     ap (map (λ (e : Edge). slice_index numbers e.to)) (edges-shown nodes ss ts out inw held) ∙ (map-to (slice_index numbers) ss ts (sym held.long) ∙ same)
-
--- the rows of edges are asked for by the lists that were lent
-pub record AreLent (count : ℕ) (d e : List ℕ) (out : Groups) : Type 0 where
-  pub to_within : All (λ n. n < count) d
-  pub from_within : All (λ n. n < count) e
-  pub ends : length e ≡ length d
-  pub few : length d ≤ 2147483647
-  pub out_rows : IsGrouped count e d out
-
-pub lent : (raw : RawGraph) (known numbers ss ts from to a b d e : List ℕ) (count : ℕ) (out : Groups) → IsBuildable raw → numbers ≡ known → from ≡ raw.from → to ≡ raw.to → All (λ n. n < length known) ss → All (λ n. n < length known) ts → map (slice_index known) ss ≡ from → map (slice_index known) ts ≡ to → count ≡ length numbers → a ≡ ss → b ≡ ts → d ≡ ts → e ≡ ss → IsGrouped count a b out → AreLent count d e out
-lent raw known numbers ss ts from to a b d e count out can same f t from_in to_in from_are to_are nodes is_a is_b is_d is_e outward =
-    let from_count = ends-length (slice_index known) ss from from_are in
-    let to_count = ends-length (slice_index known) ts to to_are in
-    let fits : length ss ≡ length raw.from = from_count ∙ ap length f in
-    let long : length ts ≡ length ss = to_count ∙ (ap length t ∙ (can.both_ends ∙ sym fits)) in
-    let P : List ℕ → Type 0 = λ l. All (λ n. n < count) l in
-    let size : length known ≡ count = ap length (sym same) ∙ sym nodes in
-    record {
-      to_within = subst P (sym is_d) (within-as (length known) count ts size to_in);
-      from_within = subst P (sym is_e) (within-as (length known) count ss size from_in);
-      ends = ap length is_e ∙ (sym long ∙ sym (ap length is_d));
-      few = omega (arith, ap length is_d, long, fits, can.few_edges);
-      out_rows = grouped-as count count a b e d out refl (is_a ∙ sym is_e) (is_b ∙ sym is_d) outward;
-    }

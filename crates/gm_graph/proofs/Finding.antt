@@ -1,5 +1,5 @@
 -- What a search among all edges finds.
-use Rattle.std.proofs.Common.{◌≡◌, ◌≢◌, ◌<◌, ◌≤◌, ◌+◌, inl, inr, ℕ, List, map, length, take, get_or, Some, refl, sym, subst, ◌∙◌, ap, arith}
+use Rattle.std.proofs.Common.{◌≡◌, ◌≢◌, ◌<◌, ◌≤◌, ◌+◌, inl, inr, ℕ, List, length, take, get_or, Some, sym, subst, ◌∙◌, ap, arith}
 use Rattle.std.specs.Prelude.{slice_index, slice_get}
 use Rattle.std.proofs.lemmas.Bool.{cases_eq}
 use Rattle.std.proofs.lemmas.List.{get_or-map, take_all}
@@ -8,7 +8,7 @@ use Rattle.gm_graph.specs.declared.graphs.Graph.TheInside.{Inside}
 use Rattle.gm_graph.specs.declared.groups.Groups.{Groups}
 use Rattle.gm_graph.specs.Rows.{count_below, count_of, edge_list, node_at, numbered, place_of, row_of, rows_by_line, sources_in, targets_in, IsHeld}
 use Rattle.gm_graph.specs.Walks.{edge_at}
-use Rattle.gm_graph.proofs.Grouping.{count_of-at, count_of-more, same, same-other, same-self}
+use Rattle.gm_graph.proofs.Grouping.{count_of-at, count_of-more, same-other, same-self}
 use Rattle.gm_graph.proofs.Ranging.{places-apart}
 use Rattle.gm_graph.proofs.Steps.{IsStepAt, step-at, steps-turned, steps_in, steps_out}
 use Rattle.gm_graph.proofs.Lines.{AreLines, length-rows, length-sources, length-targets, row-at, row-is}

@@ -7,7 +7,7 @@ use Rattle.std.proofs.lemmas.List.{get_or-map, get_or_default, length-map, ext_g
 use Rattle.std.proofs.lemmas.List.FromFn.{get_or-map-range_with_len, length-range_with_len}
 use Rattle.std.proofs.lemmas.List.Sums.{position_or_len_is}
 use Rattle.gm_graph.specs.declared.groups.Groups.{Groups}
-use Rattle.gm_graph.specs.Rows.{count_of, place_of, lines_of, row_of, rows_by_line, node_at, sources_in, targets_in, AreStarts, IsGroupedRow, IsGrouped, IsGroupedWith}
+use Rattle.gm_graph.specs.Rows.{HaveEachLine, count_of, place_of, lines_of, row_of, rows_by_line, node_at, sources_in, targets_in, AreStarts, IsGroupedRow, IsGrouped, IsGroupedWith}
 use Rattle.gm_graph.proofs.Grouping.{count_below-mono, count_below-step, count_of-at, place_of-within}
 use Rattle.gm_graph.proofs.Ranging.{IsEdgeOf, edge-of-place, count_below-all}
 use Rattle.gm_graph.proofs.Steps.{line-at}
@@ -129,4 +129,16 @@ renumbered-with nodes keys others numbers old new held within starts others_are 
             ∙ (get_or-map (slice_index numbers) old.edges.items (place_of keys e) 0 0 (omega (arith, held.edges_row.len, place_of-within keys e h))
             ∙ ap (slice_index numbers) (at-place nodes e keys old.edges.items lines h));
       };
+    }
+
+-- the rows of edges that are grouped have each line once
+pub each-line : (nodes : ℕ) (keys others : List ℕ) (groups : Groups) → IsGrouped nodes keys others groups → All (λ key. key < nodes) keys → HaveEachLine groups.edges.items
+each-line nodes keys others groups held within =
+    let lines : AreLines nodes keys groups.edges.items = record { row = held.edges_row; within = within } in
+    let count : length groups.edges.items ≡ length keys = held.edges_row.len in
+    let below = lines-below-all nodes keys others groups held within in
+    record {
+      within = λ k d h. omega (arith, below k d h, count);
+      each = λ line h. omega (arith, row-is nodes line keys groups.edges.items lines (omega (arith, h, count)), place_of-within keys line (omega (arith, h, count)), count);
+      once = λ row h. row-back nodes (get_or groups.edges.items row 0) row keys groups.edges.items lines (omega (arith, h, count)) refl;
     }

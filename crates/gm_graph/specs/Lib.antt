@@ -5,3 +5,4 @@ pub mod Ranges
 pub mod Spreads
 pub mod Numberings
 pub mod Lookups
+pub mod NodeNumbers

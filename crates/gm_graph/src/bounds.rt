@@ -3,6 +3,8 @@
 ghost use Rattle.std.specs.Prelude.{◌<◌, ◌≤◌, ◌-◌, ◌+◌, ◌^◌, ◌↔◌, ◌≡◌, ◌++◌, IsTrue, Contains};
 ghost use Rattle.gm_graph.specs.Numberings.{AreWithin, IsWidened};
 
+use crate::node_numbers::NodeNumbers;
+
 // The least and the greatest of some numbers. Where there is no number, the least is above the greatest.
 #[derive(Clone, Copy, Debug)]
 pub(crate) struct Bounds {
@@ -12,7 +14,7 @@ pub(crate) struct Bounds {
 
 impl Bounds {
     // The bounds of three lists of numbers.
-    pub(crate) fn of(from: &[u64], to: &[u64], extra: &[u64]) -> Self
+    pub(crate) fn of(from: &NodeNumbers, to: &NodeNumbers, extra: &NodeNumbers) -> Self
         ensures from { AreWithin result from.now }
         ensures to { AreWithin result to.now }
         ensures extra { AreWithin result extra.now }
@@ -27,13 +29,14 @@ impl Bounds {
     }
 
     // The bounds of these numbers and those of a list.
-    fn widened(self, numbers: &[u64]) -> Self
+    fn widened(self, numbers: &NodeNumbers) -> Self
         ensures { IsWidened self numbers.now result }
     {
         let mut bounds = self;
-        for number in numbers {
-            bounds.least = bounds.least.min(*number);
-            bounds.greatest = bounds.greatest.max(*number);
+        for place in 0..numbers.len() {
+            let number = numbers.get(place);
+            bounds.least = bounds.least.min(number);
+            bounds.greatest = bounds.greatest.max(number);
         }
         bounds
     }

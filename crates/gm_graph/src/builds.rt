@@ -1,12 +1,13 @@
 //! The making of a graph from its lines.
 
-ghost use Rattle.std.specs.Prelude.{◌≡◌, ◌<◌, ◌≤◌, ℕ, All, IfOk, IfSome, length, map, slice_index};
+ghost use Rattle.std.specs.Prelude.{◌≡◌, ◌<◌, ◌≤◌, All, IfOk, IfSome, length, map, vec_len};
 ghost use Rattle.gm_graph.specs.Builds.{IsBuildable, IsBuiltOf, HasShape};
-ghost use Rattle.gm_graph.specs.Rows.{IsGrouped, IsGroupedWith, count_below, lines_of, place_of, rows_by_line, value_at};
+ghost use Rattle.gm_graph.specs.Rows.{HaveEachLine, IsGrouped, IsGroupedWith, lines_of, row_of, rows_by_line, value_at};
 ghost use Rattle.gm_columns.specs.Columns.{CanHold};
 
 use crate::graphs::Graph;
 use crate::groups::Groups;
+use crate::node_numbers::NodeNumbers;
 use crate::numberings::Numbering;
 use crate::rows::{rows_of, spread_all};
 use gm_base::{Items, NoMemory};
@@ -40,10 +41,10 @@ pub struct Shape {
 #[derive(Debug, Drop)]
 pub struct RawGraph {
     pub shape: Shape,
-    pub from: Items<u64>,
-    pub to: Items<u64>,
+    pub from: NodeNumbers,
+    pub to: NodeNumbers,
     pub edge_columns: Items<Column>,
-    pub extra: Items<u64>,
+    pub extra: NodeNumbers,
     pub node_columns: Items<Column>,
 }
 
@@ -54,107 +55,103 @@ pub fn build(alloc: Global, raw: RawGraph) -> Result<Graph, NoMemory>
     ensures made { IfOk result (IsBuiltOf raw) }
     ensures shape { IfOk result (HasShape raw.shape) }
 {
-    let numbering = Numbering::new(
-        alloc,
-        raw.from.as_slice(),
-        raw.to.as_slice(),
-        raw.extra.as_slice(),
-    )?;
-    let sources = numbering.indices(alloc, raw.from.as_slice())?;
+    let numbering = Numbering::new(alloc, &raw.from, &raw.to, &raw.extra)?;
+    let sources = numbering.indices(alloc, &raw.from)?;
     drop(raw.from);
-    let targets = numbering.indices(alloc, raw.to.as_slice())?;
+    let targets = numbering.indices(alloc, &raw.to)?;
     drop(raw.to);
-    let node_rows = rows_of(alloc, &numbering, raw.extra.as_slice())?;
+    let node_rows = rows_of(alloc, &numbering, &raw.extra)?;
     let numbers = numbering.into_numbers();
     let node_columns = spread_all(alloc, node_rows.as_slice(), raw.node_columns.as_slice())?;
     drop(node_rows);
-    let count = numbers.len();
-    let outward = Groups::new(alloc, sources.as_slice(), targets.as_slice(), count)?;
-    let inward = inward_for(
-        alloc,
-        raw.shape.walks,
-        targets.as_slice(),
-        sources.as_slice(),
-        &outward,
-        count,
-    )?;
-    drop(targets);
-    drop(sources);
+    let rows = edge_rows(alloc, raw.shape.walks, sources, targets, numbers.len())?;
     know_types(raw.edge_columns.as_slice());
     know_types(raw.node_columns.as_slice());
     let edge_columns = columns_by_row(
         alloc,
-        outward.edges.as_slice(),
+        rows.outward.edges.as_slice(),
         raw.edge_columns.as_slice(),
     )?;
     Ok(Graph {
         numbers,
-        outward,
-        inward,
+        outward: rows.outward,
+        inward: rows.inward,
         node_columns,
         edge_columns,
     })
 }
 
-// The edges grouped by the nodes to which they lead, where a walk asks for them.
-fn inward_for(
+// The edges in rows: grouped by the nodes from which they lead, with the line of each, and, where a walk asks for them, by
+// the nodes to which they lead, with the row of each among the others.
+#[derive(Debug, Drop)]
+struct EdgeRows {
+    outward: Groups,
+    inward: Option<Groups>,
+}
+
+// The rows of the edges whose ends stand by line, for some walks.
+fn edge_rows(
     alloc: Global,
     walks: Walks,
-    targets: &[u32],
-    sources: &[u32],
-    outward: &Groups,
+    sources: Vec<u32>,
+    targets: Vec<u32>,
     nodes: usize,
-) -> Result<Option<Groups>, NoMemory>
-    requires targets_within { All (λ node. node < nodes) targets.now }
-    requires sources_within { All (λ node. node < nodes) sources.now }
-    requires ends { length sources.now ≡ length targets.now }
-    requires few_edges { length targets.now ≤ 2147483647 }
+) -> Result<EdgeRows, NoMemory>
+    requires sources_within { All (λ node. node < nodes) sources.items }
+    requires targets_within { All (λ node. node < nodes) targets.items }
+    requires ends { vec_len targets ≡ vec_len sources }
+    requires few_edges { vec_len sources ≤ 2147483647 }
     requires few_nodes { nodes ≤ 2147483647 }
-    requires outward { IsGrouped nodes sources.now targets.now outward.now }
-    ensures { IfOk result (λ inward. IfSome inward (IsGroupedWith nodes targets.now sources.now (rows_by_line outward.now))) }
+    ensures outward { IfOk result (λ rows. IsGrouped nodes sources.items targets.items rows.outward) }
+    ensures inward { IfOk result (λ rows. IfSome rows.inward
+        (IsGroupedWith nodes targets.items sources.items (rows_by_line rows.outward))) }
 {
     match walks {
-        Walks::Outward => Ok(None),
-        Walks::BothWays => Ok(Some(inward_of(alloc, targets, sources, outward, nodes)?)),
+        Walks::Outward => Ok(EdgeRows {
+            outward: Groups::new(alloc, sources, targets, nodes)?,
+            inward: None,
+        }),
+        Walks::BothWays => rows_both_ways(alloc, sources, targets, nodes),
     }
 }
 
-// The edges grouped by the nodes to which they lead, with the row of each among those that are grouped by the nodes from which
-// they lead.
-fn inward_of(
+// The rows of the edges for walks both ways.
+fn rows_both_ways(
     alloc: Global,
-    targets: &[u32],
-    sources: &[u32],
-    outward: &Groups,
+    sources: Vec<u32>,
+    targets: Vec<u32>,
     nodes: usize,
-) -> Result<Groups, NoMemory>
-    requires targets_within { All (λ node. node < nodes) targets.now }
-    requires sources_within { All (λ node. node < nodes) sources.now }
-    requires ends { length sources.now ≡ length targets.now }
-    requires few_edges { length targets.now ≤ 2147483647 }
+) -> Result<EdgeRows, NoMemory>
+    requires sources_within { All (λ node. node < nodes) sources.items }
+    requires targets_within { All (λ node. node < nodes) targets.items }
+    requires ends { vec_len targets ≡ vec_len sources }
+    requires few_edges { vec_len sources ≤ 2147483647 }
     requires few_nodes { nodes ≤ 2147483647 }
-    requires outward { IsGrouped nodes sources.now targets.now outward.now }
-    ensures { IfOk result (IsGroupedWith nodes targets.now sources.now (rows_by_line outward.now)) }
+    ensures outward { IfOk result (λ rows. IsGrouped nodes sources.items targets.items rows.outward) }
+    ensures inward { IfOk result (λ rows. IfSome rows.inward
+        (IsGroupedWith nodes targets.items sources.items (rows_by_line rows.outward))) }
 {
-    let inward = Groups::new(alloc, targets, sources, nodes)?;
-    let rows = places(alloc, sources, outward.starts.as_slice())?;
-    Ok(inward.renumbered(rows.as_slice()))
+    let keys = Vec::from_slice(alloc, sources.as_slice())?;
+    let others = Vec::from_slice(alloc, targets.as_slice())?;
+    let outward = Groups::new(alloc, keys, others, nodes)?;
+    let by_target = Groups::new(alloc, targets, sources, nodes)?;
+    let rows = rows_of_lines(alloc, outward.edges.as_slice())?;
+    let inward = by_target.renumbered(rows.as_slice());
+    Ok(EdgeRows {
+        outward,
+        inward: Some(inward),
+    })
 }
 
-// The place of each edge among the edges that are grouped by their keys.
-fn places(alloc: Global, keys: &[u32], starts: &[u32]) -> Result<Vec<u32>, NoMemory>
-    requires keys_within { All (λ key. key < length starts.now) keys.now }
-    requires few_keys { length keys.now ≤ 2147483647 }
-    requires starts_at { (n : ℕ) → n < length starts.now → slice_index starts.now n ≡ count_below n keys.now }
-    ensures { IfOk result (λ rows. rows.items ≡ map (place_of keys.now) (lines_of (length keys.now))) }
+// The row of each line. The rows have these lines.
+fn rows_of_lines(alloc: Global, lines: &[u32]) -> Result<Vec<u32>, NoMemory>
+    requires few { length lines.now ≤ 2147483647 }
+    requires whole { HaveEachLine lines.now }
+    ensures { IfOk result (λ rows. rows.items ≡ map (row_of lines.now) (lines_of (length lines.now))) }
 {
-    let mut next = starts.to_vec(alloc)?;
-    let mut rows = vec![in alloc; 0u32; keys.len()]?;
-    for line in 0..keys.len() {
-        let key = keys[line] as usize;
-        let row = next[key];
-        next[key] = row + 1;
-        rows[line] = row;
+    let mut rows = vec![in alloc; 0u32; lines.len()]?;
+    for (row, line) in lines.iter().enumerate() {
+        rows[*line as usize] = row as u32;
     }
     Ok(rows)
 }

@@ -138,7 +138,8 @@ impl Graph {
         )
     }
 
-    /// How many edges lead to a node.
+    /// How many edges lead to a node. Where the graph was made for walks outward alone they are searched for, in time that
+    /// grows with the square of the number of all edges.
     pub fn in_degree(&self, node: u32) -> u32
         requires { HasNode self.now node }
         ensures degree { result ≡ length (in_steps self.now node) }
@@ -150,7 +151,8 @@ impl Graph {
         }
     }
 
-    /// The k-th edge that leads to a node, from 0 and in the order of the lines: its place among all edges.
+    /// The k-th edge that leads to a node, from 0 and in the order of the lines: its place among all edges. Where the graph
+    /// was made for walks outward alone it is searched for, as by `in_degree`.
     pub fn in_edge(&self, node: u32, k: u32) -> u32
         requires node { HasNode self.now node }
         requires step { HasStep (in_steps self.now node) k }
@@ -160,7 +162,8 @@ impl Graph {
         self.outward.edges[self.in_row(node, k) as usize]
     }
 
-    /// The row of the k-th edge that leads to a node, from 0 and in the order of the lines: its place in the walk.
+    /// The row of the k-th edge that leads to a node, from 0 and in the order of the lines: its place in the walk. Where the
+    /// graph was made for walks outward alone it is searched for, as by `in_degree`.
     pub fn in_row(&self, node: u32, k: u32) -> u32
         requires node { HasNode self.now node }
         requires step { HasStep (in_steps self.now node) k }
@@ -173,7 +176,8 @@ impl Graph {
         }
     }
 
-    /// The node from which the k-th edge leads that leads to a node, from 0 and in the order of the lines.
+    /// The node from which the k-th edge leads that leads to a node, from 0 and in the order of the lines. Where the graph
+    /// was made for walks outward alone it is searched for, as by `in_degree`.
     pub fn in_source(&self, node: u32, k: u32) -> u32
         requires node { HasNode self.now node }
         requires step { HasStep (in_steps self.now node) k }
@@ -189,7 +193,8 @@ impl Graph {
         }
     }
 
-    /// The value in an edge column at the k-th edge that leads to a node.
+    /// The value in an edge column at the k-th edge that leads to a node. Where the graph was made for walks outward alone
+    /// the edge is searched for, as by `in_degree`.
     pub fn in_value(&self, node: u32, k: u32, column: u32) -> Value
         requires node { HasNode self.now node }
         requires step { HasStep (in_steps self.now node) k }

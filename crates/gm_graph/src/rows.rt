@@ -5,6 +5,7 @@ ghost use Rattle.std.specs.List.Sorted.{IsStrictlyIncreasing};
 ghost use Rattle.gm_columns.specs.Columns.{CanHold};
 ghost use Rattle.gm_graph.specs.Spreads.{IsRowOf, HasRow, value_in};
 
+use crate::node_numbers::NodeNumbers;
 use crate::numberings::Numbering;
 use gm_base::NoMemory;
 use gm_columns::Column;
@@ -18,7 +19,7 @@ const NO_ROW: u32 = u32::MAX;
 pub(crate) fn rows_of(
     alloc: Global,
     numbers: &Numbering,
-    extra: &[u64],
+    extra: &NodeNumbers,
 ) -> Result<Vec<u32>, NoMemory>
     requires ascending { IsStrictlyIncreasing numbers.now }
     requires few_rows { length extra.now ≤ 2147483647 }
@@ -28,8 +29,9 @@ pub(crate) fn rows_of(
         → IsRowOf extra.now (length extra.now) (slice_index numbers.now k) (slice_index rows.items k)) }
 {
     let mut rows = vec![in alloc; NO_ROW; numbers.len()]?;
-    for (row, number) in extra.iter().enumerate() {
-        rows[numbers.index_of(*number) as usize] = row as u32;
+    for row in 0..extra.len() {
+        let node = numbers.index_of(extra.get(row));
+        rows[node as usize] = row as u32;
     }
     Ok(rows)
 }

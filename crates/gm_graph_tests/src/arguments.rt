@@ -3,7 +3,7 @@ ghost use Rattle.std.specs.Prelude.{◌≡◌, IfOk};
 ghost use Rattle.gm_words.specs.Jobs.{AllAssign};
 
 use gm_base::{Items, NoMemory, Text};
-use gm_graph::{Graph, RawGraph, Shape, Walks, build};
+use gm_graph::{Graph, NodeNumbers, RawGraph, Shape, Walks, build};
 use gm_value::{VType, Value};
 use gm_words::{ArgFault, Input, Job, bind, read_words};
 use std::alloc::{AllocError, Global};
@@ -75,21 +75,15 @@ v=9223372036854775806 => argument NoSuchNode v
 v=9223372036854775808 => argument BadValue v
 v=18446744073709551623 => argument BadValue v";
 
-fn numbers_of(alloc: Global, numbers: &[u64]) -> Result<Items<u64>, AllocError>
-    ensures { IfOk result (λ items. items ≡ numbers.now) }
-{
-    Ok(Items::new(Vec::from_slice(alloc, numbers)?))
-}
-
 fn small_graph(alloc: Global) -> Result<Graph, NoMemory> {
     let shape = Shape {
         nodes: Items::new(Vec::new(alloc)),
         edges: Items::new(Vec::new(alloc)),
         walks: Walks::BothWays,
     };
-    let from = numbers_of(alloc, &[0, 9223372036854775807])?;
-    let to = numbers_of(alloc, &[7, 7])?;
-    let extra = numbers_of(alloc, &[])?;
+    let from = NodeNumbers::from_slice(alloc, &[0, 9223372036854775807])?;
+    let to = NodeNumbers::from_slice(alloc, &[7, 7])?;
+    let extra = NodeNumbers::new(alloc);
     let edge_columns = Items::new(Vec::new(alloc));
     let node_columns = Items::new(Vec::new(alloc));
     build(

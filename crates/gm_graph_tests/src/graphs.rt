@@ -8,7 +8,7 @@ ghost use Rattle.gm_model.specs.Graphs.{HasNode};
 use crate::compare::{same, same_text};
 use gm_base::{Items, NoMemory};
 use gm_columns::{Column, Values};
-use gm_graph::{Graph, RawGraph, Shape, Walks, build};
+use gm_graph::{Graph, NodeNumbers, RawGraph, Shape, Walks, build};
 use gm_value::{VType, Value};
 use std::alloc::{AllocError, Global};
 use std::fmt::Write;
@@ -38,16 +38,16 @@ fn lines(alloc: Global, walks: Walks) -> Result<RawGraph, NoMemory>
             edges: Items::new(vec![in alloc; VType::I32]?),
             walks,
         },
-        from: Items::new(vec![in alloc; 7u64, 7, 3, 7]?),
-        to: Items::new(vec![in alloc; 3u64, 3, 7, 7]?),
+        from: NodeNumbers::from_slice(alloc, &[7, 7, 3, 7])?,
+        to: NodeNumbers::from_slice(alloc, &[3, 3, 7, 7])?,
         edge_columns: counted_rows(alloc, 4)?,
-        extra: Items::new(vec![in alloc; 9u64, 3]?),
+        extra: NodeNumbers::from_slice(alloc, &[9, 3])?,
         node_columns: counted_rows(alloc, 2)?,
     })
 }
 
-// The line `9223372036854775807 3`, of numbers that are far apart.
-fn far_line(alloc: Global) -> Result<RawGraph, NoMemory>
+// The lines `3 4294967295`, `4294967296 3` and `9223372036854775807 3`, of numbers that are far apart.
+fn far_lines(alloc: Global) -> Result<RawGraph, NoMemory>
     ensures { IfOk result IsBuildable }
 {
     Ok(RawGraph {
@@ -56,10 +56,10 @@ fn far_line(alloc: Global) -> Result<RawGraph, NoMemory>
             edges: Items::new(Vec::new(alloc)),
             walks: Walks::BothWays,
         },
-        from: Items::new(vec![in alloc; 9_223_372_036_854_775_807u64]?),
-        to: Items::new(vec![in alloc; 3u64]?),
+        from: NodeNumbers::from_slice(alloc, &[3, 4_294_967_296, 9_223_372_036_854_775_807])?,
+        to: NodeNumbers::from_slice(alloc, &[4_294_967_295, 3, 3])?,
         edge_columns: Items::new(Vec::new(alloc)),
-        extra: Items::new(Vec::new(alloc)),
+        extra: NodeNumbers::new(alloc),
         node_columns: Items::new(Vec::new(alloc)),
     })
 }
@@ -143,11 +143,37 @@ fn a_graph_is_made_and_read(rt: HostRuntime) -> Result<(), Fail> {
     Ok(())
 }
 
+// The listing of the lines whose numbers are far apart.
+const FAR_LISTING: &str =
+    "3: >0/1 <1/2 <2/3;4294967295: <0/0;4294967296: >1/0;9223372036854775807: >2/0;";
+
 #[test]
 fn numbers_far_apart_have_indices(rt: HostRuntime) -> Result<(), Fail> {
-    let graph = build(rt.alloc(), far_line(rt.alloc())?)?;
+    let graph = build(rt.alloc(), far_lines(rt.alloc())?)?;
     let text = listing(rt.alloc(), &graph)?;
-    same_text(&rt, 0, text.as_str(), "3: <0/1;9223372036854775807: >0/0;");
+    same_text(&rt, 0, text.as_str(), FAR_LISTING);
+    Ok(())
+}
+
+#[test]
+fn small_and_large_numbers_keep_their_order(rt: HostRuntime) -> Result<(), Fail> {
+    let order = [
+        7,
+        4_294_967_295,
+        4_294_967_296,
+        0,
+        9_223_372_036_854_775_807,
+    ];
+    let mut numbers = NodeNumbers::with_capacity(rt.alloc(), 1)?;
+    for number in order {
+        numbers.push(number)?;
+    }
+    same(&rt, 0, numbers.len(), 5);
+    for (place, number) in order.into_iter().enumerate() {
+        if place < numbers.len() {
+            same(&rt, 1, numbers.get(place), number);
+        }
+    }
     Ok(())
 }
 

@@ -7,7 +7,7 @@ ghost use Rattle.gm_columns.specs.Columns.{CanHold};
 use crate::compare::{same, same_bytes};
 use gm_base::{Items, NoMemory, Place, Status};
 use gm_columns::{Column, Values};
-use gm_graph::{Graph, RawGraph, Shape, Walks, build};
+use gm_graph::{Graph, NodeNumbers, RawGraph, Shape, Walks, build};
 use gm_listing::{Ending, Outputs, listing, status_of};
 use gm_model::Outcome;
 use gm_value::{FaultKind, VType, Value};
@@ -25,10 +25,10 @@ fn far_lines(alloc: Global) -> Result<RawGraph, NoMemory>
             edges: Items::new(Vec::new(alloc)),
             walks: Walks::BothWays,
         },
-        from: Items::new(vec![in alloc; 70u64]?),
-        to: Items::new(vec![in alloc; 3u64]?),
+        from: NodeNumbers::from_slice(alloc, &[70])?,
+        to: NodeNumbers::from_slice(alloc, &[3])?,
         edge_columns: Items::new(Vec::new(alloc)),
-        extra: Items::new(vec![in alloc; 9_223_372_036_854_775_807u64]?),
+        extra: NodeNumbers::from_slice(alloc, &[9_223_372_036_854_775_807])?,
         node_columns: Items::new(Vec::new(alloc)),
     })
 }
@@ -43,10 +43,10 @@ fn no_line(alloc: Global) -> Result<RawGraph, NoMemory>
             edges: Items::new(Vec::new(alloc)),
             walks: Walks::BothWays,
         },
-        from: Items::new(Vec::new(alloc)),
-        to: Items::new(Vec::new(alloc)),
+        from: NodeNumbers::new(alloc),
+        to: NodeNumbers::new(alloc),
         edge_columns: Items::new(Vec::new(alloc)),
-        extra: Items::new(Vec::new(alloc)),
+        extra: NodeNumbers::new(alloc),
         node_columns: Items::new(Vec::new(alloc)),
     })
 }

@@ -138,14 +138,14 @@ rows_on ls from to extra e f g = rw (e, f, g) (same_rows ls)
 
 pub edge_taken : (shape : Shape) (limits : Limits) (before : List Line) (old : Tables) (columns : List TypedRow) (seen : NodeCount) (from to : List ℕ) (parts : List (List ℕ)) (a b : ℕ)
     → Holds shape limits before old → row_added old.edge_columns.items parts ≡ Ok columns
-    → from ≡ old.from.items ++ a ∷ [] → to ≡ old.to.items ++ b ∷ [] → Adds limits.nodes old.seen seen a b (from ++ to ++ old.extra.items)
+    → from ≡ old.from ++ a ∷ [] → to ≡ old.to ++ b ∷ [] → Adds limits.nodes old.seen seen a b (from ++ to ++ old.extra)
     → EdgeRead shape limits before columns seen parts a b
 edge_taken shape limits before old columns seen from to parts a b h added froms tos adds =
     let values = added_row shape.edges (map (λ e. e.values) (edge_rows before)) parts old.edge_columns.items columns h.edge_columns added in
     let nodes : node_rows (before ++ EdgeLine a b values.0 ∷ []) ≡ node_rows before = node_rows_same before (EdgeLine a b values.0) refl in
-    let extra : old.extra.items ≡ map (λ r. r.number) (node_rows (before ++ EdgeLine a b values.0 ∷ [])) = h.extra ∙ sym (ap (map (λ (r : NodeRow). r.number)) nodes) in
-    let rows : SameNumbers (from ++ to ++ old.extra.items) (numbers_on (before ++ EdgeLine a b values.0 ∷ [])) =
-    rows_on (before ++ EdgeLine a b values.0 ∷ []) from to old.extra.items (froms_more before a b values.0 old.from.items from h.from froms) (tos_more before a b values.0 old.to.items to h.to tos) extra in
+    let extra : old.extra ≡ map (λ r. r.number) (node_rows (before ++ EdgeLine a b values.0 ∷ [])) = h.extra ∙ sym (ap (map (λ (r : NodeRow). r.number)) nodes) in
+    let rows : SameNumbers (from ++ to ++ old.extra) (numbers_on (before ++ EdgeLine a b values.0 ∷ [])) =
+    rows_on (before ++ EdgeLine a b values.0 ∷ []) from to old.extra (froms_more before a b values.0 old.from from h.from froms) (tos_more before a b values.0 old.to to h.to tos) extra in
     record {
       values = values.0;
       line_is = ap (λ (s : Result (List Value) LineFault). s >>= λ vs. Ok (EdgeLine a b vs)) values.1;
@@ -158,21 +158,21 @@ edge_taken shape limits before old columns seen from to parts a b h added froms 
 -- the tables hold one edge more
 pub edge_holds : (shape : Shape) (limits : Limits) (before : List Line) (old new : Tables) (parts : List (List ℕ)) (a b : ℕ) (over : Bool)
     → Holds shape limits before old → (e : EdgeRead shape limits before new.edge_columns.items new.seen parts a b)
-    → new.from.items ≡ old.from.items ++ a ∷ [] → new.to.items ≡ old.to.items ++ b ∷ []
-    → new.extra.items ≡ old.extra.items → new.node_columns.items ≡ old.node_columns.items → new.listed ≡ old.listed
-    → Exceeds limits.nodes new.seen over → over ≡ false → length new.from.items ≤ limits.edges
+    → new.from ≡ old.from ++ a ∷ [] → new.to ≡ old.to ++ b ∷ []
+    → new.extra ≡ old.extra → new.node_columns.items ≡ old.node_columns.items → new.listed ≡ old.listed
+    → Exceeds limits.nodes new.seen over → over ≡ false → length new.from ≤ limits.edges
     → (done : Unit {0}) → Takes shape limits before (edge_with shape.edges a b parts) new (Ok done)
 edge_holds shape limits before old new parts a b over h e from to extra node_columns listed exceeds few few_edges done =
     let rows : edge_rows (before ++ EdgeLine a b e.values ∷ []) ≡ edge_rows before ++ record { from = a; to = b; values = e.values } ∷ [] = edge_rows_more before a b e.values in
     let nodes : node_rows (before ++ EdgeLine a b e.values ∷ []) ≡ node_rows before = node_rows_same before (EdgeLine a b e.values) refl in
     let none : ltb limits.nodes (node_count (before ++ EdgeLine a b e.values ∷ [])) ≡ false = sym (exceeds (numbers_on (before ++ EdgeLine a b e.values ∷ [])) e.seen_are) ∙ few in
-    let froms : new.from.items ≡ map (λ r. r.from) (edge_rows (before ++ EdgeLine a b e.values ∷ [])) = froms_more before a b e.values old.from.items new.from.items h.from from in
+    let froms : new.from ≡ map (λ r. r.from) (edge_rows (before ++ EdgeLine a b e.values ∷ [])) = froms_more before a b e.values old.from new.from h.from from in
     let edges : edge_count (before ++ EdgeLine a b e.values ∷ []) ≤ limits.edges = omega (arith, few_edges, ap length froms, length-map (edge_rows (before ++ EdgeLine a b e.values ∷ [])) (λ r. r.from)) in
     takes_sound shape limits before (edge_with shape.edges a b parts) (EdgeLine a b e.values) new done e.line_is
     (judged_sound limits before (EdgeLine a b e.values) refl none edges)
     (record {
       from = froms;
-      to = tos_more before a b e.values old.to.items new.to.items h.to to;
+      to = tos_more before a b e.values old.to new.to h.to to;
       edge_columns = e.columns_are ∙ ap (columns_of shape.edges) (sym (map-append (λ (r : EdgeRow). r.values) (edge_rows before) (record { from = a; to = b; values = e.values } ∷ [])) ∙ sym (ap (map (λ (r : EdgeRow). r.values)) rows));
       extra = rw nodes (extra ∙ h.extra);
       node_columns = rw nodes (node_columns ∙ h.node_columns);
@@ -234,17 +234,17 @@ listed_more before n vs old new h more =
     more ∙ ap (λ z. z ++ n ∷ []) h ∙ sym (ap (map (λ (r : NodeRow). r.number)) (node_rows_more before n vs) ∙ map-append (λ (r : NodeRow). r.number) (node_rows before) (record { number = n; values = vs } ∷ []))
 
 pub node_seen : (shape : Shape) (limits : Limits) (before : List Line) (old : Tables) (seen : NodeCount) (extra : List ℕ) (n : ℕ) (vs : List Value)
-    → Holds shape limits before old → extra ≡ old.extra.items ++ n ∷ [] → Adds limits.nodes old.seen seen n n (old.from.items ++ old.to.items ++ extra)
+    → Holds shape limits before old → extra ≡ old.extra ++ n ∷ [] → Adds limits.nodes old.seen seen n n (old.from ++ old.to ++ extra)
     → Counts limits.nodes (numbers_on (before ++ NodeLine n vs ∷ [])) seen
 node_seen shape limits before old seen extra n vs h more adds =
     let edges : edge_rows (before ++ NodeLine n vs ∷ []) ≡ edge_rows before = edge_rows_same before (NodeLine n vs) refl in
     adds (numbers_on before) (numbers_on (before ++ NodeLine n vs ∷ [])) h.seen (numbers_more before n vs)
-    (rows_on (before ++ NodeLine n vs ∷ []) old.from.items old.to.items extra
-    (h.from ∙ sym (ap (map (λ (r : EdgeRow). r.from)) edges)) (h.to ∙ sym (ap (map (λ (r : EdgeRow). r.to)) edges)) (listed_more before n vs old.extra.items extra h.extra more))
+    (rows_on (before ++ NodeLine n vs ∷ []) old.from old.to extra
+    (h.from ∙ sym (ap (map (λ (r : EdgeRow). r.from)) edges)) (h.to ∙ sym (ap (map (λ (r : EdgeRow). r.to)) edges)) (listed_more before n vs old.extra extra h.extra more))
 
 pub node_many : (shape : Shape) (limits : Limits) (before : List Line) (old new : Tables) (seen : NodeCount) (columns : List TypedRow) (extra : List ℕ) (parts more : List (List ℕ)) (n : ℕ) (x over : Bool)
     → Holds shape limits before old → ReadsNumber parts n more → row_added old.node_columns.items more ≡ Ok columns → x ≡ not (has old.listed n) → x ≡ true
-    → extra ≡ old.extra.items ++ n ∷ [] → Adds limits.nodes old.seen seen n n (old.from.items ++ old.to.items ++ extra) → Exceeds limits.nodes seen over → over ≡ true
+    → extra ≡ old.extra ++ n ∷ [] → Adds limits.nodes old.seen seen n n (old.from ++ old.to ++ extra) → Exceeds limits.nodes seen over → over ≡ true
     → Takes shape limits before (node_line shape.nodes parts) new (Err (Fault TooManyNodes))
 node_many shape limits before old new seen columns extra parts more n x over h r added is once extras adds exceeds many =
     let e = node_taken shape limits before old columns parts more n h r added in
@@ -256,13 +256,13 @@ node_many shape limits before old new seen columns extra parts more n x over h r
 pub node_holds : (shape : Shape) (limits : Limits) (before : List Line) (old new : Tables) (parts more : List (List ℕ)) (n : ℕ) (x over : Bool)
     → Holds shape limits before old → ReadsNumber parts n more → row_added old.node_columns.items more ≡ Ok new.node_columns.items
     → Inserts old.listed new.listed n x → x ≡ true
-    → Adds limits.nodes old.seen new.seen n n (old.from.items ++ old.to.items ++ new.extra.items) → Exceeds limits.nodes new.seen over → over ≡ false
-    → new.extra.items ≡ old.extra.items ++ n ∷ [] → new.from.items ≡ old.from.items → new.to.items ≡ old.to.items → new.edge_columns.items ≡ old.edge_columns.items
+    → Adds limits.nodes old.seen new.seen n n (old.from ++ old.to ++ new.extra) → Exceeds limits.nodes new.seen over → over ≡ false
+    → new.extra ≡ old.extra ++ n ∷ [] → new.from ≡ old.from → new.to ≡ old.to → new.edge_columns.items ≡ old.edge_columns.items
     → (done : Unit {0}) → Takes shape limits before (node_line shape.nodes parts) new (Ok done)
 node_holds shape limits before old new parts more n x over h r added listed once adds exceeds few extra from to edge_columns done =
     let e = node_taken shape limits before old new.node_columns.items parts more n h r added in
     let first : repeats before (NodeLine n e.values) ≡ false = sym (h.listed n) ∙ flipped_back x (has old.listed n) listed.is_new once in
-    let counts = node_seen shape limits before old new.seen new.extra.items n e.values h extra adds in
+    let counts = node_seen shape limits before old new.seen new.extra n e.values h extra adds in
     let edges : edge_rows (before ++ NodeLine n e.values ∷ []) ≡ edge_rows before = edge_rows_same before (NodeLine n e.values) refl in
     let rows : node_rows (before ++ NodeLine n e.values ∷ []) ≡ node_rows before ++ record { number = n; values = e.values } ∷ [] = node_rows_more before n e.values in
     let numbers : map (λ r. r.number) (node_rows (before ++ NodeLine n e.values ∷ [])) ≡ map (λ r. r.number) (node_rows before) ++ n ∷ [] =
@@ -275,7 +275,7 @@ node_holds shape limits before old new parts more n x over h r added listed once
       from = rw edges (from ∙ h.from);
       to = rw edges (to ∙ h.to);
       edge_columns = rw edges (edge_columns ∙ h.edge_columns);
-      extra = listed_more before n e.values old.extra.items new.extra.items h.extra extra;
+      extra = listed_more before n e.values old.extra new.extra h.extra extra;
       node_columns = e.columns_are ∙ ap (columns_of shape.nodes) (sym (map-append (λ (r : NodeRow). r.values) (node_rows before) (record { number = n; values = e.values } ∷ [])) ∙ sym (ap (map (λ (r : NodeRow). r.values)) rows));
       seen = counts;
       listed = rw numbers (HasEach-push (map (λ r. r.number) (node_rows before)) old.listed new.listed n h.listed listed.members);
@@ -292,11 +292,11 @@ edge_many shape limits before new columns seen parts a b over e exceeds many =
     (judged_nodes limits before (EdgeLine a b e.values) refl (sym (exceeds (numbers_on (before ++ EdgeLine a b e.values ∷ [])) e.seen_are) ∙ many))
 
 pub edge_far : (shape : Shape) (limits : Limits) (before : List Line) (old new : Tables) (columns : List TypedRow) (seen : NodeCount) (parts : List (List ℕ)) (row : List ℕ) (a b : ℕ) (over : Bool)
-    → Holds shape limits before old → (e : EdgeRead shape limits before columns seen parts a b) → Exceeds limits.nodes seen over → over ≡ false → row ≡ old.from.items ++ a ∷ [] → limits.edges < length row
+    → Holds shape limits before old → (e : EdgeRead shape limits before columns seen parts a b) → Exceeds limits.nodes seen over → over ≡ false → row ≡ old.from ++ a ∷ [] → limits.edges < length row
     → Takes shape limits before (edge_with shape.edges a b parts) new (Err (Fault TooManyEdges))
 edge_far shape limits before old new columns seen parts row a b over h e exceeds few is many =
     let none : ltb limits.nodes (node_count (before ++ EdgeLine a b e.values ∷ [])) ≡ false = sym (exceeds (numbers_on (before ++ EdgeLine a b e.values ∷ [])) e.seen_are) ∙ few in
-    let size : length row ≡ edge_count before + 1 = ap length is ∙ length-append old.from.items (a ∷ []) ∙ ap (λ k. k + 1) (ap length h.from ∙ length-map (edge_rows before) (λ r. r.from)) in
+    let size : length row ≡ edge_count before + 1 = ap length is ∙ length-append old.from (a ∷ []) ∙ ap (λ k. k + 1) (ap length h.from ∙ length-map (edge_rows before) (λ r. r.from)) in
     let edges : limits.edges < edge_count (before ++ EdgeLine a b e.values ∷ []) = rw (edge_counts before a b e.values, ← size) many in
     takes_fault shape limits before (edge_with shape.edges a b parts) (EdgeLine a b e.values) new TooManyEdges e.line_is
     (judged_edges limits before (EdgeLine a b e.values) refl none edges)

@@ -64,10 +64,10 @@ IfFault NoMemory P = ⊤
 
 -- the tables hold what some lines give
 pub record Holds (shape : Shape) (limits : Limits) (before : List Line) (tables : Tables) : Type 0 where
-  pub from : tables.from.items ≡ map (λ e. e.from) (edge_rows before)
-  pub to : tables.to.items ≡ map (λ e. e.to) (edge_rows before)
+  pub from : tables.from ≡ map (λ e. e.from) (edge_rows before)
+  pub to : tables.to ≡ map (λ e. e.to) (edge_rows before)
   pub edge_columns : tables.edge_columns.items ≡ columns_of shape.edges (map (λ e. e.values) (edge_rows before))
-  pub extra : tables.extra.items ≡ map (λ r. r.number) (node_rows before)
+  pub extra : tables.extra ≡ map (λ r. r.number) (node_rows before)
   pub node_columns : tables.node_columns.items ≡ columns_of shape.nodes (map (λ r. r.values) (node_rows before))
   pub seen : Counts limits.nodes (numbers_on before) tables.seen
   pub listed : HasEach (map (λ r. r.number) (node_rows before)) tables.listed

@@ -6,6 +6,7 @@ ghost use Rattle.gm_loader.specs.Sets.{Counts, IsSetOf, SameNumbers};
 
 use crate::sets::NumberSet;
 use gm_base::NoMemory;
+use gm_graph::NodeNumbers;
 use std::alloc::Global;
 
 // A count of the node numbers. As long as each is below the limit on nodes, there are no more of them than the limit, and
@@ -28,7 +29,12 @@ impl NodeCount {
     }
 
     // Begins to count: these are all numbers so far.
-    fn begin(&mut self, from: &[u64], to: &[u64], extra: &[u64]) -> Result<(), NoMemory>
+    fn begin(
+        &mut self,
+        from: &NodeNumbers,
+        to: &NodeNumbers,
+        extra: &NodeNumbers,
+    ) -> Result<(), NoMemory>
         ensures counted { OnOk result (self.new.counted ≡ true) }
         ensures set { OnOk result (IsSetOf [] self.old.set → IsSetOf (from.now ++ to.now ++ extra.now) self.new.set) }
     {
@@ -45,9 +51,9 @@ impl NodeCount {
         &mut self,
         most: u32,
         ends: (u64, u64),
-        from: &[u64],
-        to: &[u64],
-        extra: &[u64],
+        from: &NodeNumbers,
+        to: &NodeNumbers,
+        extra: &NodeNumbers,
     ) -> Result<(), NoMemory>
         ensures { OnOk result ((before numbers : List ℕ) → Counts most before self.old
             → SameNumbers (before ++ ends.0 ∷ ends.1 ∷ []) numbers → SameNumbers (from.now ++ to.now ++ extra.now) numbers

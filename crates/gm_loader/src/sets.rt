@@ -4,6 +4,7 @@ ghost use Rattle.std.specs.Prelude.{◌≡◌, ◌≤◌, ◌<◌, ◌+◌, ◌+
 ghost use Rattle.gm_loader.specs.Sets.{has, IsSetOf};
 
 use gm_base::NoMemory;
+use gm_graph::NodeNumbers;
 use std::alloc::Global;
 use std::collections::HashSet;
 
@@ -78,11 +79,11 @@ impl NumberSet {
     }
 
     // Puts numbers into the set.
-    pub fn insert_all(&mut self, numbers: &[u64]) -> Result<(), NoMemory>
+    pub fn insert_all(&mut self, numbers: &NodeNumbers) -> Result<(), NoMemory>
         ensures { OnOk result ((before : List ℕ) → IsSetOf before self.old → IsSetOf (before ++ numbers.now) self.new) }
     {
-        for number in numbers {
-            self.insert(*number)?;
+        for place in 0..numbers.len() {
+            self.insert(numbers.get(place))?;
         }
         Ok(())
     }

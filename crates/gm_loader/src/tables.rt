@@ -18,7 +18,7 @@ use crate::sets::NumberSet;
 use gm_base::{Items, NoMemory};
 use gm_columns::Column;
 use gm_fields::{cut_field, cut_line};
-use gm_graph::{RawGraph, Shape};
+use gm_graph::{NodeNumbers, RawGraph, Shape};
 use gm_value::{VType, Value};
 use std::alloc::{AllocError, Global};
 
@@ -29,10 +29,10 @@ const GREATEST_INT: u64 = 2_147_483_647;
 // both, the count of all numbers, and the set of the numbers with lines of their own.
 #[derive(Drop)]
 pub struct Tables {
-    pub from: Vec<u64>,
-    pub to: Vec<u64>,
+    pub from: NodeNumbers,
+    pub to: NodeNumbers,
     pub edge_columns: Vec<Column>,
-    pub extra: Vec<u64>,
+    pub extra: NodeNumbers,
     pub node_columns: Vec<Column>,
     pub seen: NodeCount,
     pub listed: NumberSet,
@@ -114,10 +114,10 @@ impl Tables {
         ensures { IfOk result (λ tables. (limits : LimitsValue) → Holds shape.now limits [] tables) }
     {
         Ok(Tables {
-            from: Vec::new(alloc),
-            to: Vec::new(alloc),
+            from: NodeNumbers::new(alloc),
+            to: NodeNumbers::new(alloc),
             edge_columns: empty_columns(alloc, shape.edges.as_slice())?,
-            extra: Vec::new(alloc),
+            extra: NodeNumbers::new(alloc),
             node_columns: empty_columns(alloc, shape.nodes.as_slice())?,
             seen: NodeCount::new(alloc),
             listed: NumberSet::new(alloc),
@@ -225,10 +225,10 @@ impl Tables {
     {
         RawGraph {
             shape,
-            from: Items::new(self.from),
-            to: Items::new(self.to),
+            from: self.from,
+            to: self.to,
             edge_columns: Items::new(self.edge_columns),
-            extra: Items::new(self.extra),
+            extra: self.extra,
             node_columns: Items::new(self.node_columns),
         }
     }

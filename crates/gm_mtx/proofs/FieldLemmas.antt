@@ -59,12 +59,12 @@ entry_stop_three types kind size before old new columns parts more rest row colu
     ap (λ j. j >>= behind size before) (entry_read types kind size parts more rest row column r c ∙ ap (λ v. v >>= λ values. Ok (record { row = row; column = column; values = values })) bad)
 
 -- the entries so far
-held_count : (types : List VType) (before : List Entry) (tables : Tables) → Holds types before tables → length tables.from.items ≡ length before
+held_count : (types : List VType) (before : List Entry) (tables : Tables) → Holds types before tables → length tables.from ≡ length before
 held_count types before tables h = ap length h.from ∙ length-map before (λ e. e.row)
 
 pub entry_far : (types : List VType) (kind : EntryValues) (size : Size) (before : List Entry) (old new : Tables) (columns : List TypedRow) (parts more rest : List (List ℕ)) (row column : ℕ) (done : Unit {0})
     → Holds types before old → Reads (index_number size.rows) parts row more → Reads (index_number size.columns) more column rest
-    → FillsColumns types kind rest old.edge_columns.items columns (Ok done) → size.entries ≤ length old.from.items
+    → FillsColumns types kind rest old.edge_columns.items columns (Ok done) → size.entries ≤ length old.from
     → Takes types (entry_in types kind size parts >>= behind size before) new (Err (Fault CountDiffers))
 entry_far types kind size before old new columns parts more rest row column done h r c f many =
     let full : ltb (length before) size.entries ≡ false = grind (arith, nat_tests, held_count types before old h, many) in
@@ -77,8 +77,8 @@ entry_far types kind size before old new columns parts more rest row column done
 
 pub entry_taken : (types : List VType) (kind : EntryValues) (size : Size) (before : List Entry) (old new : Tables) (parts more rest : List (List ℕ)) (row column : ℕ) (done last : Unit {0})
     → Holds types before old → Reads (index_number size.rows) parts row more → Reads (index_number size.columns) more column rest
-    → FillsColumns types kind rest old.edge_columns.items new.edge_columns.items (Ok done) → length old.from.items < size.entries
-    → new.from.items ≡ old.from.items ++ row ∷ [] → new.to.items ≡ old.to.items ++ column ∷ []
+    → FillsColumns types kind rest old.edge_columns.items new.edge_columns.items (Ok done) → length old.from < size.entries
+    → new.from ≡ old.from ++ row ∷ [] → new.to ≡ old.to ++ column ∷ []
     → Takes types (entry_in types kind size parts >>= behind size before) new (Ok last)
 entry_taken types kind size before old new parts more rest row column done last h r c f room from to =
     let less : ltb (length before) size.entries ≡ true = grind (arith, nat_tests, held_count types before old h, room) in

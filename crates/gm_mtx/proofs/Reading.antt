@@ -62,16 +62,16 @@ read_whole types kind size first text [] number tables r none = r.same
 read_whole types kind size first text (b ∷ rest) number tables r none = absurd (omega (arith, none))
 
 pub read_few : (types : List VType) (kind : EntryValues) (size : Size) (first : ℕ) (text rest : List ℕ) (number : ℕ) (tables : Tables) → (r : IsReading types kind size first text rest number tables)
-    → length rest ≡ 0 → length tables.from.items < size.entries → entries_after types kind size first [] (lines text) ≡ Err (fault.CountDiffers number)
+    → length rest ≡ 0 → length tables.from < size.entries → entries_after types kind size first [] (lines text) ≡ Err (fault.CountDiffers number)
 read_few types kind size first text rest number tables r none less =
-    let count : length tables.from.items ≡ length r.before = ap length r.held.from ∙ length-map r.before (λ e. e.row) in
+    let count : length tables.from ≡ length r.before = ap length r.held.from ∙ length-map r.before (λ e. e.row) in
     let few : ltb (length r.before) size.entries ≡ true = grind (arith, nat_tests, count, less) in
     read_whole types kind size first text rest number tables r none ∙ ap (λ b. cond b (Err (fault.CountDiffers number)) (Ok r.before)) few
 
 pub read_all_entries : (types : List VType) (kind : EntryValues) (size : Size) (number : ℕ) (text rest : List ℕ) (last : ℕ) (tables : Tables) → (r : IsReading types kind size (number + 1) text rest last tables)
-    → length rest ≡ 0 → size.entries ≤ length tables.from.items → HoldsEntries types kind size number text tables
+    → length rest ≡ 0 → size.entries ≤ length tables.from → HoldsEntries types kind size number text tables
 read_all_entries types kind size number text rest last tables r none enough =
-    let count : length tables.from.items ≡ length r.before = ap length r.held.from ∙ length-map r.before (λ e. e.row) in
+    let count : length tables.from ≡ length r.before = ap length r.held.from ∙ length-map r.before (λ e. e.row) in
     let full : ltb (length r.before) size.entries ≡ false = grind (arith, nat_tests, count, enough) in
     record {
       entries = r.before;

@@ -48,8 +48,8 @@ FillsColumns types kind parts old new (Err stop) = (rows : List (List Value)) �
 
 -- the tables hold some entries
 pub record Holds (types : List VType) (entries : List Entry) (tables : Tables) : Type 0 where
-  pub from : tables.from.items ≡ map (λ e. e.row) entries
-  pub to : tables.to.items ≡ map (λ e. e.column) entries
+  pub from : tables.from ≡ map (λ e. e.row) entries
+  pub to : tables.to ≡ map (λ e. e.column) entries
   pub edge_columns : tables.edge_columns.items ≡ columns_of types (map (λ e. e.values) entries)
 
 -- the tables hold the entries up to a line, or the line has the fault that stopped it

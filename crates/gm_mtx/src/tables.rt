@@ -17,7 +17,7 @@ use crate::sizes::{Size, is_skipped};
 use gm_base::{Items, NoMemory};
 use gm_columns::Column;
 use gm_fields::{cut_field, cut_line};
-use gm_graph::{RawGraph, Shape};
+use gm_graph::{NodeNumbers, RawGraph, Shape};
 use gm_loader::empty_columns;
 use gm_value::VType;
 use std::alloc::{AllocError, Global};
@@ -25,8 +25,8 @@ use std::alloc::{AllocError, Global};
 // The entries that were read so far: their rows, their columns, and their values by edge input.
 #[derive(Drop)]
 pub struct Tables {
-    pub from: Vec<u64>,
-    pub to: Vec<u64>,
+    pub from: NodeNumbers,
+    pub to: NodeNumbers,
     pub edge_columns: Vec<Column>,
 }
 
@@ -53,10 +53,10 @@ fn zero_columns(alloc: Global, nodes: u32, types: &[VType]) -> Result<Vec<Column
 }
 
 // The numbers of so many nodes, from 1.
-fn node_numbers(alloc: Global, nodes: u32) -> Result<Vec<u64>, AllocError>
-    ensures { IfOk result (λ numbers. numbers.items ≡ range_with_len 1 nodes) }
+fn node_numbers(alloc: Global, nodes: u32) -> Result<NodeNumbers, NoMemory>
+    ensures { IfOk result (λ numbers. numbers ≡ range_with_len 1 nodes) }
 {
-    let mut numbers = Vec::with_capacity(alloc, nodes as usize)?;
+    let mut numbers = NodeNumbers::with_capacity(alloc, nodes as usize)?;
     for node in 0..nodes {
         numbers.push(u64::from(node) + 1)?;
     }
@@ -91,8 +91,8 @@ impl Tables {
     {
         let room = (size.entries as usize).min(text.len() / 4 + 1);
         Ok(Tables {
-            from: Vec::with_capacity(alloc, room)?,
-            to: Vec::with_capacity(alloc, room)?,
+            from: NodeNumbers::with_capacity(alloc, room)?,
+            to: NodeNumbers::with_capacity(alloc, room)?,
             edge_columns: empty_columns(alloc, shape.edges.as_slice())?,
         })
     }
@@ -134,10 +134,10 @@ impl Tables {
         let node_columns = zero_columns(alloc, nodes, shape.nodes.as_slice())?;
         Ok(RawGraph {
             shape,
-            from: Items::new(self.from),
-            to: Items::new(self.to),
+            from: self.from,
+            to: self.to,
             edge_columns: Items::new(self.edge_columns),
-            extra: Items::new(extra),
+            extra,
             node_columns: Items::new(node_columns),
         })
     }

@@ -3,19 +3,19 @@
 ghost use Rattle.std.specs.Prelude.{◌≡◌, ◌≤◌, IfOk, length};
 
 use gm_base::{Items, NoMemory};
-use gm_graph::{Graph, RawGraph, Shape, Walks, build};
+use gm_graph::{Graph, NodeNumbers, RawGraph, Shape, Walks, build};
 use gm_levels::levels_from;
 use std::alloc::Global;
 use std::fmt::Write;
 use std::test::Fail;
 
 // The first ends of some edges, and the second ones.
-fn ends(alloc: Global, edges: &[(u64, u64)]) -> Result<(Vec<u64>, Vec<u64>), NoMemory>
-    ensures from { IfOk result (λ ends. length ends.0.items ≡ length edges.now) }
-    ensures to { IfOk result (λ ends. length ends.1.items ≡ length edges.now) }
+fn ends(alloc: Global, edges: &[(u64, u64)]) -> Result<(NodeNumbers, NodeNumbers), NoMemory>
+    ensures from { IfOk result (λ ends. length ends.0 ≡ length edges.now) }
+    ensures to { IfOk result (λ ends. length ends.1 ≡ length edges.now) }
 {
-    let mut from = Vec::new(alloc);
-    let mut to = Vec::new(alloc);
+    let mut from = NodeNumbers::new(alloc);
+    let mut to = NodeNumbers::new(alloc);
     for edge in edges {
         from.push(edge.0)?;
         to.push(edge.1)?;
@@ -34,10 +34,10 @@ fn graph_of(alloc: Global, edges: &[(u64, u64)], lonely: u64) -> Result<Graph, N
             edges: Items::new(Vec::new(alloc)),
             walks: Walks::BothWays,
         },
-        from: Items::new(from),
-        to: Items::new(to),
+        from,
+        to,
         edge_columns: Items::new(Vec::new(alloc)),
-        extra: Items::new(vec![in alloc; lonely]?),
+        extra: NodeNumbers::from_slice(alloc, &[lonely])?,
         node_columns: Items::new(Vec::new(alloc)),
     };
     build(alloc, raw)

@@ -19,6 +19,6 @@ buildable raw lonely nodes edges edge_columns node_columns extra both few = reco
 
 pub build-requires : goal.build-requires
 build-requires c =
-    let both : length c.new-6.result ≡ length c.new-5.result = omega (arith, ap length c.new-6.ensures, ap length c.new-5.ensures, c.in_ok-from.ensures.from, c.in_ok-from.ensures.to) in
-    let few : length c.new-5.result ≤ 1000000 = omega (arith, ap length c.new-5.ensures, c.in_ok-from.ensures.from, c.requires) in
-    buildable _ c.args.lonely (c.new-2.ensures ∙ c.new.ensures.items) (c.new-4.ensures ∙ c.new-3.ensures.items) (c.new-8.ensures ∙ c.new-7.ensures.items) (c.new-11.ensures ∙ c.new-10.ensures.items) (c.new-9.ensures ∙ c.in_ok-vec.ensures.items) both few
+    let both : length c.in_ok-from.to ≡ length c.in_ok-from.from = omega (arith, c.in_ok-from.ensures.from, c.in_ok-from.ensures.to) in
+    let few : length c.in_ok-from.from ≤ 1000000 = omega (arith, c.in_ok-from.ensures.from, c.requires) in
+    buildable _ c.args.lonely (c.new-2.ensures ∙ c.new.ensures.items) (c.new-4.ensures ∙ c.new-3.ensures.items) (c.new-6.ensures ∙ c.new-5.ensures.items) (c.new-8.ensures ∙ c.new-7.ensures.items) c.in_ok-from_slice.ensures both few

@@ -1,5 +1,5 @@
-use Rattle.std.proofs.Common.{◌∙◌, ap, arith, sym}
-use Rattle.gm_graph.specs.Rows.{count_of, targets_in}
+use Rattle.std.proofs.Common.{◌∙◌, arith, sym}
+use Rattle.gm_graph.specs.Rows.{targets_in}
 use Rattle.gm_graph.proofs.Lines.{length-targets}
 use Rattle.gm_graph.proofs.Finding.{all-counted, one-more, none-more}
 use Rattle.gm_graph.proofs.groups.Groups.count_to.Goals as goal

@@ -18,9 +18,9 @@ returns-then-not-branch c = λ shape before h.
 pub returns-then-exceeds : goal.returns-then-exceeds
 returns-then-exceeds c = λ shape before h.
     let once : c.in_ok-insert.field-0 ≡ true = search rules in
-    node_many shape c.args.limits.now before c.args.self.now c.args.self.now c.add.new.self c.read_values.new.columns.items c.push.new.self.items (fields c.args.text.now) (fields c.in_ok-number.rest.now) c.in_ok-number.number c.in_ok-insert.field-0 c.exceeds.result
-    h c.in_ok-number.ensures.read c.in_ok-read_values.ensures.read c.in_ok-insert.ensures.added once c.in_ok-push.ensures.items
-    (rw (c.deref.ensures.value, c.deref-2.ensures.value, c.deref-3.ensures.value) at c.in_ok-add.ensures) c.exceeds.ensures c.if-exceeds.true
+    node_many shape c.args.limits.now before c.args.self.now c.args.self.now c.add.new.self c.read_values.new.columns.items c.push.new.self (fields c.args.text.now) (fields c.in_ok-number.rest.now) c.in_ok-number.number c.in_ok-insert.field-0 c.exceeds.result
+    h c.in_ok-number.ensures.read c.in_ok-read_values.ensures.read c.in_ok-insert.ensures.added once c.in_ok-push.ensures
+    c.in_ok-add.ensures c.exceeds.ensures c.if-exceeds.true
 
 pub returns : goal.returns
 returns c = λ shape before h.
@@ -30,5 +30,5 @@ returns c = λ shape before h.
     (fields c.args.text.now) (fields c.in_ok-number.rest.now) c.in_ok-number.number c.in_ok-insert.field-0 c.exceeds.result
     h c.in_ok-number.ensures.read c.in_ok-read_values.ensures.read
     (record { is_new = c.in_ok-insert.ensures.added; members = c.in_ok-insert.ensures.has; count = c.in_ok-insert.ensures.count }) once
-    (rw (c.deref.ensures.value, c.deref-2.ensures.value, c.deref-3.ensures.value) at c.in_ok-add.ensures) c.exceeds.ensures c.if-exceeds.false
-    c.in_ok-push.ensures.items refl refl refl tt
+    c.in_ok-add.ensures c.exceeds.ensures c.if-exceeds.false
+    c.in_ok-push.ensures refl refl refl tt
