@@ -1,10 +1,10 @@
 -- A program without compound assignments means the same, and keeps what every pass keeps.
-use Rattle.std.proofs.Common.{◌≡◌, ℕ, Option, Bool, true, false, cond, List, [], ◌∷◌, map, refl, ap}
+use Rattle.std.proofs.Common.{◌≡◌, ℕ, Option, Bool, true, false, cond, List, refl, ap}
 use Rattle.std.specs.Prelude.{◌&&◌, ◌||◌, not}
 use Rattle.gm_value.specs.declared.values.VType.{VType}
 use Rattle.gm_value.specs.declared.values.VType.TheVariants.{Flag}
 use Rattle.gm_ast.specs.declared.tree.Declaration.{Declaration}
-use Rattle.gm_ast.specs.Program.{Stmt, Then, Combine, Foreach, For, If, While, Do, InBfs, InBfsBoth, Program, sequence}
+use Rattle.gm_ast.specs.Program.{Stmt, Then, Combine, Foreach, For, If, While, Do, InBfs, InBfsBoth, Program}
 use Rattle.gm_forms.specs.Meanings.{SameMeaning}
 use Rattle.gm_forms.specs.Sharing.{are_at_once}
 use Rattle.gm_forms.specs.Typing.{has_type, keeps_tuples, is_typed_in}
@@ -86,11 +86,3 @@ kept p r = record {
   };
   no_compounds = no-compounds p.declarations p.result p.body r.ready.sane.typed;
 }
-
-pub expanded_in-sequence : {A : Type 0} (ds : List Declaration) (n : ℕ) (inner : Bool) (f : A → Stmt) (xs : List A) → expanded_in ds n inner (sequence (map f xs)) ≡ sequence (map (λ x. expanded_in ds n inner (f x)) xs)
-expanded_in-sequence ds n inner f [] = refl
-expanded_in-sequence ds n inner f (x ∷ xs) = ap (Then (expanded_in ds n inner (f x))) (expanded_in-sequence ds n inner f xs)
-
-pub expanded-sequence : {A : Type 0} (ds : List Declaration) (f : A → Stmt) (xs : List A) → expanded ds (sequence (map f xs)) ≡ sequence (map (λ x. expanded ds (f x)) xs)
-expanded-sequence ds f [] = refl
-expanded-sequence ds f (x ∷ xs) = ap (Then (expanded ds (f x))) (expanded-sequence ds f xs)

@@ -1,5 +1,5 @@
 -- A program with its conditions hoisted to one more variable: it means the same, and is ready for the next pass.
-use Rattle.std.proofs.Common.{◌≡◌, ◌<◌, ◌≤◌, ◌+◌, ℕ, Bool, true, false, List, [], ◌∷◌, ◌++◌, length, map, refl, ap, ◌∙◌, arith}
+use Rattle.std.proofs.Common.{◌≡◌, ◌<◌, ◌≤◌, ◌+◌, ℕ, Bool, true, false, List, [], ◌∷◌, ◌++◌, length, refl, ap, ◌∙◌, arith}
 use Rattle.std.specs.Prelude.{◌||◌, not, nat_le}
 use Rattle.std.specs.List.{list_all}
 use Rattle.std.proofs.lemmas.Bool.{leb-true, le-leb}
@@ -7,7 +7,7 @@ use Rattle.std.proofs.lemmas.List.{length-append}
 use Rattle.gm_value.specs.declared.values.VType.TheVariants.{Flag}
 use Rattle.gm_ast.specs.declared.tree.Declaration.{Declaration}
 use Rattle.gm_ast.specs.declared.tree.Variable.{Variable}
-use Rattle.gm_ast.specs.Program.{Stmt, Then, Combine, Foreach, For, If, While, Do, InBfs, InBfsBoth, Program, sequence}
+use Rattle.gm_ast.specs.Program.{Stmt, Then, Combine, Foreach, For, If, While, Do, InBfs, InBfsBoth, Program}
 use Rattle.gm_semantics.specs.Frames.{NamesBelow, AlikeStates}
 use Rattle.gm_semantics.specs.Statements.{State, variable_at}
 use Rattle.gm_forms.specs.Extends.{Extends, run_of, start_of}
@@ -105,7 +105,3 @@ module _ (p : Program) (named : is_named p ≡ true) where
 
 pub kept : (p : Program) → WithLiterals p → WithConditions (with_conditions p)
 kept p r = kept-named p r.without_compounds.without_groups.ready.sane.named r
-
-pub hoisted-sequence : {A : Type 0} (c : ℕ) (f : A → Stmt) (xs : List A) → hoisted c (sequence (map f xs)) ≡ sequence (map (λ x. hoisted c (f x)) xs)
-hoisted-sequence c f [] = refl
-hoisted-sequence c f (x ∷ xs) = ap (Then (hoisted c (f x))) (hoisted-sequence c f xs)

@@ -1,5 +1,5 @@
 -- A program without its group assignments means the same, and keeps what every pass keeps.
-use Rattle.std.proofs.Common.{◌≡◌, Option, ℕ, true, false, List, [], ◌∷◌, ◌++◌, map, refl, ap, sym, subst}
+use Rattle.std.proofs.Common.{◌≡◌, Option, ℕ, true, false, List, [], ◌∷◌, ◌++◌, refl, ap, sym, subst}
 use Rattle.std.specs.Prelude.{◌&&◌, ◌||◌, not, nat_eq, nat_lt}
 use Rattle.std.proofs.lemmas.Bool.{eq-eqb, both_ways}
 use Rattle.gm_base.specs.declared.places.Place.{Place}
@@ -11,7 +11,7 @@ use Rattle.gm_ast.specs.declared.tree.Sort.TheVariants as Sorts
 use Rattle.gm_ast.specs.declared.tree.Target.TheVariants as T
 use Rattle.gm_ast.specs.declared.tree.Variable.{Variable}
 use Rattle.gm_ast.specs.Names.{is_node_type, sort_eq}
-use Rattle.gm_ast.specs.Program.{Expr, always, Stmt, Skip, Then, Assign, Group, For, If, While, Do, Program, sequence}
+use Rattle.gm_ast.specs.Program.{Expr, always, Stmt, Skip, Then, Assign, Group, For, If, While, Do, Program}
 use Rattle.gm_forms.specs.Meanings.{SameMeaning}
 use Rattle.gm_forms.specs.Order.{first_key, are_numbered, lie_before, fault_if, fault_of, hoisted_in, faults_in, in_order, target_faults, faults_of, body_in_order, loop_in_order, begins}
 use Rattle.gm_forms.specs.Ready.{is_outer_expr, Ready0}
@@ -86,7 +86,3 @@ no-groups s = refl
 
 pub kept : (p : Program) → Ready0 p → WithoutGroups (without_groups p)
 kept p r = record { ready = ready-same p (ungrouped p.body) (for-ungrouped p.declarations p.result p.body) r; no_groups = no-groups p.body }
-
-pub ungrouped-sequence : {A : Type 0} (f : A → Stmt) (xs : List A) → ungrouped (sequence (map f xs)) ≡ sequence (map (λ x. ungrouped (f x)) xs)
-ungrouped-sequence f [] = refl
-ungrouped-sequence f (x ∷ xs) = ap (Then (ungrouped (f x))) (ungrouped-sequence f xs)

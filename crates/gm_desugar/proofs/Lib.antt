@@ -1,4 +1,7 @@
 pub mod Trees
+pub mod Partly
+pub mod InPlace
+pub mod ReadsAmong
 pub mod Assignments
 pub mod Fewer
 pub mod Replacing
@@ -8,7 +11,6 @@ pub mod CompoundsKept
 pub mod CompoundsOut
 pub mod ReplacingExprs
 pub mod EachExpr
-pub mod Negations
 pub mod LiteralsLaws
 pub mod Turns
 pub mod Alike

@@ -12,7 +12,7 @@ use Rattle.gm_value.specs.Numbers.{type_of, number_of, fits, IsOf}
 use Rattle.gm_value.specs.Operations.{result1, fits1}
 use Rattle.gm_value.proofs.NumberLaws.{checked-typed}
 use Rattle.gm_ast.specs.declared.tree.Declaration.{Declaration}
-use Rattle.gm_ast.specs.Program.{Expr, Const, Unary, Binary, Both, Either, Choose, Folded, Stmt, Then, Declare, Assign, Defer, Combine, Group, Foreach, For, If, While, Do, InBfs, InBfsBoth, Return, Program, sequence}
+use Rattle.gm_ast.specs.Program.{Expr, Const, Unary, Binary, Both, Either, Choose, Folded, Stmt, Then, Declare, Assign, Defer, Combine, Group, Foreach, For, If, While, Do, InBfs, InBfsBoth, Return, Program}
 use Rattle.gm_semantics.specs.Expressions.{plain, located}
 use Rattle.gm_forms.specs.Meanings.{SameMeaning}
 use Rattle.gm_forms.specs.Sharing.{sights_in}
@@ -195,15 +195,3 @@ kept p r = record {
   };
   literals = phase-has p.body;
 }
-
-pub each_expr_in-sequence : {A : Type 0} (h : Expr → Expr) (f : A → Stmt) (xs : List A) → each_expr_in h (sequence (map f xs)) ≡ sequence (map (λ x. each_expr_in h (f x)) xs)
-each_expr_in-sequence h f [] = refl
-each_expr_in-sequence h f (x ∷ xs) = ap (Then (each_expr_in h (f x))) (each_expr_in-sequence h f xs)
-
-pub each_expr-sequence : {A : Type 0} (h : Expr → Expr) (f : A → Stmt) (xs : List A) → each_expr h (sequence (map f xs)) ≡ sequence (map (λ x. each_expr h (f x)) xs)
-each_expr-sequence h f [] = refl
-each_expr-sequence h f (x ∷ xs) = ap (Then (each_expr h (f x))) (each_expr-sequence h f xs)
-
-pub map-twice : {A : Type 0} (h : Expr → Expr) (f : A → Expr) (xs : List A) → map (λ x. h (f x)) xs ≡ map h (map f xs)
-map-twice h f [] = refl
-map-twice h f (x ∷ xs) = ap (λ l. h (f x) ∷ l) (map-twice h f xs)

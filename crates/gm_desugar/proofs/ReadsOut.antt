@@ -1,12 +1,12 @@
 -- A program with its reads apart: it means the same, and is ready for the next pass.
-use Rattle.std.proofs.Common.{◌≡◌, ◌≤◌, ◌+◌, ℕ, true, List, [], ◌∷◌, ◌++◌, length, map, refl, sym, ap, subst, ◌∙◌, arith, append_assoc, append-nil}
+use Rattle.std.proofs.Common.{◌≡◌, ◌≤◌, ◌+◌, true, List, [], ◌∷◌, ◌++◌, length, map, refl, subst, ◌∙◌, arith, append_assoc}
 use Rattle.std.specs.Prelude.{nat_le}
 use Rattle.std.specs.List.{list_all}
 use Rattle.std.proofs.lemmas.Bool.{leb-true, le-leb}
 use Rattle.std.proofs.lemmas.List.{length-append}
 use Rattle.gm_value.specs.declared.values.VType.{VType}
 use Rattle.gm_ast.specs.declared.tree.Declaration.{Declaration}
-use Rattle.gm_ast.specs.Program.{Stmt, Then, Program, sequence}
+use Rattle.gm_ast.specs.Program.{Program}
 use Rattle.gm_semantics.specs.Frames.{NamesBelow}
 use Rattle.gm_forms.specs.Extends.{Extends, run_of, start_of}
 use Rattle.gm_forms.specs.Meanings.{SameMeaning}
@@ -15,7 +15,7 @@ use Rattle.gm_forms.proofs.Named.{both-true, names-below}
 use Rattle.gm_forms.proofs.Tables.{same-alike}
 use Rattle.gm_forms.proofs.Weaker.{and-true}
 use Rattle.gm_desugar.specs.Conditions.{fresh}
-use Rattle.gm_desugar.specs.Reads.{types_apart, count_reads, apart, with_reads_apart}
+use Rattle.gm_desugar.specs.Reads.{types_apart, apart, with_reads_apart}
 use Rattle.gm_desugar.specs.Stages.{WithConditions, WithReadsApart}
 use Rattle.gm_desugar.proofs.Appended.{variable-appended, variable-next, next-below, all-suit-appended}
 use Rattle.gm_desugar.proofs.ConditionsOut.{compounds-longer}
@@ -115,41 +115,3 @@ module _ (p : Program) (named : is_named p ≡ true) where
 
 pub kept : (p : Program) → WithConditions p → WithReadsApart (with_reads_apart p)
 kept p r = kept-named p r.with_literals.without_compounds.without_groups.ready.sane.named r
-
--- statements one after another, each with its reads apart
-abbrev pub all_apart : ℕ → List Stmt → List Stmt
-all_apart n [] = []
-all_apart n (s ∷ ss) = apart n s ∷ all_apart (n + count_reads s) ss
-
-abbrev pub all_counts : List Stmt → ℕ
-all_counts [] = 0
-all_counts (s ∷ ss) = count_reads s + all_counts ss
-
-abbrev pub all_types : List Declaration → List Stmt → List VType
-all_types ds [] = []
-all_types ds (s ∷ ss) = types_apart ds s ++ all_types ds ss
-
-pub apart-sequence : (n : ℕ) (ss : List Stmt) → apart n (sequence ss) ≡ sequence (all_apart n ss)
-apart-sequence n [] = refl
-apart-sequence n (s ∷ ss) = ap (Then (apart n s)) (apart-sequence (n + count_reads s) ss)
-
-pub count-sequence : (ss : List Stmt) → count_reads (sequence ss) ≡ all_counts ss
-count-sequence [] = refl
-count-sequence (s ∷ ss) = ap (λ m. count_reads s + m) (count-sequence ss)
-
-pub types-sequence : (ds : List Declaration) (ss : List Stmt) → types_apart ds (sequence ss) ≡ all_types ds ss
-types-sequence ds [] = refl
-types-sequence ds (s ∷ ss) = ap (λ ts. types_apart ds s ++ ts) (types-sequence ds ss)
-
--- with one more at the end
-pub apart-one_more : (n : ℕ) (ss : List Stmt) (s : Stmt) → all_apart n (ss ++ (s ∷ [])) ≡ all_apart n ss ++ (apart (n + all_counts ss) s ∷ [])
-apart-one_more n [] s = ap (λ m. apart m s ∷ []) (let e : n ≡ n + 0 = omega arith in e)
-apart-one_more n (x ∷ ss) s = ap (λ l. apart n x ∷ l) (apart-one_more (n + count_reads x) ss s ∙ ap (λ m. all_apart (n + count_reads x) ss ++ (apart m s ∷ [])) (let e : (n + count_reads x) + all_counts ss ≡ n + (count_reads x + all_counts ss) = omega arith in e))
-
-pub count-one_more : (ss : List Stmt) (s : Stmt) → all_counts (ss ++ (s ∷ [])) ≡ all_counts ss + count_reads s
-count-one_more [] s = let e : count_reads s + 0 ≡ 0 + count_reads s = omega arith in e
-count-one_more (x ∷ ss) s = ap (λ m. count_reads x + m) (count-one_more ss s) ∙ (let e : count_reads x + (all_counts ss + count_reads s) ≡ (count_reads x + all_counts ss) + count_reads s = omega arith in e)
-
-pub types-one_more : (ds : List Declaration) (ss : List Stmt) (s : Stmt) → all_types ds (ss ++ (s ∷ [])) ≡ all_types ds ss ++ types_apart ds s
-types-one_more ds [] s = append-nil (types_apart ds s)
-types-one_more ds (x ∷ ss) s = ap (λ l. types_apart ds x ++ l) (types-one_more ds ss s) ∙ sym (append_assoc (types_apart ds x) (all_types ds ss) (types_apart ds s))

@@ -1,5 +1,5 @@
 -- Conditions of a sequential phase, set to a variable before they are asked.
-use Rattle.std.specs.Prelude.{ℕ, Bool, true, false, ◌&&◌, [], ◌∷◌, ◌++◌, length}
+use Rattle.std.specs.Prelude.{ℕ, Bool, true, false, ◌&&◌, [], ◌∷◌, ◌++◌, length, Option, Some, None}
 use Rattle.gm_base.specs.declared.places.Place.{Place}
 use Rattle.gm_value.specs.declared.values.VType.{VType}
 use Rattle.gm_value.specs.declared.values.VType.TheVariants.{Flag}
@@ -26,6 +26,16 @@ set_to c k e = Assign k (T.Scalar c nowhere) e
 -- the variable as a condition
 abbrev pub asked : ℕ → Expr
 asked c = Var c nowhere
+
+-- the variable set to a condition, unless scalars tell that
+abbrev pub set_unless : (told : Bool) → ℕ → Key → Expr → Option Stmt
+set_unless true c k e = None
+set_unless false c k e = Some (set_to c k e)
+
+-- what is asked then
+abbrev pub asked_unless : (told : Bool) → ℕ → Expr → Expr
+asked_unless true c e = e
+asked_unless false c e = asked c
 
 -- an If whose condition is set before, where it is not told by scalars
 abbrev pub if_hoisted : (told : Bool) → ℕ → Key → Expr → (yes no : Stmt) → Stmt

@@ -29,6 +29,26 @@ abbrev pub applied : Op1 → Place → Expr → Expr
 applied Neg at e = negated at e
 applied op at e = Unary op at e
 
+-- what is Ok, if it is
+abbrev pub ok_of : Result Value FaultKind → Option Value
+ok_of (Ok n) = Some n
+ok_of (Err f) = None
+
+-- the negative of a constant, if there is one and it is in range
+abbrev pub negated_of : Option Value → Option Value
+negated_of (Some v) = ok_of (result1 Neg v)
+negated_of None = None
+
+-- the constant that a minus before a constant is, unless its value is out of range
+abbrev pub negative_of : Expr → Option Value
+negative_of (Unary Neg at e) = negated_of (literal_of e)
+negative_of e = None
+
+-- an operation whose value has no such minus
+abbrev pub at_once : Expr → Expr
+at_once (Unary op at e) = applied op at e
+at_once e = e
+
 -- an expression with each minus before a literal as a constant
 abbrev pub with_literals : Expr → Expr
 with_literals (Unary op at e) = applied op at (with_literals e)

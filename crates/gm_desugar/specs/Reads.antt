@@ -98,6 +98,16 @@ abbrev pub after_reads : (alone : Bool) → ℕ → Key → Expr → (Expr → S
 after_reads true n k e s = s e
 after_reads false n k e s = sequence (reads_set n k e ++ (s (told_from n e) ∷ []))
 
+-- the reads of an expression, each set to a variable, unless it stands alone
+abbrev pub set_unless : (alone : Bool) → ℕ → Key → Expr → Option (List Stmt)
+set_unless true n k e = None
+set_unless false n k e = Some (reads_set n k e)
+
+-- the expression with its reads as these variables, unless it stands alone
+abbrev pub told_unless : (alone : Bool) → ℕ → Expr → Expr
+told_unless true n e = e
+told_unless false n e = told_from n e
+
 -- whether an assignment's value may stay as it is
 abbrev pub stays_alone : Target → Expr → Bool
 stays_alone (T.Scalar x at) e = is_single x e

@@ -5,8 +5,9 @@
 //! assignment, whose operator stands where the reduction's token does. By Min and Max it picks, one value or a whole
 //! tuple, and stays a statement of its own. Reductions that end with a loop are left alone.
 
-ghost use Rattle.std.specs.Prelude.{◌≡◌, IfOk, map};
+ghost use Rattle.std.specs.Prelude.{◌≡◌, false, IfOk, OnOk, map};
 ghost use Rattle.gm_ast.specs.Program as Program;
+ghost use Rattle.gm_ast.specs.Program.{sequence};
 ghost use Rattle.gm_ast.specs.Tree.{expr_of, program_of, stmt_of};
 ghost use Rattle.gm_semantics.specs.Iterations.{target_value};
 ghost use Rattle.gm_forms.specs.Forms.{depth_at};
@@ -17,11 +18,13 @@ ghost use Rattle.gm_desugar.specs.Compounds as Compounds;
 ghost use Rattle.gm_desugar.specs.Compounds.{expanded, expanded_in, without_compounds};
 ghost use Rattle.gm_desugar.specs.Stages.{WithoutCompounds, WithoutGroups};
 
+use crate::places::{finish, put, with_both_boxed};
 use gm_ast::forms::Work;
 use gm_ast::tree::{Declaration, Expr, Key, Stmt, Target, TotalKey, Tree};
 use gm_base::{NoMemory, Place};
 use gm_value::{Op2, Reduce};
 use std::alloc::{AllocError, Global};
+use std::mem;
 
 /// Writes each reduction that is done at once as an assignment, unless it picks. The program means the same. If it was
 /// a checked one without group assignments, it still is, and has no compound assignment.
@@ -30,10 +33,17 @@ pub fn compounds_out(alloc: Global, program: Work) -> Result<Work, NoMemory>
     ensures same { IfOk result (λ r. SameMeaning (program_of program) (program_of r)) }
     ensures ready { IfOk result (λ r. WithoutGroups (program_of program) → WithoutCompounds (program_of r)) }
 {
-    let tree = program.into_tree();
-    let body = tree.body;
-    let body = expand(alloc, &tree.declarations, body)?;
-    Ok(Work::new(Tree { body, ..tree }))
+    let mut tree = program.into_tree();
+    let outcome = expand_tree(alloc, &mut tree);
+    finish(tree, outcome)
+}
+
+// The same of a tree.
+fn expand_tree(alloc: Global, tree: &mut Tree) -> Result<(), NoMemory>
+    ensures { OnOk result (program_of tree.new ≡ without_compounds (program_of tree.old)) }
+{
+    expand(alloc, &tree.declarations, &mut tree.body)?;
+    Ok(())
 }
 
 // Where a body stands: the iterator of the outermost loop, and whether the body is that of an inner loop.
@@ -109,8 +119,7 @@ fn operated(
 ) -> Result<Expr, AllocError>
     ensures { IfOk result (λ r. expr_of r ≡ Compounds.operated reduce place (expr_of left) (expr_of right)) }
 {
-    let left = Box::new(alloc, left)?;
-    let right = Box::new(alloc, right)?;
+    let (place, left, right) = with_both_boxed(alloc, place, left, right)?;
     Ok(match reduce {
         Reduce::Sum => Expr::Binary {
             op: Op2::Add,
@@ -177,24 +186,91 @@ fn assignment_of(
     one_assignment(alloc, key, total, reduce, targets[0], values.remove(0))
 }
 
-// The body with each reduction that is done at once as an assignment.
+// The same of targets and values that are taken out of a statement.
+fn assignment_taken(
+    alloc: Global,
+    key: Key,
+    total: TotalKey,
+    reduce: Reduce,
+    targets: &mut Vec<Target>,
+    values: &mut Vec<Expr>,
+) -> Result<Stmt, AllocError>
+    ensures { IfOk result (λ r. stmt_of r ≡ Compounds.assignment_of key total reduce targets.old.items (map expr_of values.old.items)) }
+{
+    let targets = mem::replace(targets, Vec::new(alloc));
+    let values = mem::replace(values, Vec::new(alloc));
+    assignment_of(alloc, key, total, reduce, targets, values)
+}
+
+// The same where it is done at once in a body.
+fn at_once(
+    alloc: Global,
+    declarations: &[Declaration],
+    around: Body,
+    key: Key,
+    total: TotalKey,
+    reduce: Reduce,
+    targets: &mut Vec<Target>,
+    values: &mut Vec<Expr>,
+) -> Result<Stmt, AllocError>
+    ensures { IfOk result (λ r. stmt_of r ≡ expanded_in declarations.now around.outer around.inner (Program.Combine key total reduce targets.old.items (map expr_of values.old.items))) }
+{
+    if are_at_once(declarations, around, targets) {
+        return assignment_taken(alloc, key, total, reduce, targets, values);
+    }
+    let targets = mem::replace(targets, Vec::new(alloc));
+    let values = mem::replace(values, Vec::new(alloc));
+    Ok(Stmt::Reduce {
+        key,
+        total,
+        reduce,
+        targets,
+        values,
+    })
+}
+
+// Each reduction that is done at once in a body's block becomes an assignment.
+#[cycle(body)]
+fn expand_block(
+    alloc: Global,
+    declarations: &[Declaration],
+    around: Body,
+    stmts: &mut Vec<Stmt>,
+) -> Result<(), AllocError>
+    ensures { OnOk result (sequence (map stmt_of stmts.new.items) ≡ expanded_in declarations.now around.outer around.inner (sequence (map stmt_of stmts.old.items))) }
+{
+    for i in 0..stmts.len() {
+        expand_body(alloc, declarations, around, &mut stmts[i])?;
+    }
+    Ok(())
+}
+
+// The same of a body in a box.
+#[cycle(body)]
+fn expand_inner(
+    alloc: Global,
+    declarations: &[Declaration],
+    around: Body,
+    s: &mut Box<Stmt>,
+) -> Result<(), AllocError>
+    ensures { OnOk result (stmt_of s.new.value ≡ expanded_in declarations.now around.outer around.inner (stmt_of s.old.value)) }
+{
+    expand_body(alloc, declarations, around, s)?;
+    Ok(())
+}
+
+// The same of a body.
+#[cycle(body)]
 fn expand_body(
     alloc: Global,
     declarations: &[Declaration],
     around: Body,
-    s: Stmt,
-) -> Result<Stmt, AllocError>
-    ensures { IfOk result (λ r. stmt_of r ≡ expanded_in declarations.now around.outer around.inner (stmt_of s)) }
+    s: &mut Stmt,
+) -> Result<(), AllocError>
+    ensures { OnOk result (stmt_of s.new ≡ expanded_in declarations.now around.outer around.inner (stmt_of s.old)) }
 {
     match s {
-        Stmt::Block(stmts) => {
-            let mut out = Vec::new(alloc);
-            for stmt in stmts {
-                let changed = expand_body(alloc, declarations, around, stmt)?;
-                out.push(changed)?;
-            }
-            Ok(Stmt::Block(out))
-        }
+        Stmt::Block(stmts) => expand_block(alloc, declarations, around, stmts),
         Stmt::Reduce {
             key,
             total,
@@ -202,195 +278,119 @@ fn expand_body(
             targets,
             values,
         } => {
-            if are_at_once(declarations, around, &targets) {
-                assignment_of(alloc, key, total, reduce, targets, values)
-            } else {
-                Ok(Stmt::Reduce {
-                    key,
-                    total,
-                    reduce,
-                    targets,
-                    values,
-                })
-            }
+            let new = at_once(
+                alloc,
+                declarations,
+                around,
+                *key,
+                *total,
+                *reduce,
+                targets,
+                values,
+            )?;
+            put(s, new);
+            Ok(())
         }
-        Stmt::If { key, test, yes, no } => {
-            let changed = expand_body(alloc, declarations, around, Box::into_inner(yes))?;
-            let yes = Box::new(alloc, changed)?;
-            let changed = expand_body(alloc, declarations, around, Box::into_inner(no))?;
-            let no = Box::new(alloc, changed)?;
-            Ok(Stmt::If { key, test, yes, no })
+        Stmt::If { yes, no, .. } => {
+            expand_inner(alloc, declarations, around, yes)?;
+            expand_inner(alloc, declarations, around, no)
         }
-        Stmt::Foreach {
-            key,
-            place,
-            head,
-            filter,
-            body,
-        } => {
+        Stmt::Foreach { body, .. } => {
             let around = Body {
                 inner: true,
                 ..around
             };
-            let changed = expand_body(alloc, declarations, around, Box::into_inner(body))?;
-            let body = Box::new(alloc, changed)?;
-            Ok(Stmt::Foreach {
-                key,
-                place,
-                head,
-                filter,
-                body,
-            })
+            expand_inner(alloc, declarations, around, body)
         }
-        other => Ok(other),
+        _ => Ok(()),
     }
 }
 
-// The sequential phase with each reduction that is done at once as an assignment.
-fn expand(alloc: Global, declarations: &[Declaration], s: Stmt) -> Result<Stmt, AllocError>
-    ensures { IfOk result (λ r. stmt_of r ≡ expanded declarations.now (stmt_of s)) }
+// Each reduction that is done at once in a block of the sequential phase becomes an assignment.
+#[cycle(phase)]
+fn expand_phases(
+    alloc: Global,
+    declarations: &[Declaration],
+    stmts: &mut Vec<Stmt>,
+) -> Result<(), AllocError>
+    ensures { OnOk result (sequence (map stmt_of stmts.new.items) ≡ expanded declarations.now (sequence (map stmt_of stmts.old.items))) }
+{
+    for i in 0..stmts.len() {
+        expand(alloc, declarations, &mut stmts[i])?;
+    }
+    Ok(())
+}
+
+// The same of a sequential phase in a box.
+#[cycle(phase)]
+fn expand_part(
+    alloc: Global,
+    declarations: &[Declaration],
+    s: &mut Box<Stmt>,
+) -> Result<(), AllocError>
+    ensures { OnOk result (stmt_of s.new.value ≡ expanded declarations.now (stmt_of s.old.value)) }
+{
+    expand(alloc, declarations, s)?;
+    Ok(())
+}
+
+// The same of a loop's body in the sequential phase.
+fn expand_loop(
+    alloc: Global,
+    declarations: &[Declaration],
+    iterator: u32,
+    s: &mut Box<Stmt>,
+) -> Result<(), AllocError>
+    ensures { OnOk result (stmt_of s.new.value ≡ expanded_in declarations.now iterator false (stmt_of s.old.value)) }
+{
+    let around = Body {
+        outer: iterator,
+        inner: false,
+    };
+    expand_inner(alloc, declarations, around, s)
+}
+
+// The same of the sequential phase.
+#[cycle(phase)]
+fn expand(alloc: Global, declarations: &[Declaration], s: &mut Stmt) -> Result<(), AllocError>
+    ensures { OnOk result (stmt_of s.new ≡ expanded declarations.now (stmt_of s.old)) }
 {
     match s {
-        Stmt::Block(stmts) => {
-            let mut out = Vec::new(alloc);
-            for stmt in stmts {
-                let changed = expand(alloc, declarations, stmt)?;
-                out.push(changed)?;
-            }
-            Ok(Stmt::Block(out))
-        }
+        Stmt::Block(stmts) => expand_phases(alloc, declarations, stmts),
         Stmt::Reduce {
             key,
             total,
             reduce,
             targets,
             values,
-        } => assignment_of(alloc, key, total, reduce, targets, values),
-        Stmt::Foreach {
-            key,
-            place,
-            head,
-            filter,
-            body,
         } => {
-            let around = Body {
-                outer: head.iterator,
-                inner: false,
-            };
-            let changed = expand_body(alloc, declarations, around, Box::into_inner(body))?;
-            let body = Box::new(alloc, changed)?;
-            Ok(Stmt::Foreach {
-                key,
-                place,
-                head,
-                filter,
-                body,
-            })
+            let new = assignment_taken(alloc, *key, *total, *reduce, targets, values)?;
+            put(s, new);
+            Ok(())
         }
-        Stmt::For {
-            key,
-            place,
-            head,
-            filter,
-            body,
-        } => {
-            let changed = expand(alloc, declarations, Box::into_inner(body))?;
-            let body = Box::new(alloc, changed)?;
-            Ok(Stmt::For {
-                key,
-                place,
-                head,
-                filter,
-                body,
-            })
+        Stmt::Foreach { head, body, .. } => {
+            expand_loop(alloc, declarations, head.iterator, body)
         }
-        Stmt::If { key, test, yes, no } => {
-            let changed = expand(alloc, declarations, Box::into_inner(yes))?;
-            let yes = Box::new(alloc, changed)?;
-            let changed = expand(alloc, declarations, Box::into_inner(no))?;
-            let no = Box::new(alloc, changed)?;
-            Ok(Stmt::If { key, test, yes, no })
+        Stmt::For { body, .. } => expand_part(alloc, declarations, body),
+        Stmt::If { yes, no, .. } => {
+            expand_part(alloc, declarations, yes)?;
+            expand_part(alloc, declarations, no)
         }
-        Stmt::While {
-            key,
-            place,
-            test,
-            body,
-        } => {
-            let changed = expand(alloc, declarations, Box::into_inner(body))?;
-            let body = Box::new(alloc, changed)?;
-            Ok(Stmt::While {
-                key,
-                place,
-                test,
-                body,
-            })
-        }
-        Stmt::Do {
-            key,
-            place,
-            body,
-            test,
-        } => {
-            let changed = expand(alloc, declarations, Box::into_inner(body))?;
-            let body = Box::new(alloc, changed)?;
-            Ok(Stmt::Do {
-                key,
-                place,
-                body,
-                test,
-            })
-        }
-        Stmt::InBfs {
-            key,
-            place,
-            search,
-            filter,
-            body,
-        } => {
-            let around = Body {
-                outer: search.iterator,
-                inner: false,
-            };
-            let changed = expand_body(alloc, declarations, around, Box::into_inner(body))?;
-            let body = Box::new(alloc, changed)?;
-            Ok(Stmt::InBfs {
-                key,
-                place,
-                search,
-                filter,
-                body,
-            })
+        Stmt::While { body, .. } => expand_part(alloc, declarations, body),
+        Stmt::Do { body, .. } => expand_part(alloc, declarations, body),
+        Stmt::InBfs { search, body, .. } => {
+            expand_loop(alloc, declarations, search.iterator, body)
         }
         Stmt::InBfsBoth {
-            key,
-            place,
             search,
-            filter,
             body,
-            back_key,
-            back_filter,
             back,
+            ..
         } => {
-            let around = Body {
-                outer: search.iterator,
-                inner: false,
-            };
-            let changed = expand_body(alloc, declarations, around, Box::into_inner(body))?;
-            let body = Box::new(alloc, changed)?;
-            let changed = expand_body(alloc, declarations, around, Box::into_inner(back))?;
-            let back = Box::new(alloc, changed)?;
-            Ok(Stmt::InBfsBoth {
-                key,
-                place,
-                search,
-                filter,
-                body,
-                back_key,
-                back_filter,
-                back,
-            })
+            let iterator = search.iterator;
+            expand_loop(alloc, declarations, iterator, body)?;
+            expand_loop(alloc, declarations, iterator, back)
         }
-        other => Ok(other),
+        _ => Ok(()),
     }
 }

@@ -6,22 +6,28 @@
 //! So later passes find such expressions in assignments alone. Conditions of scalars and counts stay. All share one
 //! variable, since none is asked after the next is set.
 
-ghost use Rattle.std.specs.Prelude.{◌≡◌, true, false, [], ◌∷◌, IfOk};
+ghost use Rattle.std.specs.Prelude.{◌≡◌, true, false, [], ◌∷◌, IfOk, OnOk, map, option_map};
+ghost use Rattle.gm_base.specs.declared.places.Place.{Place};
 ghost use Rattle.gm_ast.specs.Program as Program;
+ghost use Rattle.gm_ast.specs.Program.{sequence};
 ghost use Rattle.gm_ast.specs.Tree.{expr_of, program_of, stmt_of};
+ghost use Rattle.gm_ast.specs.declared.tree.Head.{Head};
 ghost use Rattle.gm_forms.specs.Forms.{is_told};
 ghost use Rattle.gm_forms.specs.Meanings.{SameMeaning};
 ghost use Rattle.gm_forms.specs.Uses.{is_named};
 ghost use Rattle.gm_desugar.specs.Conditions as Conditions;
 ghost use Rattle.gm_desugar.specs.Conditions.{hoisted, with_conditions};
+ghost use Rattle.gm_desugar.specs.Places as Places;
 ghost use Rattle.gm_desugar.specs.Stages.{WithConditions, WithLiterals};
 
 use crate::copies::copy;
+use crate::places::{finish, in_turn, put, put_after, put_before, taken, with_both_boxed};
 use gm_ast::forms::Work;
-use gm_ast::tree::{Declaration, Expr, Head, Key, Sort, Stmt, Target, Tree, Variable};
+use gm_ast::tree::{Declaration, Expr, Key, Sort, Stmt, Target, Tree, Variable};
 use gm_base::{Items, NoMemory, Place};
 use gm_value::{VType, Value};
 use std::alloc::{AllocError, Global};
+use std::mem;
 
 /// Sets each condition of the sequential phase that scalars and counts do not tell to a new variable before it is
 /// asked. Where each variable stands in the table as it is used, the program means the same. If it was ready for the
@@ -32,18 +38,21 @@ pub fn conditions_out(alloc: Global, program: Work) -> Result<Work, NoMemory>
     ensures same { IfOk result (λ r. is_named (program_of program) ≡ true → SameMeaning (program_of program) (program_of r)) }
     ensures ready { IfOk result (λ r. WithLiterals (program_of program) → WithConditions (program_of r)) }
 {
-    let tree = program.into_tree();
+    let mut tree = program.into_tree();
+    let outcome = set_conditions(alloc, &mut tree);
+    finish(tree, outcome)
+}
+
+// The same of a tree.
+fn set_conditions(alloc: Global, tree: &mut Tree) -> Result<(), NoMemory>
+    ensures { OnOk result (program_of tree.new ≡ with_conditions (program_of tree.old)) }
+{
     let Ok(variable) = u32::try_from(tree.declarations.len()) else {
         return Err(NoMemory);
     };
-    let mut declarations = tree.declarations;
-    declarations.push(fresh(alloc, VType::Flag))?;
-    let body = hoist(alloc, variable, tree.body)?;
-    Ok(Work::new(Tree {
-        declarations,
-        body,
-        ..tree
-    }))
+    tree.declarations.push(fresh(alloc, VType::Flag))?;
+    hoist(alloc, variable, &mut tree.body)?;
+    Ok(())
 }
 
 // A variable that no text declares.
@@ -67,8 +76,8 @@ fn nowhere() -> Place
     Place { line: 0, col: 0 }
 }
 
-// The variable set to a condition.
-pub(crate) fn set_to(variable: u32, key: Key, value: Expr) -> Stmt
+/// A variable set to a value.
+pub fn set_to(variable: u32, key: Key, value: Expr) -> Stmt
     ensures { stmt_of result ≡ Conditions.set_to variable key (expr_of value) }
 {
     let target = Target::Scalar {
@@ -78,24 +87,14 @@ pub(crate) fn set_to(variable: u32, key: Key, value: Expr) -> Stmt
     Stmt::Assign { key, target, value }
 }
 
-// The variable as a condition.
-pub(crate) fn asked(variable: u32) -> Expr
+/// The value of a variable.
+pub fn asked(variable: u32) -> Expr
     ensures { expr_of result ≡ Conditions.asked variable }
 {
     Expr::Var {
         variable,
         place: nowhere(),
     }
-}
-
-// One statement after another.
-fn in_turn(alloc: Global, first: Stmt, second: Stmt) -> Result<Stmt, AllocError>
-    ensures { IfOk result (λ r. stmt_of r ≡ Program.sequence (stmt_of first ∷ stmt_of second ∷ [])) }
-{
-    let mut stmts = Vec::new(alloc);
-    stmts.push(first)?;
-    stmts.push(second)?;
-    Ok(Stmt::Block(stmts))
 }
 
 // Whether scalars and counts tell an expression.
@@ -120,25 +119,24 @@ pub(crate) fn is_told(e: &Expr) -> bool
     }
 }
 
-// An If whose condition is set before, where it is not told.
-fn hoist_if(
-    alloc: Global,
-    variable: u32,
-    key: Key,
-    test: Expr,
-    yes: Stmt,
-    no: Stmt,
-) -> Result<Stmt, AllocError>
-    ensures { IfOk result (λ r. stmt_of r ≡ Conditions.if_hoisted (is_told (expr_of test)) variable key (expr_of test) (stmt_of yes) (stmt_of no)) }
+// Sets the variable to a condition that is not told, which becomes the variable.
+fn set_unless(variable: u32, key: Key, test: &mut Expr) -> Option<Stmt>
+    ensures set { option_map stmt_of result ≡ Conditions.set_unless (is_told (expr_of test.old)) variable key (expr_of test.old) }
+    ensures asked { expr_of test.new ≡ Conditions.asked_unless (is_told (expr_of test.old)) variable (expr_of test.old) }
 {
-    let yes = Box::new(alloc, yes)?;
-    let no = Box::new(alloc, no)?;
-    if is_told(&test) {
-        return Ok(Stmt::If { key, test, yes, no });
+    if is_told(test) {
+        return None;
     }
-    let set = set_to(variable, key, test);
-    let test = asked(variable);
-    in_turn(alloc, set, Stmt::If { key, test, yes, no })
+    let condition = mem::replace(test, asked(variable));
+    Some(set_to(variable, key, condition))
+}
+
+// An If.
+fn if_else(alloc: Global, key: Key, test: Expr, yes: Stmt, no: Stmt) -> Result<Stmt, AllocError>
+    ensures { IfOk result (λ r. stmt_of r ≡ Program.If key (expr_of test) (stmt_of yes) (stmt_of no)) }
+{
+    let (test, yes, no) = with_both_boxed(alloc, test, yes, no)?;
+    Ok(Stmt::If { key, test, yes, no })
 }
 
 // The body of a For whose filter is set in each turn.
@@ -151,189 +149,131 @@ fn filtered(
 ) -> Result<Stmt, AllocError>
     ensures { IfOk result (λ r. stmt_of r ≡ Conditions.if_hoisted false variable key (expr_of filter) (stmt_of body) Program.Skip) }
 {
-    let yes = Box::new(alloc, body)?;
-    let no = Box::new(alloc, Stmt::Block(Vec::new(alloc)))?;
-    let set = set_to(variable, key, filter);
-    let test = asked(variable);
-    in_turn(alloc, set, Stmt::If { key, test, yes, no })
+    let nothing = Stmt::Block(Vec::new(alloc));
+    match if_else(alloc, key, asked(variable), body, nothing) {
+        Ok(asks) => in_turn(alloc, set_to(variable, key, filter), asks),
+        Err(error) => {
+            drop(filter);
+            Err(error)
+        }
+    }
 }
 
-// A For.
-fn for_loop(
-    alloc: Global,
-    key: Key,
-    place: Place,
-    head: Head,
-    filter: Expr,
-    body: Stmt,
-) -> Result<Stmt, AllocError>
-    ensures { IfOk result (λ r. stmt_of r ≡ Program.For key place head (expr_of filter) (stmt_of body)) }
+// Puts a statement at the end of each turn, if there is one.
+fn end_turn(alloc: Global, body: &mut Box<Stmt>, last: Option<Stmt>) -> Result<(), AllocError>
+    ensures { OnOk result (stmt_of body.new.value ≡ Places.before (stmt_of body.old.value) (option_map stmt_of last)) }
 {
-    let body = Box::new(alloc, body)?;
-    Ok(Stmt::For {
-        key,
-        place,
-        head,
-        filter,
-        body,
-    })
+    put_before(alloc, body, last)?;
+    Ok(())
 }
 
-// A For whose filter is set in each turn, where it is not told.
-fn hoist_for(
+// Sets the filter of a For in each turn, where it is not told.
+fn filter_turns(
     alloc: Global,
     variable: u32,
     key: Key,
-    place: Place,
-    head: Head,
-    filter: Expr,
-    body: Stmt,
-) -> Result<Stmt, AllocError>
-    ensures { IfOk result (λ r. stmt_of r ≡ Conditions.for_hoisted (is_told (expr_of filter)) variable key place head (expr_of filter) (stmt_of body)) }
+    filter: &mut Expr,
+    body: &mut Box<Stmt>,
+) -> Result<(), AllocError>
+    ensures { OnOk result ((at : Place) (h : Head) → Program.For key at h (expr_of filter.new) (stmt_of body.new.value) ≡ Conditions.for_hoisted (is_told (expr_of filter.old)) variable key at h (expr_of filter.old) (stmt_of body.old.value)) }
 {
-    if is_told(&filter) {
-        return for_loop(alloc, key, place, head, filter, body);
+    if is_told(filter) {
+        return Ok(());
     }
-    let turn = filtered(alloc, variable, key, filter, body)?;
-    for_loop(
-        alloc,
-        key,
-        place,
-        head,
-        Expr::Const(Value::Flag(true)),
-        turn,
-    )
+    let condition = mem::replace(filter, Expr::Const(Value::Flag(true)));
+    let every = taken(alloc, body);
+    let turn = filtered(alloc, variable, key, condition, every)?;
+    put::<Stmt>(body, turn);
+    Ok(())
 }
 
-// A While.
-fn while_loop(
-    alloc: Global,
-    key: Key,
-    place: Place,
-    test: Expr,
-    body: Stmt,
-) -> Result<Stmt, AllocError>
-    ensures { IfOk result (λ r. stmt_of r ≡ Program.While key place (expr_of test) (stmt_of body)) }
-{
-    let body = Box::new(alloc, body)?;
-    Ok(Stmt::While {
-        key,
-        place,
-        test,
-        body,
-    })
-}
-
-// A While whose condition is set before it and at the end of each turn.
+// Sets the condition of a While before it and at the end of each turn, where it is not told.
 fn set_while(
     alloc: Global,
     variable: u32,
     key: Key,
-    place: Place,
-    test: Expr,
-    body: Stmt,
-) -> Result<Stmt, AllocError>
-    ensures { IfOk result (λ r. stmt_of r ≡ Conditions.while_hoisted false variable key place (expr_of test) (stmt_of body)) }
+    test: &mut Expr,
+    body: &mut Box<Stmt>,
+) -> Result<Option<Stmt>, AllocError>
+    ensures { IfOk result (λ r. (at : Place) → Places.after (option_map stmt_of r) (Program.While key at (expr_of test.new) (stmt_of body.new.value)) ≡ Conditions.while_hoisted (is_told (expr_of test.old)) variable key at (expr_of test.old) (stmt_of body.old.value)) }
 {
-    let again = copy(alloc, &test)?;
-    let turn = in_turn(alloc, body, set_to(variable, key, again))?;
-    let turns = while_loop(alloc, key, place, asked(variable), turn)?;
-    in_turn(alloc, set_to(variable, key, test), turns)
-}
-
-// A While whose condition is set before it and at the end of each turn, where it is not told.
-fn hoist_while(
-    alloc: Global,
-    variable: u32,
-    key: Key,
-    place: Place,
-    test: Expr,
-    body: Stmt,
-) -> Result<Stmt, AllocError>
-    ensures { IfOk result (λ r. stmt_of r ≡ Conditions.while_hoisted (is_told (expr_of test)) variable key place (expr_of test) (stmt_of body)) }
-{
-    if is_told(&test) {
-        return while_loop(alloc, key, place, test, body);
+    if is_told(test) {
+        return Ok(None);
     }
-    set_while(alloc, variable, key, place, test, body)
+    let again = copy(alloc, test)?;
+    let set = set_to(variable, key, again);
+    end_turn(alloc, body, Some(set))?;
+    let condition = mem::replace(test, asked(variable));
+    Ok(Some(set_to(variable, key, condition)))
 }
 
-// A Do whose condition is set at the end of each turn, where it is not told.
-fn hoist_do(
-    alloc: Global,
-    variable: u32,
-    key: Key,
-    place: Place,
-    body: Stmt,
-    test: Expr,
-) -> Result<Stmt, AllocError>
-    ensures { IfOk result (λ r. stmt_of r ≡ Conditions.do_hoisted (is_told (expr_of test)) variable key place (stmt_of body) (expr_of test)) }
+// Each condition in a block that is not told is set before it is asked.
+#[cycle(hoisting)]
+fn hoist_block(alloc: Global, variable: u32, stmts: &mut Vec<Stmt>) -> Result<(), AllocError>
+    ensures { OnOk result (sequence (map stmt_of stmts.new.items) ≡ hoisted variable (sequence (map stmt_of stmts.old.items))) }
 {
-    if is_told(&test) {
-        let body = Box::new(alloc, body)?;
-        return Ok(Stmt::Do {
-            key,
-            place,
-            body,
-            test,
-        });
+    for i in 0..stmts.len() {
+        hoist(alloc, variable, &mut stmts[i])?;
     }
-    let turn = in_turn(alloc, body, set_to(variable, key, test))?;
-    let body = Box::new(alloc, turn)?;
-    Ok(Stmt::Do {
-        key,
-        place,
-        body,
-        test: asked(variable),
-    })
+    Ok(())
 }
 
-// The sequential phase with each condition that is not told set before it is asked.
-fn hoist(alloc: Global, variable: u32, s: Stmt) -> Result<Stmt, AllocError>
-    ensures { IfOk result (λ r. stmt_of r ≡ hoisted variable (stmt_of s)) }
+// The same of a sequential phase in a box.
+#[cycle(hoisting)]
+fn hoist_inner(alloc: Global, variable: u32, s: &mut Box<Stmt>) -> Result<(), AllocError>
+    ensures { OnOk result (stmt_of s.new.value ≡ hoisted variable (stmt_of s.old.value)) }
+{
+    hoist(alloc, variable, s)?;
+    Ok(())
+}
+
+// The same of a sequential phase.
+#[cycle(hoisting)]
+fn hoist(alloc: Global, variable: u32, s: &mut Stmt) -> Result<(), AllocError>
+    ensures { OnOk result (stmt_of s.new ≡ hoisted variable (stmt_of s.old)) }
 {
     match s {
-        Stmt::Block(stmts) => {
-            let mut out = Vec::new(alloc);
-            for stmt in stmts {
-                let changed = hoist(alloc, variable, stmt)?;
-                out.push(changed)?;
-            }
-            Ok(Stmt::Block(out))
-        }
+        Stmt::Block(stmts) => hoist_block(alloc, variable, stmts),
         Stmt::For {
             key,
-            place,
-            head,
+            place: _place,
+            head: _head,
             filter,
             body,
         } => {
-            let body = hoist(alloc, variable, Box::into_inner(body))?;
-            hoist_for(alloc, variable, key, place, head, filter, body)
+            hoist_inner(alloc, variable, body)?;
+            filter_turns(alloc, variable, *key, filter, body)?;
+            Ok(())
         }
         Stmt::If { key, test, yes, no } => {
-            let yes = hoist(alloc, variable, Box::into_inner(yes))?;
-            let no = hoist(alloc, variable, Box::into_inner(no))?;
-            hoist_if(alloc, variable, key, test, yes, no)
+            hoist_inner(alloc, variable, yes)?;
+            hoist_inner(alloc, variable, no)?;
+            let set = set_unless(variable, *key, test);
+            put_after(alloc, set, s)?;
+            Ok(())
         }
         Stmt::While {
             key,
-            place,
+            place: _place,
             test,
             body,
         } => {
-            let body = hoist(alloc, variable, Box::into_inner(body))?;
-            hoist_while(alloc, variable, key, place, test, body)
+            hoist_inner(alloc, variable, body)?;
+            let set = set_while(alloc, variable, *key, test, body)?;
+            put_after(alloc, set, s)?;
+            Ok(())
         }
         Stmt::Do {
             key,
-            place,
+            place: _place,
             body,
             test,
         } => {
-            let body = hoist(alloc, variable, Box::into_inner(body))?;
-            hoist_do(alloc, variable, key, place, body, test)
+            hoist_inner(alloc, variable, body)?;
+            let set = set_unless(variable, *key, test);
+            end_turn(alloc, body, set)?;
+            Ok(())
         }
-        other => Ok(other),
+        _ => Ok(()),
     }
 }

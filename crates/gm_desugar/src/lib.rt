@@ -11,9 +11,10 @@
 //!    variables of their own, from left to right.
 //!
 //! A pass is a function on trees in `specs/`, the code that gives what this function gives, and a law: the result
-//! means the same, keeps what every pass keeps (`IsSane`), and has the next form. Trees are rebuilt by value, and only
-//! the condition of a While is written twice, so time and memory are linear in the tree. New variables stand behind
-//! all others in the table.
+//! means the same, keeps what every pass keeps (`IsSane`), and has the next form. Statements and expressions that keep
+//! their form are changed in place where that is possible, others are rebuilt by value, and only the condition of a
+//! While is written twice, so time and memory are linear in the tree. New variables stand behind all others in the
+//! table.
 #![tactic(auto)]
 
 pub mod compounds;
@@ -21,4 +22,5 @@ pub mod conditions;
 mod copies;
 pub mod groups;
 pub mod literals;
+pub mod places;
 pub mod reads;

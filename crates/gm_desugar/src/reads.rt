@@ -5,22 +5,26 @@
 //! variables, in administrative normal form: each such read stands alone as the value of a scalar, and scalars and
 //! counts tell what is declared, assigned and returned else.
 
-ghost use Rattle.std.specs.Prelude.{◌≡◌, ◌+◌, ◌++◌, true, [], ◌∷◌, Some, IfOk, OnOk, map, option_map};
+ghost use Rattle.std.specs.Prelude.{◌≡◌, ◌+◌, ◌++◌, true, [], ◌∷◌, IfOk, OnOk, map, option_map};
+ghost use Rattle.gm_base.specs.declared.places.Place.{Place};
 ghost use Rattle.gm_ast.specs.Program as Program;
+ghost use Rattle.gm_ast.specs.Program.{sequence};
 ghost use Rattle.gm_ast.specs.Tree.{expr_of, program_of, stmt_of};
 ghost use Rattle.gm_forms.specs.Meanings.{SameMeaning};
 ghost use Rattle.gm_forms.specs.Typing.{type_at};
 ghost use Rattle.gm_forms.specs.Uses.{is_named};
 ghost use Rattle.gm_desugar.specs.Conditions as Conditions;
+ghost use Rattle.gm_desugar.specs.Places as Places;
 ghost use Rattle.gm_desugar.specs.Reads as Reads;
 ghost use Rattle.gm_desugar.specs.Reads.{apart, count_read, count_reads, with_reads_apart};
 ghost use Rattle.gm_desugar.specs.Stages.{WithConditions, WithReadsApart};
 
 use crate::conditions::{asked, fresh, is_told, set_to};
 use crate::copies::copy;
+use crate::places::{finish, put, put_after_all};
 use gm_ast::forms::Work;
 use gm_ast::tree::{Declaration, Expr, Key, Stmt, Target, Tree};
-use gm_base::{NoMemory, Place};
+use gm_base::NoMemory;
 use gm_value::VType;
 use std::alloc::{AllocError, Global};
 
@@ -33,25 +37,28 @@ pub fn reads_out(alloc: Global, program: Work) -> Result<Work, NoMemory>
     ensures same { IfOk result (λ r. is_named (program_of program) ≡ true → SameMeaning (program_of program) (program_of r)) }
     ensures ready { IfOk result (λ r. WithConditions (program_of program) → WithReadsApart (program_of r)) }
 {
-    let tree = program.into_tree();
+    let mut tree = program.into_tree();
+    let outcome = set_reads(alloc, &mut tree);
+    finish(tree, outcome)
+}
+
+// The same of a tree.
+fn set_reads(alloc: Global, tree: &mut Tree) -> Result<(), NoMemory>
+    ensures { OnOk result (program_of tree.new ≡ with_reads_apart (program_of tree.old)) }
+{
     let Ok(first) = u32::try_from(tree.declarations.len()) else {
         return Err(NoMemory);
     };
     let mut types = Vec::new(alloc);
     types_apart(&tree.declarations, &tree.body, &mut types)?;
-    let mut declarations = tree.declarations;
-    add_fresh(alloc, types, &mut declarations)?;
+    add_fresh(alloc, types, &mut tree.declarations)?;
     let mut next = first;
-    let body = set_apart(alloc, &mut next, tree.body)?;
-    Ok(Work::new(Tree {
-        declarations,
-        body,
-        ..tree
-    }))
+    set_apart(alloc, &mut next, &mut tree.body)?;
+    Ok(())
 }
 
-// Adds a variable of each type that no text declares.
-fn add_fresh(
+/// Adds a scalar of each type that no text declares.
+pub fn add_fresh(
     alloc: Global,
     types: Vec<VType>,
     declarations: &mut Vec<Declaration>,
@@ -64,8 +71,8 @@ fn add_fresh(
     Ok(())
 }
 
-// The type of a variable.
-fn type_of(declarations: &[Declaration], variable: u32) -> VType
+/// The type of a variable.
+pub fn type_of(declarations: &[Declaration], variable: u32) -> VType
     ensures { result ≡ type_at declarations.now variable }
 {
     match declarations.get(variable as usize) {
@@ -74,8 +81,8 @@ fn type_of(declarations: &[Declaration], variable: u32) -> VType
     }
 }
 
-// The next of the new variables.
-fn take_next(next: &mut u32) -> Result<u32, AllocError>
+/// Takes the next of the new variables. Answers want of memory where no number is behind it.
+pub fn take_next(next: &mut u32) -> Result<u32, AllocError>
     ensures taken { IfOk result (λ n. n ≡ next.old) }
     ensures next { OnOk result (next.new ≡ next.old + 1) }
 {
@@ -89,8 +96,8 @@ fn take_next(next: &mut u32) -> Result<u32, AllocError>
     }
 }
 
-// Adds the types of an expression's reads.
-fn types_read(
+/// Adds the types of an expression's reads, from left to right.
+pub fn types_read(
     declarations: &[Declaration],
     e: &Expr,
     types: &mut Vec<VType>,
@@ -140,8 +147,8 @@ fn types_read(
     }
 }
 
-// Adds the reads of an expression, each set to the next variable.
-fn reads_set(
+/// Adds the reads of an expression, each set to the next variable, from left to right.
+pub fn reads_set(
     alloc: Global,
     next: &mut u32,
     key: Key,
@@ -199,62 +206,56 @@ fn one_set(
     Ok(())
 }
 
-// The expression with its reads as the next variables.
-fn told_from(alloc: Global, next: &mut u32, e: Expr) -> Result<Expr, AllocError>
-    ensures told { IfOk result (λ r. expr_of r ≡ Reads.told_from next.old (expr_of e)) }
-    ensures next { OnOk result (next.new ≡ next.old + count_read (expr_of e)) }
+// A read becomes the next variable.
+fn tell_read(next: &mut u32, e: &mut Expr) -> Result<(), AllocError>
+    ensures told { OnOk result (expr_of e.new ≡ Conditions.asked next.old) }
+    ensures next { OnOk result (next.new ≡ next.old + 1) }
+{
+    let variable = take_next(next)?;
+    put(e, asked(variable));
+    Ok(())
+}
+
+// The reads of an expression in a box become the next variables.
+#[cycle(telling)]
+fn tell_part(next: &mut u32, e: &mut Box<Expr>) -> Result<(), AllocError>
+    ensures told { OnOk result (expr_of e.new.value ≡ Reads.told_from next.old (expr_of e.old.value)) }
+    ensures next { OnOk result (next.new ≡ next.old + count_read (expr_of e.old.value)) }
+{
+    tell(next, e)?;
+    Ok(())
+}
+
+/// The reads of an expression become the next variables.
+#[cycle(telling)]
+pub fn tell(next: &mut u32, e: &mut Expr) -> Result<(), AllocError>
+    ensures told { OnOk result (expr_of e.new ≡ Reads.told_from next.old (expr_of e.old)) }
+    ensures next { OnOk result (next.new ≡ next.old + count_read (expr_of e.old)) }
 {
     match e {
-        Expr::Property { .. } => Ok(asked(take_next(next)?)),
-        Expr::Degree { .. } => Ok(asked(take_next(next)?)),
-        Expr::Live { .. } => Ok(asked(take_next(next)?)),
-        Expr::Fold { .. } => Ok(asked(take_next(next)?)),
-        Expr::Unary { op, place, inner } => {
-            let part = told_from(alloc, next, Box::into_inner(inner))?;
-            let inner = Box::new(alloc, part)?;
-            Ok(Expr::Unary { op, place, inner })
-        }
-        Expr::Binary {
-            op,
-            place,
-            left,
-            right,
-        } => {
-            let part = told_from(alloc, next, Box::into_inner(left))?;
-            let left = Box::new(alloc, part)?;
-            let part = told_from(alloc, next, Box::into_inner(right))?;
-            let right = Box::new(alloc, part)?;
-            Ok(Expr::Binary {
-                op,
-                place,
-                left,
-                right,
-            })
+        Expr::Property { .. } => tell_read(next, e),
+        Expr::Degree { .. } => tell_read(next, e),
+        Expr::Live { .. } => tell_read(next, e),
+        Expr::Fold { .. } => tell_read(next, e),
+        Expr::Unary { inner, .. } => tell_part(next, inner),
+        Expr::Binary { left, right, .. } => {
+            tell_part(next, left)?;
+            tell_part(next, right)
         }
         Expr::Both(left, right) => {
-            let part = told_from(alloc, next, Box::into_inner(left))?;
-            let left = Box::new(alloc, part)?;
-            let part = told_from(alloc, next, Box::into_inner(right))?;
-            let right = Box::new(alloc, part)?;
-            Ok(Expr::Both(left, right))
+            tell_part(next, left)?;
+            tell_part(next, right)
         }
         Expr::Either(left, right) => {
-            let part = told_from(alloc, next, Box::into_inner(left))?;
-            let left = Box::new(alloc, part)?;
-            let part = told_from(alloc, next, Box::into_inner(right))?;
-            let right = Box::new(alloc, part)?;
-            Ok(Expr::Either(left, right))
+            tell_part(next, left)?;
+            tell_part(next, right)
         }
         Expr::Choose(test, yes, no) => {
-            let part = told_from(alloc, next, Box::into_inner(test))?;
-            let test = Box::new(alloc, part)?;
-            let part = told_from(alloc, next, Box::into_inner(yes))?;
-            let yes = Box::new(alloc, part)?;
-            let part = told_from(alloc, next, Box::into_inner(no))?;
-            let no = Box::new(alloc, part)?;
-            Ok(Expr::Choose(test, yes, no))
+            tell_part(next, test)?;
+            tell_part(next, yes)?;
+            tell_part(next, no)
         }
-        other => Ok(other),
+        _ => Ok(()),
     }
 }
 
@@ -418,205 +419,180 @@ fn types_apart(
     }
 }
 
-// An assignment after the reads of its value, unless that stands alone.
-fn assign_apart(
+// Adds the reads of an expression, each set to the next variable. The expression tells these variables then.
+fn set_and_tell(
+    alloc: Global,
+    next: &mut u32,
+    key: Key,
+    e: &mut Expr,
+    set: &mut Vec<Stmt>,
+) -> Result<(), AllocError>
+    ensures set { OnOk result (map stmt_of set.new.items ≡ map stmt_of set.old.items ++ Reads.reads_set next.old key (expr_of e.old)) }
+    ensures told { OnOk result (expr_of e.new ≡ Reads.told_from next.old (expr_of e.old)) }
+    ensures next { OnOk result (next.new ≡ next.old + count_read (expr_of e.old)) }
+{
+    let mut from = *next;
+    reads_set(alloc, &mut from, key, e, set)?;
+    tell(next, e)
+}
+
+// The reads of an expression, each set to the next variable. The expression tells these variables then.
+fn reads_apart(
+    alloc: Global,
+    next: &mut u32,
+    key: Key,
+    e: &mut Expr,
+) -> Result<Vec<Stmt>, AllocError>
+    ensures set { IfOk result (λ r. map stmt_of r.items ≡ Reads.reads_set next.old key (expr_of e.old)) }
+    ensures told { OnOk result (expr_of e.new ≡ Reads.told_from next.old (expr_of e.old)) }
+    ensures next { OnOk result (next.new ≡ next.old + count_read (expr_of e.old)) }
+{
+    let mut set = Vec::new(alloc);
+    match set_and_tell(alloc, next, key, e, &mut set) {
+        Ok(()) => Ok(set),
+        Err(error) => {
+            drop(set);
+            Err(error)
+        }
+    }
+}
+
+// The same of an expression, unless it stands alone.
+fn reads_unless(
+    alloc: Global,
+    next: &mut u32,
+    alone: bool,
+    key: Key,
+    e: &mut Expr,
+) -> Result<Option<Vec<Stmt>>, AllocError>
+    ensures set { IfOk result (λ r. option_map (λ v. map stmt_of v.items) r ≡ Reads.set_unless alone next.old key (expr_of e.old)) }
+    ensures told { OnOk result (expr_of e.new ≡ Reads.told_unless alone next.old (expr_of e.old)) }
+    ensures next { OnOk result (next.new ≡ next.old + Reads.count_unless alone (expr_of e.old)) }
+{
+    if alone {
+        return Ok(None);
+    }
+    let set = reads_apart(alloc, next, key, e)?;
+    Ok(Some(set))
+}
+
+// The same of what is assigned.
+fn assigned_apart(
     alloc: Global,
     next: &mut u32,
     key: Key,
     target: Target,
-    value: Expr,
-) -> Result<Stmt, AllocError>
-    ensures apart { IfOk result (λ r. stmt_of r ≡ apart next.old (Program.Assign key target (expr_of value))) }
-    ensures next { OnOk result (next.new ≡ next.old + count_reads (Program.Assign key target (expr_of value))) }
+    value: &mut Expr,
+) -> Result<Option<Vec<Stmt>>, AllocError>
+    ensures apart { IfOk result (λ r. Places.after_all (option_map (λ v. map stmt_of v.items) r) (Program.Assign key target (expr_of value.new)) ≡ apart next.old (Program.Assign key target (expr_of value.old))) }
+    ensures next { OnOk result (next.new ≡ next.old + count_reads (Program.Assign key target (expr_of value.old))) }
 {
-    if stays_alone(target, &value) {
-        return Ok(Stmt::Assign { key, target, value });
-    }
-    let mut set = Vec::new(alloc);
-    let mut from = *next;
-    reads_set(alloc, &mut from, key, &value, &mut set)?;
-    let value = told_from(alloc, next, value)?;
-    set.push(Stmt::Assign { key, target, value })?;
-    Ok(Stmt::Block(set))
+    let alone = stays_alone(target, value);
+    let set = reads_unless(alloc, next, alone, key, value)?;
+    Ok(set)
 }
 
-// A declaration after the reads of its value, unless that stands alone.
-fn declare_apart(
-    alloc: Global,
-    next: &mut u32,
-    key: Key,
-    variable: u32,
-    value: Expr,
-) -> Result<Stmt, AllocError>
-    ensures apart { IfOk result (λ r. stmt_of r ≡ apart next.old (Program.Declare key variable (Some (expr_of value)))) }
-    ensures next { OnOk result (next.new ≡ next.old + count_reads (Program.Declare key variable (Some (expr_of value)))) }
-{
-    if is_single(variable, &value) {
-        return Ok(Stmt::Declare {
-            key,
-            variable,
-            value: Some(value),
-        });
-    }
-    let mut set = Vec::new(alloc);
-    let mut from = *next;
-    reads_set(alloc, &mut from, key, &value, &mut set)?;
-    let value = told_from(alloc, next, value)?;
-    set.push(Stmt::Declare {
-        key,
-        variable,
-        value: Some(value),
-    })?;
-    Ok(Stmt::Block(set))
-}
-
-// A return after the reads of its value, unless scalars and counts tell that.
-fn return_apart(
-    alloc: Global,
-    next: &mut u32,
-    key: Key,
-    place: Place,
-    value: Expr,
-) -> Result<Stmt, AllocError>
-    ensures apart { IfOk result (λ r. stmt_of r ≡ apart next.old (Program.Return key place (Some (expr_of value)))) }
-    ensures next { OnOk result (next.new ≡ next.old + count_reads (Program.Return key place (Some (expr_of value)))) }
-{
-    if is_told(&value) {
-        return Ok(Stmt::Return {
-            key,
-            place,
-            value: Some(value),
-        });
-    }
-    let mut set = Vec::new(alloc);
-    let mut from = *next;
-    reads_set(alloc, &mut from, key, &value, &mut set)?;
-    let value = told_from(alloc, next, value)?;
-    set.push(Stmt::Return {
-        key,
-        place,
-        value: Some(value),
-    })?;
-    Ok(Stmt::Block(set))
-}
-
-// A declaration after the reads of what it sets, if it sets anything.
+// The same of what a declaration sets, if it sets anything.
 fn declared_apart(
     alloc: Global,
     next: &mut u32,
     key: Key,
     variable: u32,
-    value: Option<Expr>,
-) -> Result<Stmt, AllocError>
-    ensures apart { IfOk result (λ r. stmt_of r ≡ apart next.old (Program.Declare key variable (option_map expr_of value))) }
-    ensures next { OnOk result (next.new ≡ next.old + count_reads (Program.Declare key variable (option_map expr_of value))) }
+    value: &mut Option<Expr>,
+) -> Result<Option<Vec<Stmt>>, AllocError>
+    ensures apart { IfOk result (λ r. Places.after_all (option_map (λ v. map stmt_of v.items) r) (Program.Declare key variable (option_map expr_of value.new)) ≡ apart next.old (Program.Declare key variable (option_map expr_of value.old))) }
+    ensures next { OnOk result (next.new ≡ next.old + count_reads (Program.Declare key variable (option_map expr_of value.old))) }
 {
     match value {
-        Some(value) => declare_apart(alloc, next, key, variable, value),
-        None => Ok(Stmt::Declare {
-            key,
-            variable,
-            value: None,
-        }),
+        None => Ok(None),
+        Some(value) => {
+            let alone = is_single(variable, value);
+            let set = reads_unless(alloc, next, alone, key, value)?;
+            Ok(set)
+        }
     }
 }
 
-// A return after the reads of its value, if it has one.
+// The same of what is returned, if anything is.
 fn returned_apart(
     alloc: Global,
     next: &mut u32,
     key: Key,
-    place: Place,
-    value: Option<Expr>,
-) -> Result<Stmt, AllocError>
-    ensures apart { IfOk result (λ r. stmt_of r ≡ apart next.old (Program.Return key place (option_map expr_of value))) }
-    ensures next { OnOk result (next.new ≡ next.old + count_reads (Program.Return key place (option_map expr_of value))) }
+    value: &mut Option<Expr>,
+) -> Result<Option<Vec<Stmt>>, AllocError>
+    ensures apart { IfOk result (λ r. (at : Place) → Places.after_all (option_map (λ v. map stmt_of v.items) r) (Program.Return key at (option_map expr_of value.new)) ≡ apart next.old (Program.Return key at (option_map expr_of value.old))) }
+    ensures next { OnOk result ((at : Place) → next.new ≡ next.old + count_reads (Program.Return key at (option_map expr_of value.old))) }
 {
     match value {
-        Some(value) => return_apart(alloc, next, key, place, value),
-        None => Ok(Stmt::Return {
-            key,
-            place,
-            value: None,
-        }),
+        None => Ok(None),
+        Some(value) => {
+            let alone = is_told(value);
+            let set = reads_unless(alloc, next, alone, key, value)?;
+            Ok(set)
+        }
     }
 }
 
-// The sequential phase with its reads apart.
-fn set_apart(alloc: Global, next: &mut u32, s: Stmt) -> Result<Stmt, AllocError>
-    ensures apart { IfOk result (λ r. stmt_of r ≡ apart next.old (stmt_of s)) }
-    ensures next { OnOk result (next.new ≡ next.old + count_reads (stmt_of s)) }
+// The reads in a block come to stand apart.
+#[cycle(setting)]
+fn set_block_apart(alloc: Global, next: &mut u32, stmts: &mut Vec<Stmt>) -> Result<(), AllocError>
+    ensures apart { OnOk result (sequence (map stmt_of stmts.new.items) ≡ apart next.old (sequence (map stmt_of stmts.old.items))) }
+    ensures next { OnOk result (next.new ≡ next.old + count_reads (sequence (map stmt_of stmts.old.items))) }
+{
+    for i in 0..stmts.len() {
+        set_apart(alloc, next, &mut stmts[i])?;
+    }
+    Ok(())
+}
+
+// The same of a sequential phase in a box.
+#[cycle(setting)]
+fn set_part_apart(alloc: Global, next: &mut u32, s: &mut Box<Stmt>) -> Result<(), AllocError>
+    ensures apart { OnOk result (stmt_of s.new.value ≡ apart next.old (stmt_of s.old.value)) }
+    ensures next { OnOk result (next.new ≡ next.old + count_reads (stmt_of s.old.value)) }
+{
+    set_apart(alloc, next, s)?;
+    Ok(())
+}
+
+// The same of a sequential phase.
+#[cycle(setting)]
+fn set_apart(alloc: Global, next: &mut u32, s: &mut Stmt) -> Result<(), AllocError>
+    ensures apart { OnOk result (stmt_of s.new ≡ apart next.old (stmt_of s.old)) }
+    ensures next { OnOk result (next.new ≡ next.old + count_reads (stmt_of s.old)) }
 {
     match s {
-        Stmt::Block(stmts) => {
-            let mut out = Vec::new(alloc);
-            for stmt in stmts {
-                let changed = set_apart(alloc, next, stmt)?;
-                out.push(changed)?;
-            }
-            Ok(Stmt::Block(out))
-        }
+        Stmt::Block(stmts) => set_block_apart(alloc, next, stmts),
         Stmt::Declare {
             key,
             variable,
             value,
-        } => declared_apart(alloc, next, key, variable, value),
-        Stmt::Assign { key, target, value } => assign_apart(alloc, next, key, target, value),
-        Stmt::For {
-            key,
-            place,
-            head,
-            filter,
-            body,
         } => {
-            let changed = set_apart(alloc, next, Box::into_inner(body))?;
-            let body = Box::new(alloc, changed)?;
-            Ok(Stmt::For {
-                key,
-                place,
-                head,
-                filter,
-                body,
-            })
+            let set = declared_apart(alloc, next, *key, *variable, value)?;
+            put_after_all(alloc, set, s)?;
+            Ok(())
         }
-        Stmt::If { key, test, yes, no } => {
-            let changed = set_apart(alloc, next, Box::into_inner(yes))?;
-            let yes = Box::new(alloc, changed)?;
-            let changed = set_apart(alloc, next, Box::into_inner(no))?;
-            let no = Box::new(alloc, changed)?;
-            Ok(Stmt::If { key, test, yes, no })
+        Stmt::Assign { key, target, value } => {
+            let set = assigned_apart(alloc, next, *key, *target, value)?;
+            put_after_all(alloc, set, s)?;
+            Ok(())
         }
-        Stmt::While {
+        Stmt::For { body, .. } => set_part_apart(alloc, next, body),
+        Stmt::If { yes, no, .. } => {
+            set_part_apart(alloc, next, yes)?;
+            set_part_apart(alloc, next, no)
+        }
+        Stmt::While { body, .. } => set_part_apart(alloc, next, body),
+        Stmt::Do { body, .. } => set_part_apart(alloc, next, body),
+        Stmt::Return {
             key,
-            place,
-            test,
-            body,
+            place: _place,
+            value,
         } => {
-            let changed = set_apart(alloc, next, Box::into_inner(body))?;
-            let body = Box::new(alloc, changed)?;
-            Ok(Stmt::While {
-                key,
-                place,
-                test,
-                body,
-            })
+            let set = returned_apart(alloc, next, *key, value)?;
+            put_after_all(alloc, set, s)?;
+            Ok(())
         }
-        Stmt::Do {
-            key,
-            place,
-            body,
-            test,
-        } => {
-            let changed = set_apart(alloc, next, Box::into_inner(body))?;
-            let body = Box::new(alloc, changed)?;
-            Ok(Stmt::Do {
-                key,
-                place,
-                body,
-                test,
-            })
-        }
-        Stmt::Return { key, place, value } => returned_apart(alloc, next, key, place, value),
-        other => Ok(other),
+        _ => Ok(()),
     }
 }

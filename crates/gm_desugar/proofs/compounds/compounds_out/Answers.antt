@@ -1,17 +1,28 @@
-use Rattle.std.proofs.Common.{◌≡◌, rules, sym, subst}
+use Rattle.std.proofs.Common.{◌≡◌, sym, subst}
+use Rattle.std.specs.Prelude.{IfOk, OnOk}
 use Rattle.gm_ast.specs.Tree.{program_of}
 use Rattle.gm_forms.specs.Meanings.{SameMeaning}
-use Rattle.gm_desugar.specs.Stages.{WithoutCompounds}
 use Rattle.gm_desugar.specs.Compounds.{without_compounds}
+use Rattle.gm_desugar.specs.Stages.{WithoutCompounds}
 use Rattle.gm_desugar.proofs.CompoundsOut.{same-without_compounds, kept}
+use Rattle.gm_desugar.proofs.Trees.{finished, ok-then}
 use Rattle.gm_desugar.proofs.compounds.compounds_out.Goals as goal
+
+pub returns-clause-made : goal.returns-clause-made
+returns-clause-made c =
+    let p = program_of c.args.program in
+    let tree = c.expand_tree-outcome.new.tree in
+    let changed : OnOk c.expand_tree-outcome.result (program_of tree ≡ without_compounds p) = subst (λ t. OnOk c.expand_tree-outcome.result (program_of tree ≡ without_compounds (program_of t))) c.into_tree-tree.ensures c.expand_tree-outcome.ensures in
+    finished c.finish.result c.expand_tree-outcome.result tree (λ t. program_of t ≡ without_compounds p) c.finish.ensures.tree c.finish.ensures.changed changed
 
 pub returns-clause-same : goal.returns-clause-same
 returns-clause-same c =
-    let made : program_of c.new.result ≡ without_compounds (program_of c.args.program) = search rules in
-    subst (SameMeaning (program_of c.args.program)) (sym made) (same-without_compounds (program_of c.args.program))
+    let p = program_of c.args.program in
+    let made : IfOk c.finish.result (λ r. program_of r ≡ without_compounds p) = returns-clause-made c in
+    ok-then c.finish.result made (λ r same. subst (SameMeaning p) (sym same) (same-without_compounds p))
 
 pub returns-clause-ready : goal.returns-clause-ready
-returns-clause-ready c ready =
-    let made : program_of c.new.result ≡ without_compounds (program_of c.args.program) = search rules in
-    subst WithoutCompounds (sym made) (kept (program_of c.args.program) ready)
+returns-clause-ready c =
+    let p = program_of c.args.program in
+    let made : IfOk c.finish.result (λ r. program_of r ≡ without_compounds p) = returns-clause-made c in
+    ok-then c.finish.result made (λ r same ready. subst WithoutCompounds (sym same) (kept p ready))

@@ -1,10 +1,8 @@
-use Rattle.std.proofs.Common.{◌≡◌, ◌++◌, map, length}
-use Rattle.std.specs.Vec.Iter.{into_iter_items, into_iter_len}
+use Rattle.std.proofs.Common.{◌≡◌, map, length}
 use Rattle.gm_ast.specs.Tree.{expr_of}
 use Rattle.gm_desugar.specs.Literals.{with_literals}
+use Rattle.gm_desugar.proofs.Partly.{partly}
 use Rattle.gm_desugar.proofs.literals.settle_all.Given as goal
 
-abbrev pub invariant-loop-value : goal.invariant-loop-value
-invariant-loop-value l = (l.yielded ++ into_iter_items l.value-iterator ≡ into_iter_items l.initial.value-iterator)
-    × (map expr_of l.out.items ≡ map (λ e. with_literals (expr_of e)) l.yielded)
-    × (into_iter_len l.value-iterator ≡ length (into_iter_items l.value-iterator))
+abbrev pub invariant-loop-i : goal.invariant-loop-i
+invariant-loop-i l = (length l.values.items ≡ length l.initial.values.items) × (map expr_of l.values.items ≡ partly with_literals l.i (map expr_of l.initial.values.items))
