@@ -2,7 +2,7 @@
 use Rattle.std.proofs.Common.{◌≡◌, ◌≤◌, ◌<◌, ◌+◌, ℕ, true, false, List, [], ◌∷◌, ◌++◌, length, map, refl, sym, ap, subst, ◌∙◌, arith, append_assoc}
 use Rattle.std.specs.Prelude.{nat_eq, nat_le}
 use Rattle.std.specs.List.{list_all}
-use Rattle.std.proofs.lemmas.Bool.{leb-true, le-leb, ne_eqb}
+use Rattle.std.proofs.lemmas.Bool.{both_ways, leb-true, le-leb, ne_eqb}
 use Rattle.std.proofs.lemmas.List.{length-append}
 use Rattle.gm_value.specs.declared.values.VType.{VType}
 use Rattle.gm_value.specs.declared.values.VType.TheVariants as V
@@ -31,7 +31,7 @@ use Rattle.gm_reductions.specs.Phases.{KeepsNoPicks}
 use Rattle.gm_reductions.specs.Stages.{all_below, WithTypedRuns, WithoutAccesses}
 use Rattle.gm_reductions.proofs.AccessesKept.{Stand, Stands, loops-kept, none-left, picks-stay}
 use Rattle.gm_reductions.proofs.AccessesLaws.{Beyond, Fine, loops-alike}
-use Rattle.gm_reductions.proofs.Known.{Kept}
+use Rattle.gm_reductions.proofs.Known.{no-iterators, Kept}
 use Rattle.gm_reductions.proofs.Telling.{tells_in-longer}
 
 -- a declaration behind others at the end of a table
@@ -138,7 +138,7 @@ module _ (p : Program) (r : WithTypedRuns p) where
       }
 
   fine : Fine table p.result k [] p.body
-  fine = record { typed = known.typed; named = known.named; tells = known.tells; apart = known.apart; below = names }
+  fine = record { typed = known.typed; named = known.named; tells = known.tells; apart = known.apart; below = names; iterators = no-iterators table }
 
   pub same-without_accesses : SameMeaning p (without_accesses p)
   same-without_accesses =
@@ -147,12 +147,12 @@ module _ (p : Program) (r : WithTypedRuns p) where
       let q = without_accesses p in
       let below = fits-below q g args fits in
       let start = start_of q g args in
-      loops-alike table p.result (run_of q g bound) below.graph refl k ds types (added_at k) (beyond k) p.body [] start start fine (first-typed all_below q g args below) (agree-itself k start))
+      loops-alike table p.result (run_of q g bound) below.graph refl k ds types (added_at k) (beyond k) p.body [] start start fine (record { typed = first-typed all_below q g args below; nodes = λ y i. absurd (both_ways false refl i) }) (agree-itself k start))
 
-  kept-all : Kept table p.result [] (by_loops ds (added_at k) p.body)
+  kept-all : Kept table p.result [] (by_loops ds (added_at k) [] p.body)
   kept-all =
       let few : p.inputs ≤ k = (let b = leb-true (p.inputs + p.outputs) k parts.0 in omega arith) in
-      loops-kept table p.result k few ds types (added_at k) (beyond k) (stands ds) p.body [] names known
+      loops-kept table p.result k few ds types (added_at k) (beyond k) (stands ds) p.body [] names (no-iterators table) known
 
   pub kept : WithoutAccesses (without_accesses p)
   kept =
@@ -168,7 +168,7 @@ module _ (p : Program) (r : WithTypedRuns p) where
                     without_groups = record {
                       ready = record {
                         sane = record {
-                          named = and-true (nat_le (p.inputs + p.outputs) (length es)) (list_all (suits es) (uses_of (by_loops ds (added_at k) p.body))) (le-leb (p.inputs + p.outputs) (length es) within) s.named;
+                          named = and-true (nat_le (p.inputs + p.outputs) (length es)) (list_all (suits es) (uses_of (by_loops ds (added_at k) [] p.body))) (le-leb (p.inputs + p.outputs) (length es) within) s.named;
                           typed = s.typed;
                           ordered = s.ordered;
                           race_free = s.share;
@@ -189,13 +189,13 @@ module _ (p : Program) (r : WithTypedRuns p) where
           };
           tells = s.tells;
         };
-        no_accesses = none-left ds (added_at k) p.body r.with_rising_keys.with_reads_apart.apart;
+        no_accesses = none-left ds (added_at k) [] p.body r.with_rising_keys.with_reads_apart.apart;
       }
 
 pub no-picks : (p : Program) → KeepsNoPicks p (without_accesses p)
-no-picks p h = picks-stay p.declarations (added_at (length p.declarations)) p.body h
+no-picks p h = picks-stay p.declarations (added_at (length p.declarations)) [] p.body h
 
 -- statements one after another
-pub loops-sequence : {A : Type 0} (table : List Declaration) (f : Fresh) (g : A → Stmt) (xs : List A) → by_loops table f (sequence (map g xs)) ≡ sequence (map (λ x. by_loops table f (g x)) xs)
-loops-sequence table f g [] = refl
-loops-sequence table f g (x ∷ xs) = ap (Then (by_loops table f (g x))) (loops-sequence table f g xs)
+pub loops-sequence : {A : Type 0} (declarations : List Declaration) (f : Fresh) (its : List ℕ) (g : A → Stmt) (xs : List A) → by_loops declarations f its (sequence (map g xs)) ≡ sequence (map (λ x. by_loops declarations f its (g x)) xs)
+loops-sequence declarations f its g [] = refl
+loops-sequence declarations f its g (x ∷ xs) = ap (Then (by_loops declarations f its (g x))) (loops-sequence declarations f its g xs)

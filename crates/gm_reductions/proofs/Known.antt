@@ -1,21 +1,33 @@
 -- What is known of a statement of a sequential phase and of its parts.
-use Rattle.std.proofs.Common.{◌≡◌, ◌++◌, ℕ, true, List, [], ◌∷◌, Option}
-use Rattle.std.specs.Prelude.{◌&&◌}
+use Rattle.std.proofs.Common.{◌≡◌, ◌<◌, ◌++◌, ℕ, Bool, true, false, cond, List, [], ◌∷◌, refl, sym, ap, subst, ◌∙◌, Option, Some}
+use Rattle.std.specs.Prelude.{◌&&◌, ◌||◌, length, nat_eq, nat_lt}
 use Rattle.std.specs.List.{list_all}
+use Rattle.std.proofs.lemmas.Bool.{both_ways, eq-eqb, eqb-true, ne_eqb}
 use Rattle.gm_base.specs.declared.places.Place.{Place}
 use Rattle.gm_value.specs.declared.values.VType.{VType}
 use Rattle.gm_value.specs.declared.values.VType.TheVariants as V
+use Rattle.gm_value.specs.declared.values.Value.TheVariants.{At}
+use Rattle.gm_model.specs.Graphs.{NumberedGraph, node_count}
 use Rattle.gm_ast.specs.declared.tree.Declaration.{Declaration}
 use Rattle.gm_ast.specs.declared.tree.Head.{Head}
 use Rattle.gm_ast.specs.declared.tree.Key.{Key}
+use Rattle.gm_ast.specs.declared.tree.Sort.{Sort}
+use Rattle.gm_ast.specs.declared.tree.Sort.TheVariants as Sorts
+use Rattle.gm_ast.specs.declared.tree.Variable.{Variable}
 use Rattle.gm_ast.specs.Loops.{is_nodes}
+use Rattle.gm_ast.specs.Names.{is, sort_eq}
 use Rattle.gm_ast.specs.Program.{Expr, Stmt, Then, For, If, While, Do}
+use Rattle.gm_ast.specs.Ways.{is_in}
+use Rattle.gm_semantics.specs.declared.slots.Slot.TheVariants.{Scalar}
+use Rattle.gm_semantics.specs.Stores.{Store, write}
+use Rattle.gm_semantics.specs.Statements.{variable_at}
+use Rattle.gm_forms.specs.Doing.{IsNode, Held}
 use Rattle.gm_forms.specs.Forms.{is_told}
 use Rattle.gm_forms.specs.Order.{folds_in_order, loops_in_order}
 use Rattle.gm_forms.specs.Ready.{is_phase_expr, is_phase_code}
 use Rattle.gm_forms.specs.Sharing.{loops_share}
 use Rattle.gm_forms.specs.Typing.{has_type, is_typed_in}
-use Rattle.gm_forms.specs.Uses.{suits, uses_in, uses_of_head, uses_of}
+use Rattle.gm_forms.specs.Uses.{Iterates, suits, has_role, use_as, uses_in, uses_of_head, uses_of}
 use Rattle.gm_forms.proofs.Named.{both-true, all-append}
 use Rattle.gm_forms.proofs.Weaker.{and-true}
 use Rattle.gm_typed_stores.specs.Tells.{TypeTable, takes_nodes, tells, tells_in}
@@ -26,6 +38,51 @@ use Rattle.gm_desugar.specs.Literals.{has_literals, all_exprs}
 use Rattle.gm_desugar.specs.Reads.{has_reads_apart}
 use Rattle.gm_desugar.proofs.Replacing.{append-true}
 use Rattle.gm_reductions.specs.Keys.{rises, all_rise}
+
+-- an iterator of a loop over nodes
+pub record IsIterator (table : TypeTable) (y : ℕ) : Type 0 where
+  pub named : list_all (suits table.declarations) (use_as Iterates y) ≡ true
+  pub takes : takes_nodes table y ≡ true
+
+abbrev pub AreIterators : TypeTable → List ℕ → Type 0
+AreIterators table its = (y : ℕ) → is_in its y ≡ true → IsIterator table y
+
+pub no-iterators : (table : TypeTable) → AreIterators table []
+no-iterators table y i = absurd (both_ways false refl i)
+
+pub one-more : (table : TypeTable) (n : ℕ) (its : List ℕ) → IsIterator table n → AreIterators table its → AreIterators table (n ∷ its)
+one-more table n its new known y i = by (nat_eq y n) refl i
+  where
+    by : (b : Bool) → nat_eq y n ≡ b → b || is_in its y ≡ true → IsIterator table y
+    by true e i = subst (IsIterator table) (sym (eqb-true y n e)) new
+    by false e i = known y i
+
+-- it may be iterated, so it is no scalar
+pub iterates : (table : TypeTable) (y : ℕ) → IsIterator table y → has_role (variable_at table.declarations y) Iterates ≡ true
+iterates table y h =
+    let s = both-true (suits table.declarations (record { variable = y; role = Iterates })) true h.named in (both-true (nat_lt y (length table.declarations)) (has_role (variable_at table.declarations y) Iterates) s.0).1
+
+pub no-scalar : (table : TypeTable) (y : ℕ) → IsIterator table y → is Sorts.Scalar (variable_at table.declarations y) ≡ false
+no-scalar table y h = by (variable_at table.declarations y) (iterates table y h)
+  where
+    by : (v : Variable) → has_role v Iterates ≡ true → is Sorts.Scalar v ≡ false
+    by v h = at v.sort h
+      where
+        at : (s : Sort) → sort_eq Sorts.Iterator s || sort_eq Sorts.Graph s ≡ true → sort_eq Sorts.Scalar s ≡ false
+        at Sorts.Graph h = refl
+        at Sorts.Iterator h = refl
+        at Sorts.Scalar h = absurd (both_ways false refl h)
+        at Sorts.Edge h = refl
+        at Sorts.NodeProperty h = refl
+        at Sorts.EdgeProperty h = refl
+
+-- iterators that hold nodes, and one more that is set to a node
+pub enter-held : (g : NumberedGraph) (n m : ℕ) (its : List ℕ) (s : Store) → m < node_count g → Held g its s → Held g (n ∷ its) (write s (Scalar n) (At (Some m)))
+enter-held g n m its s low held y i = by (nat_eq n y) refl
+  where
+    by : (b : Bool) → nat_eq n y ≡ b → IsNode g (cond b (At (Some m)) (s.scalar y))
+    by true e = (m, refl, low)
+    by false e = held y (sym (ap (λ b. b || is_in its y) (ne_eqb y n (λ same. both_ways (nat_eq n y) e (eq-eqb n y (sym same))))) ∙ i)
 
 module _ (table : TypeTable) (res : Option VType) where
   abbrev es : List Declaration

@@ -7,10 +7,12 @@ pub mod FoldsOut
 pub mod Units
 pub mod OneNode
 pub mod WriteThere
+pub mod Iterators
 pub mod TypedAlike
-pub mod AccessesLaws
 pub mod Known
+pub mod AccessesLaws
 pub mod AccessesKept
 pub mod Telling
 pub mod AccessesOut
 pub mod PhasesLaws
+mod Samples

@@ -1,17 +1,16 @@
--- A reduction over all nodes, of which the checked one passes, gives what stands at that node.
-use Rattle.std.proofs.Common.{◌≡◌, ◌≤◌, ◌<◌, ◌+◌, ℕ, ℤ, pos, zero, suc, Bool, true, false, cond, List, [], ◌∷◌, ◌++◌, map, refl, sym, ap, subst, ◌∙◌, arith, ⊎_elim, inl, inr, Option, Some, None, Result, Ok, Err}
-use Rattle.std.specs.Prelude.{◌⊎◌, ◌≢◌, ◌&&◌, IsTrue, nat_eq, int_le, if◌then◌else◌}
+-- A reduction over all nodes, of which one passes, gives what stands at that node.
+use Rattle.std.proofs.Common.{◌≡◌, ◌≤◌, ◌<◌, ◌+◌, ℕ, ℤ, pos, zero, suc, Bool, true, false, cond, List, [], ◌∷◌, ◌++◌, map, refl, sym, ap, subst, ◌∙◌, arith, Some, Result, Ok, Err}
+use Rattle.std.specs.Prelude.{◌≢◌, ◌&&◌, IsTrue, nat_eq, int_le, if◌then◌else◌}
 use Rattle.std.specs.Int.{int_max}
 use Rattle.std.specs.Ordering.{int_eq}
-use Rattle.std.proofs.lemmas.Bool.{both_ways, eq-eqb, eqb-true, ne_eqb}
+use Rattle.std.proofs.lemmas.Bool.{both_ways, eq-eqb, eqb-true}
 use Rattle.std.proofs.lemmas.Bool.Decides.{Decides-int_eq}
 use Rattle.std.proofs.lemmas.Int.{ints, clamps}
 use Rattle.gm_value.specs.declared.values.VType.{VType}
 use Rattle.gm_value.specs.declared.values.VType.TheVariants as V
 use Rattle.gm_value.specs.declared.values.Value.{Value}
 use Rattle.gm_value.specs.declared.values.Value.TheVariants.{Flag, At}
-use Rattle.gm_value.specs.Numbers.{type_of, number_of, value_at, least_of, fits, checked, IsOf}
-use Rattle.gm_value.specs.Operations.{is_true}
+use Rattle.gm_value.specs.Numbers.{number_of, value_at, least_of, fits, checked, IsOf}
 use Rattle.gm_value.specs.Reductions.{unit_of, close}
 use Rattle.gm_value.proofs.NumberLaws.{checked-number_of}
 use Rattle.gm_model.specs.Graphs.{Step, node_count}
@@ -19,14 +18,12 @@ use Rattle.gm_ast.specs.declared.tree.Fold.{Fold}
 use Rattle.gm_ast.specs.declared.tree.Key.{Key}
 use Rattle.gm_ast.specs.Program.{Expr}
 use Rattle.gm_semantics.specs.declared.faults.Fault.{Fault}
-use Rattle.gm_semantics.specs.declared.slots.Slot.TheVariants.{Scalar}
-use Rattle.gm_semantics.specs.Levels.{numbers_from, nodes, node_steps}
-use Rattle.gm_semantics.specs.Stores.{write}
+use Rattle.gm_semantics.specs.Levels.{numbers_from, nodes}
 use Rattle.gm_semantics.specs.Faults.{least, unless_fault, oks, errs, joined, of_total}
 use Rattle.gm_semantics.specs.Expressions.{Answer, View, entered, element, members_of, reduce_of, closed, reduction, settled, early, value, steps_in}
 use Rattle.gm_desugar.specs.Conditions.{nowhere}
 use Rattle.gm_reductions.specs.declared.accesses.Fresh.{Fresh}
-use Rattle.gm_reductions.specs.Accesses.{filter_key, element_key, total_key, total_place, all_nodes, is_checked, word_for, one_node}
+use Rattle.gm_reductions.specs.Accesses.{filter_key, element_key, total_key, total_place, all_nodes, is_there, word_for, one_node}
 
 -- ---- the greatest of one value and of the least of its type
 
@@ -74,17 +71,17 @@ early-settled : (a : Answer) → settled (early a) ≡ a
 early-settled (Ok v) = refl
 early-settled (Err f) = refl
 
--- ---- the checked node passes alone
+-- ---- the node passes alone
 
-module _ (f : Fresh) (apart : nat_eq f.iterator f.checked ≡ false) (w : View) (m : ℕ) (holds : w.store.scalar f.checked ≡ At (Some m)) where
+module _ (f : Fresh) (c : ℕ) (apart : nat_eq f.iterator c ≡ false) (w : View) (m : ℕ) (holds : w.store.scalar c ≡ At (Some m)) where
   abbrev step : ℕ → Step
   step j = record { node = j; edge = 0 }
 
   -- the filter at a node
-  pub filter-is : (j : ℕ) (key : Key) → value (is_checked f) (entered w (all_nodes f) (step j) key) ≡ Ok (Flag (int_eq (pos j) (pos m)))
+  pub filter-is : (j : ℕ) (key : Key) → value (is_there f c) (entered w (all_nodes f) (step j) key) ≡ Ok (Flag (int_eq (pos j) (pos m)))
   filter-is j key =
-      ap (λ (b : Bool). let r : Answer = Ok (Flag (int_eq (number_of (cond b (At (Some j)) (w.store.scalar f.iterator))) (number_of (cond (nat_eq f.iterator f.checked) (At (Some j)) (w.store.scalar f.checked))))) in r) (eq-eqb f.iterator f.iterator refl)
-      ∙ ap (λ (b : Bool). let r : Answer = Ok (Flag (int_eq (pos j) (number_of (cond b (At (Some j)) (w.store.scalar f.checked))))) in r) apart
+      ap (λ (b : Bool). let r : Answer = Ok (Flag (int_eq (number_of (cond b (At (Some j)) (w.store.scalar f.iterator))) (number_of (cond (nat_eq f.iterator c) (At (Some j)) (w.store.scalar c))))) in r) (eq-eqb f.iterator f.iterator refl)
+      ∙ ap (λ (b : Bool). let r : Answer = Ok (Flag (int_eq (pos j) (number_of (cond b (At (Some j)) (w.store.scalar c))))) in r) apart
       ∙ ap (λ v. let r : Answer = Ok (Flag (int_eq (pos j) (number_of v))) in r) holds
 
   module _ (t : VType) (e : Expr) (there : ℕ → Value) (told : (j : ℕ) → j < node_count w.graph → value e (entered w (all_nodes f) (step j) element_key) ≡ Ok (there j)) where
@@ -92,7 +89,7 @@ module _ (f : Fresh) (apart : nat_eq f.iterator f.checked ≡ false) (w : View) 
     fold_of = record { word = word_for t; vtype = t; filter = filter_key; body = element_key; total = record { key = total_key; place = total_place; shown = nowhere } }
 
     abbrev el : ℕ → Result (List Value) Fault
-    el j = element (word_for t) (value (is_checked f) (entered w (all_nodes f) (step j) filter_key)) (value e (entered w (all_nodes f) (step j) element_key))
+    el j = element (word_for t) (value (is_there f c) (entered w (all_nodes f) (step j) filter_key)) (value e (entered w (all_nodes f) (step j) element_key))
 
     abbrev gives : ℕ → List Value
     gives j = if int_eq (pos j) (pos m) then there j ∷ [] else []
@@ -143,16 +140,16 @@ module _ (f : Fresh) (apart : nat_eq f.iterator f.checked ≡ false) (w : View) 
             ap (λ b. cond b (there i ∷ []) [] ++ joined (map gives (numbers_from (suc i) n))) (other-number i m other)
             ∙ next (omega arith)
 
-    by-nodes : (js : List ℕ) → map (λ s. element (word_for t) (value (is_checked f) (entered w (all_nodes f) s filter_key)) (value e (entered w (all_nodes f) s element_key))) (map step js) ≡ map el js
+    by-nodes : (js : List ℕ) → map (λ s. element (word_for t) (value (is_there f c) (entered w (all_nodes f) s filter_key)) (value e (entered w (all_nodes f) s element_key))) (map step js) ≡ map el js
     by-nodes [] = refl
     by-nodes (j ∷ js) = ap (λ l. el j ∷ l) (by-nodes js)
 
-    pub one-node : m < node_count w.graph → IsOf t (there m) → value (one_node f t e) w ≡ Ok (there m)
+    pub one-node : m < node_count w.graph → IsOf t (there m) → value (one_node f c t e) w ≡ Ok (there m)
     one-node low typed =
         let js = nodes w.graph in
         let within : m < 0 + node_count w.graph = omega arith in
         let all : 0 + node_count w.graph ≤ node_count w.graph = omega arith in
-        early-settled (reduction fold_of (map (λ s. element (word_for t) (value (is_checked f) (entered w (all_nodes f) s filter_key)) (value e (entered w (all_nodes f) s element_key))) (steps_in w (all_nodes f))))
+        early-settled (reduction fold_of (map (λ s. element (word_for t) (value (is_there f c) (entered w (all_nodes f) s filter_key)) (value e (entered w (all_nodes f) s element_key))) (steps_in w (all_nodes f))))
         ∙ ap (reduction fold_of) (by-nodes js)
         ∙ ap (λ fs. unless_fault (least fs) (closed fold_of (joined (oks (map el js))))) (no-errs (node_count w.graph) 0 all)
         ∙ ap (λ l. closed fold_of (joined l)) (all-oks (node_count w.graph) 0 all)

@@ -1,22 +1,22 @@
--- Courses go alike where their parts do from stores with types.
+-- Courses go alike where their parts do from stores of which something is known.
 use Rattle.std.proofs.Common.{◌≡◌, ℕ, zero, suc, Bool, true, false, List, [], ◌∷◌, refl, sym, subst}
-use Rattle.std.specs.Prelude.{nat_lt, Option}
-use Rattle.gm_value.specs.declared.values.VType.{VType}
+use Rattle.std.specs.Prelude.{nat_lt}
 use Rattle.gm_value.specs.Operations.{is_true}
+use Rattle.gm_semantics.specs.Stores.{Store}
 use Rattle.gm_semantics.specs.Expressions.{Answer}
 use Rattle.gm_semantics.specs.Frames.{AlikeStates, AlikeCourses}
-use Rattle.gm_semantics.specs.Statements.{Run, State, Course, Goes, Returns, Faults, Stops, with_value, then_do, either_way, stopped, begin_turn, repeated, in_turns}
+use Rattle.gm_semantics.specs.Statements.{Run, State, Course, Goes, Returns, Faults, Stops, then_do, either_way, stopped, begin_turn, repeated, in_turns}
 use Rattle.gm_typed_stores.specs.Values.{Each}
-use Rattle.gm_typed_stores.specs.Tells.{TypeTable}
-use Rattle.gm_typed_stores.specs.Stores.{IsTypedStore, IsTypedCourse}
 use Rattle.gm_desugar.proofs.Alike.{with-alike, either-alike}
 
-module _ (table : TypeTable) (result : Option VType) (its : List ℕ) (k : ℕ) where
+-- P: what is known of the stores of one of two runs
+module _ (P : Store → Type 0) (k : ℕ) where
   abbrev Typed : State → Type 0
-  Typed s = IsTypedStore table its s.store
+  Typed s = P s.store
 
-  abbrev Led : Course → Type 0
-  Led c = IsTypedCourse table result its c
+  abbrev pub Led : Course → Type 0
+  Led (Goes s) = P s.store
+  Led _ = Unit {0}
 
   pub then-typed : (c d : Course) (f g : State → Course) → Led c → AlikeCourses k c d → ((s t : State) → Typed s → AlikeStates k s t → AlikeCourses k (f s) (g t)) → AlikeCourses k (then_do c f) (then_do d g)
   then-typed (Goes s) (Goes t) f g l h each = each s t l h

@@ -1,6 +1,6 @@
--- A loop that writes a variable's value at the checked node alone.
-use Rattle.std.proofs.Common.{◌≡◌, ◌≤◌, ◌<◌, ◌+◌, ℕ, pos, zero, suc, Bool, true, false, cond, List, [], ◌∷◌, ◌++◌, map, refl, sym, ap, subst, ◌∙◌, arith, ⊎_elim, inl, inr, Option, Some, None, Result, Ok, Err}
-use Rattle.std.specs.Prelude.{◌⊎◌, ◌≢◌, ◌&&◌, nat_eq, nat_lt, if◌then◌else◌}
+-- A loop that writes a variable's value at one node alone.
+use Rattle.std.proofs.Common.{◌≡◌, ◌≤◌, ◌<◌, ◌+◌, ℕ, pos, zero, suc, Bool, true, false, cond, List, [], ◌∷◌, ◌++◌, map, refl, sym, ap, ◌∙◌, arith, ⊎_elim, inl, inr, Some, None, Result, Ok}
+use Rattle.std.specs.Prelude.{◌≢◌, ◌&&◌, nat_eq, if◌then◌else◌}
 use Rattle.std.specs.Ordering.{int_eq}
 use Rattle.std.proofs.Math.Path.{fun_ext}
 use Rattle.std.proofs.lemmas.Bool.{both_ways, eq-eqb, eqb-true, ne_eqb, lt-ltb}
@@ -9,17 +9,16 @@ use Rattle.gm_value.specs.declared.values.Value.{Value}
 use Rattle.gm_value.specs.declared.values.Value.TheVariants.{Flag, At}
 use Rattle.gm_value.specs.Bag.{IsIn}
 use Rattle.gm_value.specs.Operations.{is_true}
-use Rattle.gm_model.specs.Graphs.{Step, node_count}
-use Rattle.gm_ast.specs.declared.tree.Key.{Key}
+use Rattle.gm_model.specs.Graphs.{node_count}
 use Rattle.gm_ast.specs.declared.tree.Target.TheVariants as T
-use Rattle.gm_ast.specs.Program.{Expr, Var, Stmt, Assign}
+use Rattle.gm_ast.specs.Program.{Var, Stmt, Assign}
 use Rattle.gm_semantics.specs.declared.faults.Fault.{Fault}
 use Rattle.gm_semantics.specs.declared.slots.Slot.TheVariants.{Scalar, Node}
 use Rattle.gm_semantics.specs.Levels.{numbers_from, nodes, no_levels, node_in}
 use Rattle.gm_semantics.specs.Stores.{Store, write, overlaid}
 use Rattle.gm_semantics.specs.Faults.{least, then_with, unless_fault, somes, joined}
-use Rattle.gm_semantics.specs.Expressions.{Answer, View, node_held, entered, value}
-use Rattle.gm_semantics.specs.Contributions.{Contribution, settled_store, total_faults}
+use Rattle.gm_semantics.specs.Expressions.{Answer, View, node_held}
+use Rattle.gm_semantics.specs.Contributions.{settled_store, total_faults}
 use Rattle.gm_semantics.specs.Iterations.{Loop, Iteration, Outermost, begun, with_ok, wrote, one_way, as_it_is, view_in, does}
 use Rattle.gm_semantics.specs.Loops.{iteration, left_at, own_left, loop_done, parallel}
 use Rattle.gm_semantics.specs.Statements.{Run, State, Goes, loop_of, view_of, with_value, with_store, sequential}
@@ -27,8 +26,8 @@ use Rattle.gm_semantics.proofs.TargetLaws.{value-away}
 use Rattle.gm_desugar.specs.Conditions.{nowhere}
 use Rattle.gm_forms.specs.Order.{first_key, second_key}
 use Rattle.gm_reductions.specs.declared.accesses.Fresh.{Fresh}
-use Rattle.gm_reductions.specs.Accesses.{all_nodes, is_checked, write_there}
-use Rattle.gm_reductions.proofs.OneNode.{filter-is, same-number, other-number}
+use Rattle.gm_reductions.specs.Accesses.{is_there, write_there}
+use Rattle.gm_reductions.proofs.OneNode.{filter-is}
 
 -- all nodes are among them
 pub among-numbers : (n i m : ℕ) → i ≤ m → m < i + n → IsIn m (numbers_from i n)
@@ -45,7 +44,7 @@ pub record WrittenAt (p m : ℕ) (v : Value) (s t : Store) : Type 0 where
   pub node : (q j : ℕ) → t.node q j ≡ (if nat_eq p q && nat_eq m j then v else s.node q j)
   pub edge : t.edge ≡ s.edge
 
-module _ (run : Run) (f : Fresh) (apart : nat_eq f.iterator f.checked ≡ false) (p x : ℕ) (beside : nat_eq f.iterator x ≡ false) (u : State) (m : ℕ) (low : m < node_count run.graph) (holds : u.store.scalar f.checked ≡ At (Some m)) where
+module _ (run : Run) (f : Fresh) (c : ℕ) (apart : nat_eq f.iterator c ≡ false) (p x : ℕ) (beside : nat_eq f.iterator x ≡ false) (u : State) (m : ℕ) (low : m < node_count run.graph) (holds : u.store.scalar c ≡ At (Some m)) where
   abbrev body : Stmt
   body = Assign second_key (T.Property f.iterator p nowhere) (Var x nowhere)
 
@@ -74,9 +73,9 @@ module _ (run : Run) (f : Fresh) (apart : nat_eq f.iterator f.checked ≡ false)
       ∙ ap (λ (b : Bool). with_ok (begins m) (then_with (then_with (node_held seen nowhere (cond b (Some m) None)) (λ n. Ok (Node p n))) (λ slot. Ok (slot, cond (nat_eq f.iterator x) (At (Some m)) v))) (wrote (begins m))) (lt-ltb m (node_count run.graph) low)
       ∙ ap (λ (b : Bool). wrote (begins m) (Node p m, cond b (At (Some m)) v)) beside
 
-  iteration-is : (n : ℕ) → iteration loop first_key (is_checked f) body s n ≡ turned n
+  iteration-is : (n : ℕ) → iteration loop first_key (is_there f c) body s n ≡ turned n
   iteration-is n =
-      ap (λ (a : Answer). with_ok (begins n) a (λ w. one_way (is_true w) (does body Outermost loop) as_it_is (begins n))) (filter-is f apart (view_of run u first_key) m holds n first_key)
+      ap (λ (a : Answer). with_ok (begins n) a (λ w. one_way (is_true w) (does body Outermost loop) as_it_is (begins n))) (filter-is f c apart (view_of run u first_key) m holds n first_key)
       ∙ by (int_eq (pos n) (pos m)) refl
     where
       by : (b : Bool) → int_eq (pos n) (pos m) ≡ b → one_way (is_true (Flag b)) (does body Outermost loop) as_it_is (begins n) ≡ (if b then wrote (begins n) (Node p m, v) else begins n)
@@ -141,7 +140,7 @@ module _ (run : Run) (f : Fresh) (apart : nat_eq f.iterator f.checked ≡ false)
   abbrev own : List ℕ → Store
   own ks = own_left s ks (map turned ks)
 
-  parallel-is : (ks : List ℕ) → parallel loop first_key (is_checked f) body ks s ≡ Ok (settled_store (own ks) [])
+  parallel-is : (ks : List ℕ) → parallel loop first_key (is_there f c) body ks s ≡ Ok (settled_store (own ks) [])
   parallel-is ks =
       ap (λ (g : ℕ → Iteration). loop_done s ks (map g ks)) (fun_ext iteration-is)
       ∙ ap (λ cs. unless_fault (least (somes (map (λ (t : Iteration). t.fault) (map turned ks)) ++ total_faults (own ks) cs)) (Ok (overlaid (settled_store (own ks) cs) (joined (map (λ (t : Iteration). t.deferred) (map turned ks)))))) (none-given ks)
@@ -149,7 +148,7 @@ module _ (run : Run) (f : Fresh) (apart : nat_eq f.iterator f.checked ≡ false)
       ∙ ap (λ ws. let r : Result Store Fault = Ok (overlaid (settled_store (own ks) []) ws) in r) (none-deferred ks)
 
   -- the loop leaves the store with the write
-  pub write-there : (t : Store) × (sequential (write_there f p x) run u ≡ Goes (record u { store = t })) × WrittenAt p m v s t
+  pub write-there : (t : Store) × (sequential (write_there f c p x) run u ≡ Goes (record u { store = t })) × WrittenAt p m v s t
   write-there =
       let ks = nodes run.graph in
       let within : m < 0 + node_count run.graph = omega arith in (

@@ -4,11 +4,14 @@
 //! where s is NIL, as the read did, and of one value and the least of its type the value is the greatest.
 //! `s.p = e;` is `c = Live(s); v = e; Foreach (n: G.Nodes)(n == c) { n.p = v; }`: the node is checked before the value
 //! is told, in the order in which both fault. The variables c, n and v (one for each type) are new, and all statements
-//! share them, since each is set before it is told.
+//! share them, since each is set before it is told. An iterator of a For around always holds a node: it is compared
+//! itself, without a check.
 
 ghost use Rattle.std.specs.Prelude.{◌≡◌, ◌+◌, ◌++◌, [], ◌∷◌, Some, IfOk, OnOk, option_map};
 ghost use Rattle.gm_ast.specs.Program as Program;
+ghost use Rattle.gm_ast.specs.Program.{sequence};
 ghost use Rattle.gm_ast.specs.Tree.{expr_of, program_of, stmt_of};
+ghost use Rattle.gm_ast.specs.Ways as Ways;
 ghost use Rattle.gm_ast.specs.declared.tree.Target.TheVariants as Targets;
 ghost use Rattle.gm_forms.specs.Meanings.{SameMeaning};
 ghost use Rattle.gm_forms.specs.Order as Order;
@@ -42,7 +45,7 @@ pub struct Fresh {
 }
 
 /// Writes each read and each write of the sequential phase through a node variable as a check and a reduction or a
-/// loop over all nodes. Where each read stands alone, the keys of reductions rise, and the program tells values alone,
+/// loop over all nodes; through an iterator of a For around, as the reduction or loop alone. Where each read stands alone, the keys of reductions rise, and the program tells values alone,
 /// it means the same, is as ready for the passes as it was, and has no such access left; and no pick comes in. Answers
 /// want of memory too where the table has no room for six more variables.
 pub fn accesses_out(alloc: Global, program: Work) -> Result<Work, NoMemory>
@@ -58,7 +61,7 @@ pub fn accesses_out(alloc: Global, program: Work) -> Result<Work, NoMemory>
     let fresh = fresh_at(first)?;
     let mut declarations = tree.declarations;
     let body = tree.body;
-    let body = by_loops(alloc, &declarations, fresh, body)?;
+    let body = by_loops(alloc, &declarations, fresh, &[], body)?;
     add_fresh(alloc, &mut declarations)?;
     Ok(Work::new(Tree {
         declarations,
@@ -183,12 +186,12 @@ fn all_nodes(fresh: Fresh) -> Head
     }
 }
 
-// Whether the iterator is at the node that was checked.
-fn is_checked(alloc: Global, fresh: Fresh) -> Result<Expr, AllocError>
-    ensures { IfOk result (λ r. expr_of r ≡ Accesses.is_checked fresh) }
+// Whether the iterator is at the node that a variable holds.
+fn is_there(alloc: Global, fresh: Fresh, holds: u32) -> Result<Expr, AllocError>
+    ensures { IfOk result (λ r. expr_of r ≡ Accesses.is_there fresh holds) }
 {
     let left = Box::new(alloc, told(fresh.iterator))?;
-    let right = Box::new(alloc, told(fresh.checked))?;
+    let right = Box::new(alloc, told(holds))?;
     Ok(Expr::Binary {
         op: Op2::Eq,
         place: nowhere(),
@@ -228,11 +231,17 @@ fn quiet_fold(vtype: VType) -> Fold
     }
 }
 
-// What an expression is at the node that was checked.
-fn one_node(alloc: Global, fresh: Fresh, vtype: VType, body: Expr) -> Result<Expr, AllocError>
-    ensures { IfOk result (λ r. expr_of r ≡ Accesses.one_node fresh vtype (expr_of body)) }
+// What an expression is at the node that a variable holds.
+fn one_node(
+    alloc: Global,
+    fresh: Fresh,
+    holds: u32,
+    vtype: VType,
+    body: Expr,
+) -> Result<Expr, AllocError>
+    ensures { IfOk result (λ r. expr_of r ≡ Accesses.one_node fresh holds vtype (expr_of body)) }
 {
-    let passes = is_checked(alloc, fresh)?;
+    let passes = is_there(alloc, fresh, holds)?;
     let filter = Box::new(alloc, passes)?;
     let body = Box::new(alloc, body)?;
     Ok(Expr::Fold {
@@ -243,60 +252,107 @@ fn one_node(alloc: Global, fresh: Fresh, vtype: VType, body: Expr) -> Result<Exp
     })
 }
 
-// A property of the checked node.
+// A property of that node.
 fn property_there(
     alloc: Global,
     declarations: &[Declaration],
     fresh: Fresh,
+    holds: u32,
     property: u32,
 ) -> Result<Expr, AllocError>
-    ensures { IfOk result (λ r. expr_of r ≡ Accesses.one_node fresh (type_at declarations.now property) (Program.Property fresh.iterator property Conditions.nowhere)) }
+    ensures { IfOk result (λ r. expr_of r ≡ Accesses.one_node fresh holds (type_at declarations.now property) (Program.Property fresh.iterator property Conditions.nowhere)) }
 {
     let value = Expr::Property {
         owner: fresh.iterator,
         property,
         place: nowhere(),
     };
-    one_node(alloc, fresh, type_of(declarations, property), value)
+    one_node(alloc, fresh, holds, type_of(declarations, property), value)
 }
 
-// A degree of the checked node.
-fn degree_there(alloc: Global, fresh: Fresh, direction: Direction) -> Result<Expr, AllocError>
-    ensures { IfOk result (λ r. expr_of r ≡ Accesses.one_node fresh VType.I32 (Program.Degree direction fresh.iterator Conditions.nowhere)) }
+// A degree of that node.
+fn degree_there(
+    alloc: Global,
+    fresh: Fresh,
+    holds: u32,
+    direction: Direction,
+) -> Result<Expr, AllocError>
+    ensures { IfOk result (λ r. expr_of r ≡ Accesses.one_node fresh holds VType.I32 (Program.Degree direction fresh.iterator Conditions.nowhere)) }
 {
     let value = Expr::Degree {
         direction,
         owner: fresh.iterator,
         place: nowhere(),
     };
-    one_node(alloc, fresh, VType::I32, value)
+    one_node(alloc, fresh, holds, VType::I32, value)
 }
 
-// A statement behind the check of the node that a variable holds.
+// Whether a variable is among some.
+fn is_in(variables: &[u32], variable: u32) -> bool
+    ensures { result ≡ Ways.is_in variables.now variable }
+{
+    for other in variables {
+        if variable == *other {
+            return true;
+        }
+    }
+    false
+}
+
+// The iterator of a For and those around it, beside the For's body. On the way out for want of memory the body is
+// dropped here.
+fn inside<T: Drop>(
+    alloc: Global,
+    iterator: u32,
+    around: &[u32],
+    body: T,
+) -> Result<(Vec<u32>, T), AllocError>
+    ensures iterators { IfOk result (λ r. r.0.items ≡ iterator ∷ around.now) }
+    ensures body { IfOk result (λ r. r.1 ≡ body) }
+{
+    let mut iterators = Vec::new(alloc);
+    iterators.push(iterator)?;
+    iterators.extend_from_slice(around)?;
+    Ok((iterators, body))
+}
+
+// The variable with the node that a variable holds: the iterator of a For itself, or the one that the check sets.
+fn compared(is_iterator: bool, fresh: Fresh, variable: u32) -> u32
+    ensures { result ≡ Accesses.compared is_iterator fresh variable }
+{
+    if is_iterator { variable } else { fresh.checked }
+}
+
+// A statement behind the check of the node that a variable holds, unless the variable is the iterator of a For.
 fn after_check(
     alloc: Global,
+    is_iterator: bool,
     fresh: Fresh,
     key: Key,
     variable: u32,
     place: Place,
     stmt: Stmt,
 ) -> Result<Stmt, AllocError>
-    ensures { IfOk result (λ r. stmt_of r ≡ Accesses.after_check fresh key variable place (stmt_of stmt ∷ [])) }
+    ensures { IfOk result (λ r. stmt_of r ≡ Accesses.after_check is_iterator fresh key variable place (stmt_of stmt)) }
 {
+    if is_iterator {
+        return Ok(stmt);
+    }
     let checked = check(fresh, key, variable, place);
     in_turn(alloc, checked, stmt)
 }
 
-// A loop that writes what a variable holds to a property of the checked node.
+// A loop that writes what a variable holds to a property of the node that another holds.
 fn write_there(
     alloc: Global,
     fresh: Fresh,
+    holds: u32,
     property: u32,
     variable: u32,
 ) -> Result<Stmt, AllocError>
-    ensures { IfOk result (λ r. stmt_of r ≡ Accesses.write_there fresh property variable) }
+    ensures { IfOk result (λ r. stmt_of r ≡ Accesses.write_there fresh holds property variable) }
 {
-    let filter = is_checked(alloc, fresh)?;
+    let filter = is_there(alloc, fresh, holds)?;
     let target = Target::Property {
         owner: fresh.iterator,
         property,
@@ -342,11 +398,12 @@ fn initial_by_loops(
     alloc: Global,
     declarations: &[Declaration],
     fresh: Fresh,
+    around: &[u32],
     key: Key,
     variable: u32,
     value: Expr,
 ) -> Result<Stmt, AllocError>
-    ensures { IfOk result (λ r. stmt_of r ≡ Accesses.declared_by_loops declarations.now fresh key variable (Some (expr_of value))) }
+    ensures { IfOk result (λ r. stmt_of r ≡ Accesses.declared_by_loops declarations.now fresh around.now key variable (Some (expr_of value))) }
 {
     match value {
         Expr::Property {
@@ -354,26 +411,30 @@ fn initial_by_loops(
             property,
             place,
         } => {
-            let value = Some(property_there(alloc, declarations, fresh, property)?);
+            let is_iterator = is_in(around, owner);
+            let holds = compared(is_iterator, fresh, owner);
+            let value = Some(property_there(alloc, declarations, fresh, holds, property)?);
             let set = Stmt::Declare {
                 key,
                 variable,
                 value,
             };
-            after_check(alloc, fresh, key, owner, place, set)
+            after_check(alloc, is_iterator, fresh, key, owner, place, set)
         }
         Expr::Degree {
             direction,
             owner,
             place,
         } => {
-            let value = Some(degree_there(alloc, fresh, direction)?);
+            let is_iterator = is_in(around, owner);
+            let holds = compared(is_iterator, fresh, owner);
+            let value = Some(degree_there(alloc, fresh, holds, direction)?);
             let set = Stmt::Declare {
                 key,
                 variable,
                 value,
             };
-            after_check(alloc, fresh, key, owner, place, set)
+            after_check(alloc, is_iterator, fresh, key, owner, place, set)
         }
         Expr::Const(_)
         | Expr::Var { .. }
@@ -399,14 +460,17 @@ fn declared_by_loops(
     alloc: Global,
     declarations: &[Declaration],
     fresh: Fresh,
+    around: &[u32],
     key: Key,
     variable: u32,
     value: Option<Expr>,
 ) -> Result<Stmt, AllocError>
-    ensures { IfOk result (λ r. stmt_of r ≡ Accesses.declared_by_loops declarations.now fresh key variable (option_map expr_of value)) }
+    ensures { IfOk result (λ r. stmt_of r ≡ Accesses.declared_by_loops declarations.now fresh around.now key variable (option_map expr_of value)) }
 {
     match value {
-        Some(value) => initial_by_loops(alloc, declarations, fresh, key, variable, value),
+        Some(value) => {
+            initial_by_loops(alloc, declarations, fresh, around, key, variable, value)
+        },
         None => Ok(Stmt::Declare {
             key,
             variable,
@@ -420,12 +484,13 @@ fn scalar_by_loops(
     alloc: Global,
     declarations: &[Declaration],
     fresh: Fresh,
+    around: &[u32],
     key: Key,
     variable: u32,
     place: Place,
     value: Expr,
 ) -> Result<Stmt, AllocError>
-    ensures { IfOk result (λ r. stmt_of r ≡ Accesses.assigned_by_loops declarations.now fresh key (Targets.Scalar variable place) (expr_of value)) }
+    ensures { IfOk result (λ r. stmt_of r ≡ Accesses.assigned_by_loops declarations.now fresh around.now key (Targets.Scalar variable place) (expr_of value)) }
 {
     let target = Target::Scalar { variable, place };
     match value {
@@ -434,18 +499,22 @@ fn scalar_by_loops(
             property,
             place,
         } => {
-            let value = property_there(alloc, declarations, fresh, property)?;
+            let is_iterator = is_in(around, owner);
+            let holds = compared(is_iterator, fresh, owner);
+            let value = property_there(alloc, declarations, fresh, holds, property)?;
             let set = Stmt::Assign { key, target, value };
-            after_check(alloc, fresh, key, owner, place, set)
+            after_check(alloc, is_iterator, fresh, key, owner, place, set)
         }
         Expr::Degree {
             direction,
             owner,
             place,
         } => {
-            let value = degree_there(alloc, fresh, direction)?;
+            let is_iterator = is_in(around, owner);
+            let holds = compared(is_iterator, fresh, owner);
+            let value = degree_there(alloc, fresh, holds, direction)?;
             let set = Stmt::Assign { key, target, value };
-            after_check(alloc, fresh, key, owner, place, set)
+            after_check(alloc, is_iterator, fresh, key, owner, place, set)
         }
         Expr::Const(_)
         | Expr::Var { .. }
@@ -462,9 +531,11 @@ fn scalar_by_loops(
     }
 }
 
-// The check of a node variable, a variable set to a value, and the loop that writes it at the checked node.
+// The check of a node variable, unless it is the iterator of a For, a variable set to a value, and the loop that writes
+// it at the node.
 fn checked_write(
     alloc: Global,
+    is_iterator: bool,
     fresh: Fresh,
     key: Key,
     owner: u32,
@@ -473,12 +544,15 @@ fn checked_write(
     variable: u32,
     value: Expr,
 ) -> Result<Stmt, AllocError>
-    ensures { IfOk result (λ r. stmt_of r ≡ Accesses.after_check fresh key owner place (Conditions.set_to variable key (expr_of value) ∷ Accesses.write_there fresh property variable ∷ [])) }
+    ensures { IfOk result (λ r. stmt_of r ≡ sequence (Accesses.checks is_iterator fresh key owner place ++ (Conditions.set_to variable key (expr_of value) ∷ Accesses.write_there fresh (Accesses.compared is_iterator fresh owner) property variable ∷ []))) }
 {
     let mut stmts = Vec::new(alloc);
-    stmts.push(check(fresh, key, owner, place))?;
+    if !is_iterator {
+        stmts.push(check(fresh, key, owner, place))?;
+    }
     stmts.push(set_to(variable, key, value))?;
-    let write = write_there(alloc, fresh, property, variable)?;
+    let holds = compared(is_iterator, fresh, owner);
+    let write = write_there(alloc, fresh, holds, property, variable)?;
     stmts.push(write)?;
     Ok(Stmt::Block(stmts))
 }
@@ -488,16 +562,28 @@ fn property_by_loops(
     alloc: Global,
     declarations: &[Declaration],
     fresh: Fresh,
+    around: &[u32],
     key: Key,
     owner: u32,
     property: u32,
     place: Place,
     value: Expr,
 ) -> Result<Stmt, AllocError>
-    ensures { IfOk result (λ r. stmt_of r ≡ Accesses.assigned_by_loops declarations.now fresh key (Targets.Property owner property place) (expr_of value)) }
+    ensures { IfOk result (λ r. stmt_of r ≡ Accesses.assigned_by_loops declarations.now fresh around.now key (Targets.Property owner property place) (expr_of value)) }
 {
+    let is_iterator = is_in(around, owner);
     let variable = holder(fresh, type_of(declarations, property));
-    checked_write(alloc, fresh, key, owner, place, property, variable, value)
+    checked_write(
+        alloc,
+        is_iterator,
+        fresh,
+        key,
+        owner,
+        place,
+        property,
+        variable,
+        value,
+    )
 }
 
 // An assignment, as checks and loops where it has an access.
@@ -505,15 +591,25 @@ fn assigned_by_loops(
     alloc: Global,
     declarations: &[Declaration],
     fresh: Fresh,
+    around: &[u32],
     key: Key,
     target: Target,
     value: Expr,
 ) -> Result<Stmt, AllocError>
-    ensures { IfOk result (λ r. stmt_of r ≡ Accesses.assigned_by_loops declarations.now fresh key target (expr_of value)) }
+    ensures { IfOk result (λ r. stmt_of r ≡ Accesses.assigned_by_loops declarations.now fresh around.now key target (expr_of value)) }
 {
     match target {
         Target::Scalar { variable, place } => {
-            scalar_by_loops(alloc, declarations, fresh, key, variable, place, value)
+            scalar_by_loops(
+                alloc,
+                declarations,
+                fresh,
+                around,
+                key,
+                variable,
+                place,
+                value,
+            )
         }
         Target::Property {
             owner,
@@ -523,6 +619,7 @@ fn assigned_by_loops(
             alloc,
             declarations,
             fresh,
+            around,
             key,
             owner,
             property,
@@ -532,20 +629,21 @@ fn assigned_by_loops(
     }
 }
 
-// The sequential phase with its accesses as checks and loops.
+// A part of the sequential phase inside some Fors with its accesses as checks and loops.
 fn by_loops(
     alloc: Global,
     declarations: &[Declaration],
     fresh: Fresh,
+    around: &[u32],
     s: Stmt,
 ) -> Result<Stmt, AllocError>
-    ensures { IfOk result (λ r. stmt_of r ≡ by_loops declarations.now fresh (stmt_of s)) }
+    ensures { IfOk result (λ r. stmt_of r ≡ by_loops declarations.now fresh around.now (stmt_of s)) }
 {
     match s {
         Stmt::Block(stmts) => {
             let mut out = Vec::new(alloc);
             for stmt in stmts {
-                let changed = by_loops(alloc, declarations, fresh, stmt)?;
+                let changed = by_loops(alloc, declarations, fresh, around, stmt)?;
                 out.push(changed)?;
             }
             Ok(Stmt::Block(out))
@@ -554,9 +652,9 @@ fn by_loops(
             key,
             variable,
             value,
-        } => declared_by_loops(alloc, declarations, fresh, key, variable, value),
+        } => declared_by_loops(alloc, declarations, fresh, around, key, variable, value),
         Stmt::Assign { key, target, value } => {
-            assigned_by_loops(alloc, declarations, fresh, key, target, value)
+            assigned_by_loops(alloc, declarations, fresh, around, key, target, value)
         }
         Stmt::For {
             key,
@@ -565,8 +663,10 @@ fn by_loops(
             filter,
             body,
         } => {
-            let changed = by_loops(alloc, declarations, fresh, Box::into_inner(body))?;
-            let body = Box::new(alloc, changed)?;
+            let (iterators, body) = inside(alloc, head.iterator, around, Box::into_inner(body))?;
+            let changed = by_loops(alloc, declarations, fresh, &iterators, body);
+            drop(iterators);
+            let body = Box::new(alloc, changed?)?;
             Ok(Stmt::For {
                 key,
                 place,
@@ -576,9 +676,9 @@ fn by_loops(
             })
         }
         Stmt::If { key, test, yes, no } => {
-            let changed = by_loops(alloc, declarations, fresh, Box::into_inner(yes))?;
+            let changed = by_loops(alloc, declarations, fresh, around, Box::into_inner(yes))?;
             let yes = Box::new(alloc, changed)?;
-            let changed = by_loops(alloc, declarations, fresh, Box::into_inner(no))?;
+            let changed = by_loops(alloc, declarations, fresh, around, Box::into_inner(no))?;
             let no = Box::new(alloc, changed)?;
             Ok(Stmt::If { key, test, yes, no })
         }
@@ -588,7 +688,7 @@ fn by_loops(
             test,
             body,
         } => {
-            let changed = by_loops(alloc, declarations, fresh, Box::into_inner(body))?;
+            let changed = by_loops(alloc, declarations, fresh, around, Box::into_inner(body))?;
             let body = Box::new(alloc, changed)?;
             Ok(Stmt::While {
                 key,
@@ -603,7 +703,7 @@ fn by_loops(
             body,
             test,
         } => {
-            let changed = by_loops(alloc, declarations, fresh, Box::into_inner(body))?;
+            let changed = by_loops(alloc, declarations, fresh, around, Box::into_inner(body))?;
             let body = Box::new(alloc, changed)?;
             Ok(Stmt::Do {
                 key,

@@ -4,7 +4,7 @@
 //! degree and each reduction stands alone as the value of a scalar, becomes loops, in the order of work:
 //!
 //! 1. `accesses_out`: a read through a node variable becomes a check and a reduction over all nodes, of which one
-//!    passes, and a write a check and a loop.
+//!    passes, and a write a check and a loop. The iterator of a For around holds a node, and is not checked.
 //! 2. `folds_out`: a reduction becomes a loop onto the scalar that takes its total.
 //!
 //! After both, a sequential phase without picks computes with scalars alone outside of its loops (`laws`).

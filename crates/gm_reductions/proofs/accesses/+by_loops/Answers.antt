@@ -12,7 +12,8 @@ returns-in-None t c =
     let at = c.loop-stmt in
     let ds = c.args.declarations.now in
     let f = c.args.fresh in
+    let its = c.args.around.now in
     let empty : into_iter_items at.stmt-iterator ≡ [] = nothing_left _ (sym at.invariant.2 ∙ c.in-None.ensures.steps.0) in
     let all : at.yielded ≡ c.in-Block.stmts.items = sym (append-nil at.yielded) ∙ rw empty at at.invariant.0 ∙ c.into_iter-stmt-iterator.ensures.into_iter_gives.0 in
-    stmt_of-Block at.out ∙ ap sequence at.invariant.1 ∙ sym (loops-sequence ds f stmt_of at.yielded)
-    ∙ ap (λ xs. by_loops ds f (sequence (map stmt_of xs))) all ∙ ap (by_loops ds f) (sym (stmt_of-Block c.in-Block.stmts)) ∙ ap (λ s. by_loops ds f (stmt_of s)) (sym c.in-Block.is)
+    stmt_of-Block at.out ∙ ap sequence at.invariant.1 ∙ sym (loops-sequence ds f its stmt_of at.yielded)
+    ∙ ap (λ xs. by_loops ds f its (sequence (map stmt_of xs))) all ∙ ap (by_loops ds f its) (sym (stmt_of-Block c.in-Block.stmts)) ∙ ap (λ s. by_loops ds f its (stmt_of s)) (sym c.in-Block.is)
