@@ -24,4 +24,7 @@ pub mod Units
 pub mod LatestFaults
 pub mod Openings
 pub mod InTurn
+pub mod Parted
+pub mod InPlace
+pub mod Throughout
 mod Samples

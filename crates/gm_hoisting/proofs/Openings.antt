@@ -1,11 +1,10 @@
 -- Bodies behind the loops of reductions, and filters with reductions and without.
-use Rattle.std.proofs.Common.{◌≡◌, ◌<◌, ◌+◌, ◌++◌, ℕ, Bool, true, false, List, [], ◌∷◌, length, map, refl, sym, ap, ◌∙◌, arith}
+use Rattle.std.proofs.Common.{◌≡◌, ◌<◌, ◌+◌, ◌++◌, ℕ, Bool, true, false, List, [], ◌∷◌, length, map, refl, ap, ◌∙◌, arith}
 use Rattle.std.specs.Prelude.{◌&&◌, nat_eq}
 use Rattle.std.proofs.lemmas.Bool.{both_ways, eq-eqb, eqb-true, ne_eqb}
-use Rattle.std.proofs.lemmas.List.{map-append}
 use Rattle.gm_ast.specs.declared.tree.Key.{Key}
 use Rattle.gm_ast.specs.declared.tree.Stmt as S
-use Rattle.gm_ast.specs.Program.{Expr, always, Stmt, Then, sequence}
+use Rattle.gm_ast.specs.Program.{Expr, always, Stmt, sequence}
 use Rattle.gm_ast.specs.Tree.{stmt_of}
 use Rattle.gm_hoisting.specs.Hoisting.{count_folds, count_body, count_loop, has_none, behind, body_out, filter_left, under, opened}
 
@@ -14,9 +13,9 @@ pub behind_none : (xs : List S.Stmt) (t : Stmt) → length xs ≡ 0 → behind (
 behind_none [] t e = refl
 behind_none (x ∷ xs) t e = absurd (omega (arith, e))
 
-pub behind_some : (xs : List S.Stmt) (x : S.Stmt) → 0 < length xs → behind (map stmt_of xs) (stmt_of x) ≡ sequence (map stmt_of (xs ++ (x ∷ [])))
-behind_some [] x e = absurd (omega (arith, e))
-behind_some (y ∷ xs) x e = ap (λ ss. Then (stmt_of y) (sequence ss)) (sym (map-append stmt_of xs (x ∷ [])))
+pub behind_some : (xs : List S.Stmt) (t : Stmt) → 0 < length xs → behind (map stmt_of xs) t ≡ sequence (map stmt_of xs ++ (t ∷ []))
+behind_some [] t e = absurd (omega (arith, e))
+behind_some (x ∷ xs) t e = refl
 
 -- two parts have no reductions where neither has
 pub none_both : (a b : ℕ) → nat_eq (a + b) 0 ≡ (nat_eq a 0 && nat_eq b 0)

@@ -1,5 +1,5 @@
 -- A reduction's unit is its number as a value of the type.
-use Rattle.std.proofs.Common.{◌≡◌, ℤ, refl, sym, ap, ◌∙◌}
+use Rattle.std.proofs.Common.{◌≡◌, ℤ, sym, ap, ◌∙◌}
 use Rattle.gm_value.specs.declared.values.VType.{VType}
 use Rattle.gm_value.specs.declared.values.Value.{Value}
 use Rattle.gm_value.specs.Numbers.{type_of, number_of, value_at}

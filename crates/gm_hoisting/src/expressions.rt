@@ -2,66 +2,68 @@
 
 ghost use Rattle.std.specs.Prelude.{◌≡◌, ◌+◌, ◌++◌, IfOk, OnOk, map};
 ghost use Rattle.gm_ast.specs.Tree.{expr_of, stmt_of};
-ghost use Rattle.gm_desugar.specs.Conditions as Conditions;
 ghost use Rattle.gm_hoisting.specs.Hoisting as Hoisting;
 ghost use Rattle.gm_hoisting.specs.Hoisting.{count_folds};
 
-use crate::folds::{fold_set, nowhere};
+use crate::folds::fold_set;
 use crate::totals::placed;
 use gm_ast::tree::{Expr, Fold, Head, Key, Stmt};
+use gm_desugar::conditions::asked;
+use gm_desugar::places::put;
+use gm_desugar::reads::take_next;
 use std::alloc::{AllocError, Global};
 
-// The next of the new variables.
-pub(crate) fn take_next(next: &mut u32) -> Result<u32, AllocError>
-    ensures taken { IfOk result (λ n. n ≡ next.old) }
-    ensures next { OnOk result (next.new ≡ next.old + 1) }
-{
-    let variable = *next;
-    match variable.checked_add(1) {
-        Some(more) => {
-            *next = more;
-            Ok(variable)
-        }
-        None => Err(AllocError),
-    }
-}
-
-// Adds the loop of a reduction onto the next local, and answers the local.
+// Adds the loop of a reduction onto the next local, and answers the local. The filter and the value of the reduction are
+// taken out.
 fn fold_out(
     alloc: Global,
     next: &mut u32,
     key: Key,
     fold: Fold,
     head: Head,
-    filter: Expr,
-    body: Expr,
+    filter: &mut Box<Expr>,
+    body: &mut Box<Expr>,
     before: &mut Vec<Stmt>,
-) -> Result<Expr, AllocError>
-    ensures told { IfOk result (λ r. expr_of r ≡ Conditions.asked next.old) }
-    ensures before { OnOk result (map stmt_of before.new.items ≡ map stmt_of before.old.items ++ Hoisting.fold_set next.old key (Hoisting.placed fold head (expr_of filter) (expr_of body)) head (expr_of filter) (expr_of body)) }
+) -> Result<u32, AllocError>
+    ensures variable { IfOk result (λ n. n ≡ next.old) }
+    ensures before { OnOk result (map stmt_of before.new.items ≡ map stmt_of before.old.items ++ Hoisting.fold_set next.old key (Hoisting.placed fold head (expr_of filter.old.value) (expr_of body.old.value)) head (expr_of filter.old.value) (expr_of body.old.value)) }
     ensures next { OnOk result (next.new ≡ next.old + 1) }
 {
-    let fold = placed(fold, head, &filter, &body)?;
+    let fold = placed(fold, head, filter, body)?;
     let variable = take_next(next)?;
     fold_set(alloc, variable, key, fold, head, filter, body, before)?;
-    Ok(Expr::Var {
-        variable,
-        place: nowhere(),
-    })
+    Ok(variable)
 }
 
-// Adds the loops of an expression's reductions, from left to right onto the next locals, and answers the expression with
-// these in their place.
-pub(crate) fn folds_out(
+// The reductions of an expression in a box become the next locals, and their loops are added.
+#[cycle(telling)]
+fn folds_inner(
     alloc: Global,
     next: &mut u32,
     key: Key,
-    e: Expr,
+    e: &mut Box<Expr>,
     before: &mut Vec<Stmt>,
-) -> Result<Expr, AllocError>
-    ensures told { IfOk result (λ r. expr_of r ≡ Hoisting.told_from next.old (expr_of e)) }
-    ensures before { OnOk result (map stmt_of before.new.items ≡ map stmt_of before.old.items ++ Hoisting.folds_set next.old key (expr_of e)) }
-    ensures next { OnOk result (next.new ≡ next.old + count_folds (expr_of e)) }
+) -> Result<(), AllocError>
+    ensures told { OnOk result (expr_of e.new.value ≡ Hoisting.told_from next.old (expr_of e.old.value)) }
+    ensures before { OnOk result (map stmt_of before.new.items ≡ map stmt_of before.old.items ++ Hoisting.folds_set next.old key (expr_of e.old.value)) }
+    ensures next { OnOk result (next.new ≡ next.old + count_folds (expr_of e.old.value)) }
+{
+    folds_out(alloc, next, key, e, before)?;
+    Ok(())
+}
+
+// The reductions of an expression become the next locals, from left to right, and their loops are added.
+#[cycle(telling)]
+fn folds_out(
+    alloc: Global,
+    next: &mut u32,
+    key: Key,
+    e: &mut Expr,
+    before: &mut Vec<Stmt>,
+) -> Result<(), AllocError>
+    ensures told { OnOk result (expr_of e.new ≡ Hoisting.told_from next.old (expr_of e.old)) }
+    ensures before { OnOk result (map stmt_of before.new.items ≡ map stmt_of before.old.items ++ Hoisting.folds_set next.old key (expr_of e.old)) }
+    ensures next { OnOk result (next.new ≡ next.old + count_folds (expr_of e.old)) }
 {
     match e {
         Expr::Fold {
@@ -70,75 +72,88 @@ pub(crate) fn folds_out(
             filter,
             body,
         } => {
-            let filter = Box::into_inner(filter);
-            let body = Box::into_inner(body);
-            fold_out(alloc, next, key, fold, head, filter, body, before)
+            let variable = fold_out(alloc, next, key, *fold, *head, filter, body, before)?;
+            put(e, asked(variable));
+            Ok(())
         }
-        Expr::Unary { op, place, inner } => {
-            let part = folds_out(alloc, next, key, Box::into_inner(inner), before)?;
-            let inner = Box::new(alloc, part)?;
-            Ok(Expr::Unary { op, place, inner })
-        }
-        Expr::Binary {
-            op,
-            place,
-            left,
-            right,
-        } => {
-            let first = folds_out(alloc, next, key, Box::into_inner(left), before)?;
-            let left = Box::new(alloc, first)?;
-            let second = folds_out(alloc, next, key, Box::into_inner(right), before)?;
-            let right = Box::new(alloc, second)?;
-            Ok(Expr::Binary {
-                op,
-                place,
-                left,
-                right,
-            })
+        Expr::Unary { inner, .. } => folds_inner(alloc, next, key, inner, before),
+        Expr::Binary { left, right, .. } => {
+            folds_inner(alloc, next, key, left, before)?;
+            folds_inner(alloc, next, key, right, before)
         }
         Expr::Both(left, right) => {
-            let part = folds_out(alloc, next, key, Box::into_inner(left), before)?;
-            let left = Box::new(alloc, part)?;
-            let part = folds_out(alloc, next, key, Box::into_inner(right), before)?;
-            let right = Box::new(alloc, part)?;
-            Ok(Expr::Both(left, right))
+            folds_inner(alloc, next, key, left, before)?;
+            folds_inner(alloc, next, key, right, before)
         }
         Expr::Either(left, right) => {
-            let part = folds_out(alloc, next, key, Box::into_inner(left), before)?;
-            let left = Box::new(alloc, part)?;
-            let part = folds_out(alloc, next, key, Box::into_inner(right), before)?;
-            let right = Box::new(alloc, part)?;
-            Ok(Expr::Either(left, right))
+            folds_inner(alloc, next, key, left, before)?;
+            folds_inner(alloc, next, key, right, before)
         }
         Expr::Choose(test, yes, no) => {
-            let part = folds_out(alloc, next, key, Box::into_inner(test), before)?;
-            let test = Box::new(alloc, part)?;
-            let part = folds_out(alloc, next, key, Box::into_inner(yes), before)?;
-            let yes = Box::new(alloc, part)?;
-            let part = folds_out(alloc, next, key, Box::into_inner(no), before)?;
-            let no = Box::new(alloc, part)?;
-            Ok(Expr::Choose(test, yes, no))
+            folds_inner(alloc, next, key, test, before)?;
+            folds_inner(alloc, next, key, yes, before)?;
+            folds_inner(alloc, next, key, no, before)
         }
-        other => Ok(other),
+        _ => Ok(()),
     }
 }
 
 // The same of several values, one after another.
-pub(crate) fn values_out(
+fn values_out(
     alloc: Global,
     next: &mut u32,
     key: Key,
-    values: Vec<Expr>,
+    values: &mut Vec<Expr>,
     before: &mut Vec<Stmt>,
-) -> Result<Vec<Expr>, AllocError>
-    ensures told { IfOk result (λ r. map expr_of r.items ≡ Hoisting.all_told next.old (map expr_of values.items)) }
-    ensures before { OnOk result (map stmt_of before.new.items ≡ map stmt_of before.old.items ++ Hoisting.all_set next.old key (map expr_of values.items)) }
-    ensures next { OnOk result (next.new ≡ next.old + Hoisting.count_all (map expr_of values.items)) }
+) -> Result<(), AllocError>
+    ensures told { OnOk result (map expr_of values.new.items ≡ Hoisting.all_told next.old (map expr_of values.old.items)) }
+    ensures before { OnOk result (map stmt_of before.new.items ≡ map stmt_of before.old.items ++ Hoisting.all_set next.old key (map expr_of values.old.items)) }
+    ensures next { OnOk result (next.new ≡ next.old + Hoisting.count_all (map expr_of values.old.items)) }
 {
-    let mut out = Vec::new(alloc);
-    for value in values {
-        let told = folds_out(alloc, next, key, value, before)?;
-        out.push(told)?;
+    for i in 0..values.len() {
+        folds_out(alloc, next, key, &mut values[i], before)?;
     }
-    Ok(out)
+    Ok(())
+}
+
+// The loops of an expression's reductions, which become the next locals.
+pub(crate) fn folds_before(
+    alloc: Global,
+    next: &mut u32,
+    key: Key,
+    e: &mut Expr,
+) -> Result<Vec<Stmt>, AllocError>
+    ensures before { IfOk result (λ r. map stmt_of r.items ≡ Hoisting.folds_set next.old key (expr_of e.old)) }
+    ensures told { OnOk result (expr_of e.new ≡ Hoisting.told_from next.old (expr_of e.old)) }
+    ensures next { OnOk result (next.new ≡ next.old + count_folds (expr_of e.old)) }
+{
+    let mut before = Vec::new(alloc);
+    match folds_out(alloc, next, key, e, &mut before) {
+        Ok(()) => Ok(before),
+        Err(error) => {
+            drop(before);
+            Err(error)
+        }
+    }
+}
+
+// The loops of the reductions of several values, which become the next locals.
+pub(crate) fn values_before(
+    alloc: Global,
+    next: &mut u32,
+    key: Key,
+    values: &mut Vec<Expr>,
+) -> Result<Vec<Stmt>, AllocError>
+    ensures before { IfOk result (λ r. map stmt_of r.items ≡ Hoisting.all_set next.old key (map expr_of values.old.items)) }
+    ensures told { OnOk result (map expr_of values.new.items ≡ Hoisting.all_told next.old (map expr_of values.old.items)) }
+    ensures next { OnOk result (next.new ≡ next.old + Hoisting.count_all (map expr_of values.old.items)) }
+{
+    let mut before = Vec::new(alloc);
+    match values_out(alloc, next, key, values, &mut before) {
+        Ok(()) => Ok(before),
+        Err(error) => {
+            drop(before);
+            Err(error)
+        }
+    }
 }

@@ -17,15 +17,9 @@ use crate::totals::reduce_of;
 use gm_ast::surface::ReductionWord;
 use gm_ast::tree::{Expr, Fold, Head, Key, Stage, Stmt, Target, TotalKey};
 use gm_base::Place;
+use gm_desugar::places::{beside, taken_value, with_both_boxed};
 use gm_value::{Reduce, VType, Value, unit};
 use std::alloc::{AllocError, Global};
-
-// The place of what no text spells.
-pub(crate) fn nowhere() -> Place
-    ensures { result ≡ Conditions.nowhere }
-{
-    Place { line: 0, col: 0 }
-}
 
 // What a reduction gives over nothing.
 #[tactic(auto, using(crate::proofs::Units::unit_is))]
@@ -91,13 +85,12 @@ fn contribution(
 ) -> Result<Stmt, AllocError>
     ensures { IfOk result (λ r. stmt_of r ≡ Program.Combine key total reduce (Targets.Scalar variable Conditions.nowhere ∷ []) (expr_of value ∷ [])) }
 {
-    let mut targets = Vec::new(alloc);
-    targets.push(Target::Scalar {
+    let target = Target::Scalar {
         variable,
         place: Place { line: 0, col: 0 },
-    })?;
-    let mut values = Vec::new(alloc);
-    values.push(value)?;
+    };
+    let values = vec![in alloc; value]?;
+    let (values, targets) = beside(values, vec![in alloc; target])?;
     Ok(Stmt::Reduce {
         key,
         total,
@@ -115,35 +108,32 @@ fn adds(alloc: Global, variable: u32, fold: Fold) -> Result<Stmt, AllocError>
     contribution(alloc, fold.body, fold.total, Reduce::Sum, variable, one)
 }
 
-// A one for each element whose braces hold.
-fn counted(alloc: Global, variable: u32, fold: Fold, body: Expr) -> Result<Stmt, AllocError>
-    ensures { IfOk result (λ r. stmt_of r ≡ Program.If fold.body (expr_of body) (Hoisting.adds variable fold) Program.Skip) }
+// A one for each element whose braces hold. The braces are taken out.
+fn counted(alloc: Global, variable: u32, fold: Fold, body: &mut Expr) -> Result<Stmt, AllocError>
+    ensures { IfOk result (λ r. stmt_of r ≡ Program.If fold.body (expr_of body.old) (Hoisting.adds variable fold) Program.Skip) }
 {
     let more = adds(alloc, variable, fold)?;
-    let yes = Box::new(alloc, more)?;
-    let no = Box::new(alloc, Stmt::Block(Vec::new(alloc)))?;
+    let nothing = Stmt::Block(Vec::new(alloc));
+    let (test, yes, no) = with_both_boxed(alloc, taken_value(body), more, nothing)?;
     Ok(Stmt::If {
         key: fold.body,
-        test: body,
+        test,
         yes,
         no,
     })
 }
 
-// What an element that passes gives to the local, where the braces do not stand in the filter.
-fn giving(alloc: Global, variable: u32, fold: Fold, body: Expr) -> Result<Stmt, AllocError>
-    ensures { IfOk result (λ r. stmt_of r ≡ Hoisting.giving false fold.word variable fold (expr_of body)) }
+// What an element that passes gives to the local, where the braces do not stand in the filter. The braces are taken out.
+fn giving(alloc: Global, variable: u32, fold: Fold, body: &mut Expr) -> Result<Stmt, AllocError>
+    ensures { IfOk result (λ r. stmt_of r ≡ Hoisting.giving false fold.word variable fold (expr_of body.old)) }
 {
     match fold.word {
         ReductionWord::Count => counted(alloc, variable, fold, body),
-        word => contribution(
-            alloc,
-            fold.body,
-            fold.total,
-            reduce_of(word),
-            variable,
-            body,
-        ),
+        word => {
+            let value = taken_value(body);
+            let reduce = reduce_of(word);
+            contribution(alloc, fold.body, fold.total, reduce, variable, value)
+        }
     }
 }
 
@@ -157,7 +147,7 @@ fn over_elements(
 ) -> Result<Stmt, AllocError>
     ensures { IfOk result (λ r. stmt_of r ≡ Program.Foreach fold.filter fold.total.shown head (expr_of filter) (stmt_of gives)) }
 {
-    let body = Box::new(alloc, gives)?;
+    let (filter, body) = beside(filter, Box::new(alloc, gives))?;
     Ok(Stmt::Foreach {
         key: fold.filter,
         place: fold.total.shown,
@@ -167,62 +157,64 @@ fn over_elements(
     })
 }
 
-// A count whose braces stand in the filter.
+// A count whose braces stand in the filter. Both are taken out.
 fn joined(
     alloc: Global,
     variable: u32,
     fold: Fold,
     head: Head,
-    filter: Expr,
-    body: Expr,
+    filter: &mut Expr,
+    body: &mut Expr,
 ) -> Result<Stmt, AllocError>
-    ensures { IfOk result (λ r. stmt_of r ≡ Program.Foreach fold.filter fold.total.shown head (Program.Both (expr_of filter) (expr_of body)) (Hoisting.adds variable fold)) }
+    ensures { IfOk result (λ r. stmt_of r ≡ Program.Foreach fold.filter fold.total.shown head (Program.Both (expr_of filter.old) (expr_of body.old)) (Hoisting.adds variable fold)) }
 {
-    let first = Box::new(alloc, filter)?;
-    let second = Box::new(alloc, body)?;
-    let gives = adds(alloc, variable, fold)?;
+    let more = adds(alloc, variable, fold)?;
+    let filter = taken_value(filter);
+    let body = taken_value(body);
+    let (gives, first, second) = with_both_boxed(alloc, more, filter, body)?;
     over_elements(alloc, fold, head, Expr::Both(first, second), gives)
 }
 
-// A reduction as a loop.
+// A reduction as a loop. Its filter and its value are taken out.
 fn looped(
     alloc: Global,
     variable: u32,
     fold: Fold,
     head: Head,
-    filter: Expr,
-    body: Expr,
+    filter: &mut Expr,
+    body: &mut Expr,
 ) -> Result<Stmt, AllocError>
-    ensures { IfOk result (λ r. stmt_of r ≡ Hoisting.looped variable fold head (expr_of filter) (expr_of body)) }
+    ensures { IfOk result (λ r. stmt_of r ≡ Hoisting.looped variable fold head (expr_of filter.old) (expr_of body.old)) }
 {
     if joins(fold) {
-        joined(alloc, variable, fold, head, filter, body)
-    } else {
-        let gives = giving(alloc, variable, fold, body)?;
-        over_elements(alloc, fold, head, filter, gives)
+        return joined(alloc, variable, fold, head, filter, body);
     }
+    let gives = giving(alloc, variable, fold, body)?;
+    let filter = taken_value(filter);
+    over_elements(alloc, fold, head, filter, gives)
 }
 
-// Adds a local set to what a reduction gives over nothing, and the loop onto it.
+// Adds a local set to what a reduction gives over nothing, and the loop onto it. The filter and the value of the reduction
+// are taken out.
 pub(crate) fn fold_set(
     alloc: Global,
     variable: u32,
     key: Key,
     fold: Fold,
     head: Head,
-    filter: Expr,
-    body: Expr,
+    filter: &mut Expr,
+    body: &mut Expr,
     before: &mut Vec<Stmt>,
 ) -> Result<(), AllocError>
-    ensures { OnOk result (map stmt_of before.new.items ≡ map stmt_of before.old.items ++ Hoisting.fold_set variable key fold head (expr_of filter) (expr_of body)) }
+    ensures { OnOk result (map stmt_of before.new.items ≡ map stmt_of before.old.items ++ Hoisting.fold_set variable key fold head (expr_of filter.old) (expr_of body.old)) }
 {
-    let turns = looped(alloc, variable, fold, head, filter, body)?;
     let unit = Expr::Const(unit_for(fold));
     before.push(Stmt::Declare {
         key,
         variable,
         value: Some(unit),
     })?;
+    let turns = looped(alloc, variable, fold, head, filter, body)?;
     before.push(turns)?;
     Ok(())
 }

@@ -4,34 +4,32 @@
 //! If (f') s }`, where the dots are the loops of the reductions of f. Such a loop comes before all other faults. A search
 //! without its filter is behind a check of its root under the key that it had.
 
-ghost use Rattle.std.specs.Prelude.{◌≡◌, ◌+◌, true, false, [], ◌∷◌, IfOk, OnOk};
+ghost use Rattle.std.specs.Prelude.{◌≡◌, ◌+◌, true, false, IfOk, OnOk, map, option_map};
+ghost use Rattle.gm_base.specs.declared.places.Place.{Place};
 ghost use Rattle.gm_ast.specs.Program as Program;
+ghost use Rattle.gm_ast.specs.Program.{sequence};
 ghost use Rattle.gm_ast.specs.Tree.{expr_of, program_of, stmt_of};
+ghost use Rattle.gm_desugar.specs.Places as Places;
 ghost use Rattle.gm_forms.specs.Meanings.{SameMeaning};
-ghost use Rattle.gm_forms.specs.Order as Order;
 ghost use Rattle.gm_forms.specs.Ready.{is_checked};
 ghost use Rattle.gm_forms.specs.Uses.{is_named};
 ghost use Rattle.gm_hoisting.specs.Hoisting as Hoisting;
-ghost use Rattle.gm_hoisting.specs.Hoisting.{count_check, count_loop, count_phase, filter_left, has_none, without_inner_folds};
+ghost use Rattle.gm_hoisting.specs.Hoisting.{count_body, count_check, count_folds, count_loop, count_phase, filter_left, has_none, phase_out, without_inner_folds};
 ghost use Rattle.gm_hoisting.specs.Stages.{CanBeHoisted, WithoutInnerFolds};
 ghost use Rattle.gm_hoisting.specs.Totals.{totals_stand};
 
-use crate::expressions::{folds_out, take_next};
-use crate::folds::nowhere;
+use crate::expressions::folds_before;
 use crate::locals::{has_none, phase_added};
-use crate::statements::{behind, body_out};
+use crate::statements::{body_inner, put_behind};
 use gm_ast::forms::Work;
-use gm_ast::tree::{Expr, Head, Key, Search, Stage, Stmt, Target, Tree};
-use gm_base::{NoMemory, Place};
+use gm_ast::tree::{Expr, Key, Search, Stage, Stmt, Tree};
+use gm_base::NoMemory;
+use gm_desugar::conditions::set_to;
+use gm_desugar::places::{finish, put, put_after, taken, with_both_boxed};
+use gm_desugar::reads::take_next;
 use gm_value::Value;
 use std::alloc::{AllocError, Global};
-
-// The filter and the body of a loop over nodes, or of a part of a search.
-#[derive(Drop)]
-struct Part {
-    filter: Expr,
-    body: Stmt,
-}
+use std::mem;
 
 /// Writes each reduction in the parallel loops and searches of a program as an inner loop onto a new local. Where each
 /// variable stands in the table as it is used and the totals of reductions stand in order, a program of the checked form
@@ -42,52 +40,110 @@ pub fn inner_folds_out(alloc: Global, program: Work) -> Result<Work, NoMemory>
     ensures same { IfOk result (λ r. is_named (program_of program) ≡ true → is_checked (program_of program) ≡ true → totals_stand (program_of program) ≡ true → SameMeaning (program_of program) (program_of r)) }
     ensures ready { IfOk result (λ r. CanBeHoisted (program_of program) → WithoutInnerFolds (program_of r)) }
 {
-    let tree = program.into_tree();
+    let mut tree = program.into_tree();
+    let outcome = hoist_tree(alloc, &mut tree);
+    finish(tree, outcome)
+}
+
+// The same of a tree.
+fn hoist_tree(alloc: Global, tree: &mut Tree) -> Result<(), NoMemory>
+    ensures { OnOk result (program_of tree.new ≡ without_inner_folds (program_of tree.old)) }
+{
     let Ok(first) = u32::try_from(tree.declarations.len()) else {
         return Err(NoMemory);
     };
-    let mut declarations = tree.declarations;
-    phase_added(alloc, &tree.body, &mut declarations)?;
+    phase_added(alloc, &tree.body, &mut tree.declarations)?;
     let mut next = first;
-    let body = phase_out(alloc, &mut next, tree.body)?;
-    Ok(Work::new(Tree {
-        declarations,
-        body,
-        ..tree
-    }))
+    phase_out(alloc, &mut next, &mut tree.body)?;
+    Ok(())
 }
 
-// A body under its filter, whose reductions stand before it as loops.
-fn guarded(alloc: Global, next: &mut u32, key: Key, part: Part) -> Result<Part, AllocError>
-    ensures filter { IfOk result (λ r. expr_of r.filter ≡ Program.always) }
-    ensures body { IfOk result (λ r. stmt_of r.body ≡ Hoisting.under false next.old key (expr_of part.filter) (Hoisting.body_out (next.old + Hoisting.count_folds (expr_of part.filter)) (stmt_of part.body))) }
-    ensures next { OnOk result (next.new ≡ next.old + count_loop (expr_of part.filter) (stmt_of part.body)) }
+// Puts a body under a condition.
+fn put_under(alloc: Global, key: Key, test: Expr, body: &mut Stmt) -> Result<(), AllocError>
+    ensures { OnOk result (stmt_of body.new ≡ Program.If key (expr_of test) (stmt_of body.old) Program.Skip) }
 {
-    let mut before = Vec::new(alloc);
-    let test = folds_out(alloc, next, key, part.filter, &mut before)?;
-    let changed = body_out(alloc, next, part.body)?;
-    let yes = Box::new(alloc, changed)?;
-    let no = Box::new(alloc, Stmt::Block(Vec::new(alloc)))?;
-    let body = behind(before, Stmt::If { key, test, yes, no })?;
-    Ok(Part {
-        filter: Expr::Const(Value::Flag(true)),
-        body,
-    })
+    let held = taken(alloc, body);
+    let nothing = Stmt::Block(Vec::new(alloc));
+    let (test, yes, no) = with_both_boxed(alloc, test, held, nothing)?;
+    put(body, Stmt::If { key, test, yes, no });
+    Ok(())
 }
 
-// A part with its reductions and those of its filter as loops.
+// A filter goes into its body, whose reductions become loops onto the next locals.
+fn filter_under(
+    alloc: Global,
+    next: &mut u32,
+    key: Key,
+    filter: &mut Expr,
+    body: &mut Box<Stmt>,
+) -> Result<(), AllocError>
+    ensures filter { OnOk result (expr_of filter.new ≡ Program.always) }
+    ensures body { OnOk result (stmt_of body.new.value ≡ Program.If key (expr_of filter.old) (Hoisting.body_out next.old (stmt_of body.old.value)) Program.Skip) }
+    ensures next { OnOk result (next.new ≡ next.old + count_body (stmt_of body.old.value)) }
+{
+    body_inner(alloc, next, body)?;
+    let test = mem::replace(filter, Expr::Const(Value::Flag(true)));
+    put_under(alloc, key, test, body)?;
+    Ok(())
+}
+
+// The same of a filter with reductions. Their loops are answered.
+fn filter_before(
+    alloc: Global,
+    next: &mut u32,
+    key: Key,
+    filter: &mut Expr,
+    body: &mut Box<Stmt>,
+) -> Result<Vec<Stmt>, AllocError>
+    ensures before { IfOk result (λ r. map stmt_of r.items ≡ Hoisting.folds_set next.old key (expr_of filter.old)) }
+    ensures filter { OnOk result (expr_of filter.new ≡ Program.always) }
+    ensures body { OnOk result (stmt_of body.new.value ≡ Program.If key (Hoisting.told_from next.old (expr_of filter.old)) (Hoisting.body_out (next.old + count_folds (expr_of filter.old)) (stmt_of body.old.value)) Program.Skip) }
+    ensures next { OnOk result (next.new ≡ next.old + count_loop (expr_of filter.old) (stmt_of body.old.value)) }
+{
+    let before = folds_before(alloc, next, key, filter)?;
+    match filter_under(alloc, next, key, filter, body) {
+        Ok(()) => Ok(before),
+        Err(error) => {
+            drop(before);
+            Err(error)
+        }
+    }
+}
+
+// A body comes under its filter, behind the loops of the filter's reductions.
+fn guard(
+    alloc: Global,
+    next: &mut u32,
+    key: Key,
+    filter: &mut Expr,
+    body: &mut Box<Stmt>,
+) -> Result<(), AllocError>
+    ensures filter { OnOk result (expr_of filter.new ≡ Program.always) }
+    ensures body { OnOk result (stmt_of body.new.value ≡ Hoisting.under false next.old key (expr_of filter.old) (Hoisting.body_out (next.old + count_folds (expr_of filter.old)) (stmt_of body.old.value))) }
+    ensures next { OnOk result (next.new ≡ next.old + count_loop (expr_of filter.old) (stmt_of body.old.value)) }
+{
+    let before = filter_before(alloc, next, key, filter, body)?;
+    put_behind(alloc, before, body)?;
+    Ok(())
+}
+
+// The reductions of a body and of its filter become loops.
 #[tactic(auto, using(crate::proofs::Openings::opened_none, crate::proofs::Openings::opened_some, crate::proofs::Openings::filter_none, crate::proofs::Openings::filter_some, crate::proofs::Openings::count_none))]
-fn opened(alloc: Global, next: &mut u32, key: Key, part: Part) -> Result<Part, AllocError>
-    ensures filter { IfOk result (λ r. expr_of r.filter ≡ filter_left (has_none (expr_of part.filter)) (expr_of part.filter)) }
-    ensures body { IfOk result (λ r. stmt_of r.body ≡ Hoisting.opened next.old key (expr_of part.filter) (stmt_of part.body)) }
-    ensures next { OnOk result (next.new ≡ next.old + count_loop (expr_of part.filter) (stmt_of part.body)) }
+fn open_body(
+    alloc: Global,
+    next: &mut u32,
+    key: Key,
+    filter: &mut Expr,
+    body: &mut Box<Stmt>,
+) -> Result<(), AllocError>
+    ensures filter { OnOk result (expr_of filter.new ≡ filter_left (has_none (expr_of filter.old)) (expr_of filter.old)) }
+    ensures body { OnOk result (stmt_of body.new.value ≡ Hoisting.opened next.old key (expr_of filter.old) (stmt_of body.old.value)) }
+    ensures next { OnOk result (next.new ≡ next.old + count_loop (expr_of filter.old) (stmt_of body.old.value)) }
 {
-    if has_none(&part.filter) {
-        let filter = part.filter;
-        let body = body_out(alloc, next, part.body)?;
-        Ok(Part { filter, body })
+    if has_none(filter) {
+        body_inner(alloc, next, body)
     } else {
-        guarded(alloc, next, key, part)
+        guard(alloc, next, key, filter, body)
     }
 }
 
@@ -119,29 +175,40 @@ fn search_key(none: bool, key: Key) -> Key
     }
 }
 
-// A loop over nodes with its reductions as loops.
+// The reductions of a loop over nodes become loops.
 fn loop_out(
     alloc: Global,
     next: &mut u32,
-    key: Key,
-    place: Place,
-    head: Head,
-    part: Part,
-) -> Result<Stmt, AllocError>
-    ensures out { IfOk result (λ r. stmt_of r ≡ Hoisting.phase_out next.old (Program.Foreach key place head (expr_of part.filter) (stmt_of part.body))) }
-    ensures next { OnOk result (next.new ≡ next.old + count_loop (expr_of part.filter) (stmt_of part.body)) }
+    key: &mut Key,
+    filter: &mut Expr,
+    body: &mut Box<Stmt>,
+) -> Result<(), AllocError>
+    ensures key { OnOk result (key.new ≡ Hoisting.loop_key (has_none (expr_of filter.old)) key.old) }
+    ensures filter { OnOk result (expr_of filter.new ≡ filter_left (has_none (expr_of filter.old)) (expr_of filter.old)) }
+    ensures body { OnOk result (stmt_of body.new.value ≡ Hoisting.opened next.old key.old (expr_of filter.old) (stmt_of body.old.value)) }
+    ensures next { OnOk result (next.new ≡ next.old + count_loop (expr_of filter.old) (stmt_of body.old.value)) }
 {
-    let outer = loop_key(has_none(&part.filter), key);
-    let changed = opened(alloc, next, key, part)?;
-    let filter = changed.filter;
-    let body = Box::new(alloc, changed.body)?;
-    Ok(Stmt::Foreach {
-        key: outer,
-        place,
-        head,
-        filter,
-        body,
-    })
+    let inner = *key;
+    *key = loop_key(has_none(filter), inner);
+    open_body(alloc, next, inner, filter, body)
+}
+
+// The same of a part of a search.
+fn part_out(
+    alloc: Global,
+    next: &mut u32,
+    key: &mut Key,
+    filter: &mut Expr,
+    body: &mut Box<Stmt>,
+) -> Result<(), AllocError>
+    ensures key { OnOk result (key.new ≡ Hoisting.search_key (has_none (expr_of filter.old)) key.old) }
+    ensures filter { OnOk result (expr_of filter.new ≡ filter_left (has_none (expr_of filter.old)) (expr_of filter.old)) }
+    ensures body { OnOk result (stmt_of body.new.value ≡ Hoisting.opened next.old key.old (expr_of filter.old) (stmt_of body.old.value)) }
+    ensures next { OnOk result (next.new ≡ next.old + count_loop (expr_of filter.old) (stmt_of body.old.value)) }
+{
+    let inner = *key;
+    *key = search_key(has_none(filter), inner);
+    open_body(alloc, next, inner, filter, body)
 }
 
 // The variable that the root of a search is checked in, where it is.
@@ -152,202 +219,120 @@ fn take_check(none: bool, next: &mut u32) -> Result<u32, AllocError>
     if none { Ok(*next) } else { take_next(next) }
 }
 
-// A search behind the check of its root.
-fn checked(
-    alloc: Global,
-    variable: u32,
-    key: Key,
-    search: Search,
-    stmt: Stmt,
-) -> Result<Stmt, AllocError>
-    ensures { IfOk result (λ r. stmt_of r ≡ Hoisting.root_checked false variable key search (stmt_of stmt)) }
+// The check of the root of a search whose key changed.
+fn check(none: bool, variable: u32, key: Key, search: Search) -> Option<Stmt>
+    ensures { (s : Program.Stmt) → Places.after (option_map stmt_of result) s ≡ Hoisting.root_checked none variable key search s }
 {
-    let target = Target::Scalar {
-        variable,
-        place: nowhere(),
-    };
-    let value = Expr::Live {
+    if none {
+        return None;
+    }
+    let root = Expr::Live {
         variable: search.root,
         place: search.place,
     };
-    let mut stmts = Vec::new(alloc);
-    stmts.push(Stmt::Assign { key, target, value })?;
-    stmts.push(stmt)?;
-    Ok(Stmt::Block(stmts))
+    Some(set_to(variable, key, root))
 }
 
-// The same, where the key of the search changed.
-fn root_checked(
-    alloc: Global,
-    none: bool,
-    variable: u32,
-    key: Key,
-    search: Search,
-    stmt: Stmt,
-) -> Result<Stmt, AllocError>
-    ensures { IfOk result (λ r. stmt_of r ≡ Hoisting.root_checked none variable key search (stmt_of stmt)) }
-{
-    if none {
-        Ok(stmt)
-    } else {
-        checked(alloc, variable, key, search, stmt)
-    }
-}
-
-// A search with its reductions as loops.
+// The reductions of a search become loops. The check of its root is answered, where its key changes.
 fn search_out(
     alloc: Global,
     next: &mut u32,
-    key: Key,
-    place: Place,
+    key: &mut Key,
     search: Search,
-    part: Part,
-) -> Result<Stmt, AllocError>
-    ensures out { IfOk result (λ r. stmt_of r ≡ Hoisting.phase_out next.old (Program.InBfs key place search (expr_of part.filter) (stmt_of part.body))) }
-    ensures next { OnOk result (next.new ≡ next.old + count_phase (Program.InBfs key place search (expr_of part.filter) (stmt_of part.body))) }
+    filter: &mut Expr,
+    body: &mut Box<Stmt>,
+) -> Result<Option<Stmt>, AllocError>
+    ensures out { IfOk result (λ r. (at : Place) → Places.after (option_map stmt_of r) (Program.InBfs key.new at search (expr_of filter.new) (stmt_of body.new.value)) ≡ phase_out next.old (Program.InBfs key.old at search (expr_of filter.old) (stmt_of body.old.value))) }
+    ensures next { OnOk result (next.new ≡ next.old + (count_check (has_none (expr_of filter.old)) + count_loop (expr_of filter.old) (stmt_of body.old.value))) }
 {
-    let none = has_none(&part.filter);
+    let none = has_none(filter);
+    let outer = *key;
     let variable = take_check(none, next)?;
-    let changed = opened(alloc, next, key, part)?;
-    let filter = changed.filter;
-    let body = Box::new(alloc, changed.body)?;
-    let stmt = Stmt::InBfs {
-        key: search_key(none, key),
-        place,
-        search,
-        filter,
-        body,
-    };
-    root_checked(alloc, none, variable, key, search, stmt)
+    part_out(alloc, next, key, filter, body)?;
+    Ok(check(none, variable, outer, search))
 }
 
-// A search with a part that goes back, with its reductions as loops.
+// The same of a search with a part that goes back.
 fn both_out(
     alloc: Global,
     next: &mut u32,
-    key: Key,
-    place: Place,
+    key: &mut Key,
     search: Search,
-    part: Part,
-    back_key: Key,
-    back: Part,
-) -> Result<Stmt, AllocError>
-    ensures out { IfOk result (λ r. stmt_of r ≡ Hoisting.phase_out next.old (Program.InBfsBoth key place search (expr_of part.filter) (stmt_of part.body) back_key (expr_of back.filter) (stmt_of back.body))) }
-    ensures next { OnOk result (next.new ≡ next.old + count_phase (Program.InBfsBoth key place search (expr_of part.filter) (stmt_of part.body) back_key (expr_of back.filter) (stmt_of back.body))) }
+    filter: &mut Expr,
+    body: &mut Box<Stmt>,
+    back_key: &mut Key,
+    back_filter: &mut Expr,
+    back: &mut Box<Stmt>,
+) -> Result<Option<Stmt>, AllocError>
+    ensures out { IfOk result (λ r. (at : Place) → Places.after (option_map stmt_of r) (Program.InBfsBoth key.new at search (expr_of filter.new) (stmt_of body.new.value) back_key.new (expr_of back_filter.new) (stmt_of back.new.value)) ≡ phase_out next.old (Program.InBfsBoth key.old at search (expr_of filter.old) (stmt_of body.old.value) back_key.old (expr_of back_filter.old) (stmt_of back.old.value))) }
+    ensures next { OnOk result (next.new ≡ next.old + (count_check (has_none (expr_of filter.old)) + (count_loop (expr_of filter.old) (stmt_of body.old.value) + count_loop (expr_of back_filter.old) (stmt_of back.old.value)))) }
 {
-    let none = has_none(&part.filter);
-    let back_none = has_none(&back.filter);
+    let none = has_none(filter);
+    let outer = *key;
     let variable = take_check(none, next)?;
-    let changed = opened(alloc, next, key, part)?;
-    let filter = changed.filter;
-    let body = Box::new(alloc, changed.body)?;
-    let back = opened(alloc, next, back_key, back)?;
-    let back_filter = back.filter;
-    let back = Box::new(alloc, back.body)?;
-    let stmt = Stmt::InBfsBoth {
-        key: search_key(none, key),
-        place,
-        search,
-        filter,
-        body,
-        back_key: search_key(back_none, back_key),
-        back_filter,
-        back,
-    };
-    root_checked(alloc, none, variable, key, search, stmt)
+    part_out(alloc, next, key, filter, body)?;
+    part_out(alloc, next, back_key, back_filter, back)?;
+    Ok(check(none, variable, outer, search))
 }
 
-// The sequential phase with the reductions of its parallel loops and searches as loops onto the next locals.
-fn phase_out(alloc: Global, next: &mut u32, s: Stmt) -> Result<Stmt, AllocError>
-    ensures out { IfOk result (λ r. stmt_of r ≡ Hoisting.phase_out next.old (stmt_of s)) }
-    ensures next { OnOk result (next.new ≡ next.old + count_phase (stmt_of s)) }
+// The reductions of the parallel loops and searches in a block become loops onto the next locals.
+#[cycle(hoisting)]
+fn phase_block(alloc: Global, next: &mut u32, stmts: &mut Vec<Stmt>) -> Result<(), AllocError>
+    ensures out { OnOk result (sequence (map stmt_of stmts.new.items) ≡ phase_out next.old (sequence (map stmt_of stmts.old.items))) }
+    ensures next { OnOk result (next.new ≡ next.old + count_phase (sequence (map stmt_of stmts.old.items))) }
+{
+    for i in 0..stmts.len() {
+        phase_out(alloc, next, &mut stmts[i])?;
+    }
+    Ok(())
+}
+
+// The same of a sequential phase in a box.
+#[cycle(hoisting)]
+fn phase_inner(alloc: Global, next: &mut u32, s: &mut Box<Stmt>) -> Result<(), AllocError>
+    ensures out { OnOk result (stmt_of s.new.value ≡ phase_out next.old (stmt_of s.old.value)) }
+    ensures next { OnOk result (next.new ≡ next.old + count_phase (stmt_of s.old.value)) }
+{
+    phase_out(alloc, next, s)?;
+    Ok(())
+}
+
+// The same of a sequential phase.
+#[cycle(hoisting)]
+fn phase_out(alloc: Global, next: &mut u32, s: &mut Stmt) -> Result<(), AllocError>
+    ensures out { OnOk result (stmt_of s.new ≡ phase_out next.old (stmt_of s.old)) }
+    ensures next { OnOk result (next.new ≡ next.old + count_phase (stmt_of s.old)) }
 {
     match s {
-        Stmt::Block(stmts) => {
-            let mut out = Vec::new(alloc);
-            for stmt in stmts {
-                let changed = phase_out(alloc, next, stmt)?;
-                out.push(changed)?;
-            }
-            Ok(Stmt::Block(out))
-        }
+        Stmt::Block(stmts) => phase_block(alloc, next, stmts),
         Stmt::Foreach {
             key,
-            place,
-            head,
+            place: _place,
+            head: _head,
             filter,
             body,
-        } => {
-            let body = Box::into_inner(body);
-            loop_out(alloc, next, key, place, head, Part { filter, body })
+        } => loop_out(alloc, next, key, filter, body),
+        Stmt::For { body, .. } => phase_inner(alloc, next, body),
+        Stmt::If { yes, no, .. } => {
+            phase_inner(alloc, next, yes)?;
+            phase_inner(alloc, next, no)
         }
-        Stmt::For {
-            key,
-            place,
-            head,
-            filter,
-            body,
-        } => {
-            let changed = phase_out(alloc, next, Box::into_inner(body))?;
-            let body = Box::new(alloc, changed)?;
-            Ok(Stmt::For {
-                key,
-                place,
-                head,
-                filter,
-                body,
-            })
-        }
-        Stmt::If { key, test, yes, no } => {
-            let changed = phase_out(alloc, next, Box::into_inner(yes))?;
-            let yes = Box::new(alloc, changed)?;
-            let changed = phase_out(alloc, next, Box::into_inner(no))?;
-            let no = Box::new(alloc, changed)?;
-            Ok(Stmt::If { key, test, yes, no })
-        }
-        Stmt::While {
-            key,
-            place,
-            test,
-            body,
-        } => {
-            let changed = phase_out(alloc, next, Box::into_inner(body))?;
-            let body = Box::new(alloc, changed)?;
-            Ok(Stmt::While {
-                key,
-                place,
-                test,
-                body,
-            })
-        }
-        Stmt::Do {
-            key,
-            place,
-            body,
-            test,
-        } => {
-            let changed = phase_out(alloc, next, Box::into_inner(body))?;
-            let body = Box::new(alloc, changed)?;
-            Ok(Stmt::Do {
-                key,
-                place,
-                body,
-                test,
-            })
-        }
+        Stmt::While { body, .. } => phase_inner(alloc, next, body),
+        Stmt::Do { body, .. } => phase_inner(alloc, next, body),
         Stmt::InBfs {
             key,
-            place,
+            place: _place,
             search,
             filter,
             body,
         } => {
-            let body = Box::into_inner(body);
-            search_out(alloc, next, key, place, search, Part { filter, body })
+            let check = search_out(alloc, next, key, *search, filter, body)?;
+            put_after(alloc, check, s)?;
+            Ok(())
         }
         Stmt::InBfsBoth {
             key,
-            place,
+            place: _place,
             search,
             filter,
             body,
@@ -355,13 +340,20 @@ fn phase_out(alloc: Global, next: &mut u32, s: Stmt) -> Result<Stmt, AllocError>
             back_filter,
             back,
         } => {
-            let body = Box::into_inner(body);
-            let part = Part { filter, body };
-            let body = Box::into_inner(back);
-            let filter = back_filter;
-            let back = Part { filter, body };
-            both_out(alloc, next, key, place, search, part, back_key, back)
+            let check = both_out(
+                alloc,
+                next,
+                key,
+                *search,
+                filter,
+                body,
+                back_key,
+                back_filter,
+                back,
+            )?;
+            put_after(alloc, check, s)?;
+            Ok(())
         }
-        other => Ok(other),
+        _ => Ok(()),
     }
 }

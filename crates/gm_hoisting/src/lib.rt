@@ -10,7 +10,7 @@
 //!    these `expressions`, in these `folds`, the key of whose `totals` may change.
 //!
 //! The result is the one of the function on trees in `specs/`, means the same and is as ready (`laws`). Trees are
-//! rebuilt by value, in time and memory linear in them.
+//! changed in place, in time and memory linear in them.
 #![tactic(auto)]
 
 mod expressions;

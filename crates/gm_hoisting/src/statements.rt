@@ -1,170 +1,130 @@
 //! The statements of an outer body, each behind the loops of its reductions.
 
-ghost use Rattle.std.specs.Prelude.{◌≡◌, ◌+◌, Some, IfOk, OnOk, map, option_map};
+ghost use Rattle.std.specs.Prelude.{◌≡◌, ◌+◌, IfOk, OnOk, map, option_map};
 ghost use Rattle.gm_ast.specs.Program as Program;
+ghost use Rattle.gm_ast.specs.Program.{sequence};
 ghost use Rattle.gm_ast.specs.Tree.{expr_of, stmt_of};
-ghost use Rattle.gm_hoisting.specs.Hoisting as Hoisting;
-ghost use Rattle.gm_hoisting.specs.Hoisting.{count_body, count_folds};
+ghost use Rattle.gm_hoisting.specs.Hoisting.{behind, body_out, count_body};
 
-use crate::expressions::{folds_out, values_out};
-use gm_ast::tree::{Expr, Key, Stmt, Target, TotalKey};
-use gm_value::Reduce;
+use crate::expressions::{folds_before, values_before};
+use gm_ast::tree::{Expr, Key, Stmt};
+use gm_desugar::places::put_after_all;
 use std::alloc::{AllocError, Global};
 
-// A statement behind others.
+// Puts a statement behind others, in a block, if there are any.
 #[tactic(auto, using(crate::proofs::Openings::behind_none, crate::proofs::Openings::behind_some))]
-pub(crate) fn behind(before: Vec<Stmt>, last: Stmt) -> Result<Stmt, AllocError>
-    ensures { IfOk result (λ r. stmt_of r ≡ Hoisting.behind (map stmt_of before.items) (stmt_of last)) }
+pub(crate) fn put_behind(alloc: Global, before: Vec<Stmt>, s: &mut Stmt) -> Result<(), AllocError>
+    ensures { OnOk result (stmt_of s.new ≡ behind (map stmt_of before.items) (stmt_of s.old)) }
 {
     if before.is_empty() {
-        return Ok(last);
+        drop(before);
+        return Ok(());
     }
-    let mut stmts = before;
-    stmts.push(last)?;
-    Ok(Stmt::Block(stmts))
+    put_after_all(alloc, Some(before), s)?;
+    Ok(())
 }
 
-// A declaration behind the loops of its value's reductions.
-fn declare_out(
+// The loops of the reductions of what a declaration sets, if it sets anything. They become the next locals.
+fn declared_before(
     alloc: Global,
     next: &mut u32,
     key: Key,
     variable: u32,
-    value: Expr,
-) -> Result<Stmt, AllocError>
-    ensures out { IfOk result (λ r. stmt_of r ≡ Hoisting.body_out next.old (Program.Declare key variable (Some (expr_of value)))) }
-    ensures next { OnOk result (next.new ≡ next.old + count_folds (expr_of value)) }
-{
-    let mut before = Vec::new(alloc);
-    let told = folds_out(alloc, next, key, value, &mut before)?;
-    let value = Some(told);
-    behind(
-        before,
-        Stmt::Declare {
-            key,
-            variable,
-            value,
-        },
-    )
-}
-
-// The same of a declaration that may have no value.
-fn declared_out(
-    alloc: Global,
-    next: &mut u32,
-    key: Key,
-    variable: u32,
-    value: Option<Expr>,
-) -> Result<Stmt, AllocError>
-    ensures out { IfOk result (λ r. stmt_of r ≡ Hoisting.body_out next.old (Program.Declare key variable (option_map expr_of value))) }
-    ensures next { OnOk result (next.new ≡ next.old + count_body (Program.Declare key variable (option_map expr_of value))) }
+    value: &mut Option<Expr>,
+) -> Result<Vec<Stmt>, AllocError>
+    ensures out { IfOk result (λ r. behind (map stmt_of r.items) (Program.Declare key variable (option_map expr_of value.new)) ≡ body_out next.old (Program.Declare key variable (option_map expr_of value.old))) }
+    ensures next { OnOk result (next.new ≡ next.old + count_body (Program.Declare key variable (option_map expr_of value.old))) }
 {
     match value {
-        Some(value) => declare_out(alloc, next, key, variable, value),
-        None => Ok(Stmt::Declare {
-            key,
-            variable,
-            value: None,
-        }),
+        None => Ok(Vec::new(alloc)),
+        Some(value) => {
+            let before = folds_before(alloc, next, key, value)?;
+            Ok(before)
+        }
     }
 }
 
-// An assignment behind the loops of its value's reductions.
-fn assign_out(
-    alloc: Global,
-    next: &mut u32,
-    key: Key,
-    target: Target,
-    value: Expr,
-) -> Result<Stmt, AllocError>
-    ensures out { IfOk result (λ r. stmt_of r ≡ Hoisting.body_out next.old (Program.Assign key target (expr_of value))) }
-    ensures next { OnOk result (next.new ≡ next.old + count_folds (expr_of value)) }
+// The statements of a block come behind the loops of their reductions, which become the next locals.
+#[cycle(opening)]
+fn body_block(alloc: Global, next: &mut u32, stmts: &mut Vec<Stmt>) -> Result<(), AllocError>
+    ensures out { OnOk result (sequence (map stmt_of stmts.new.items) ≡ body_out next.old (sequence (map stmt_of stmts.old.items))) }
+    ensures next { OnOk result (next.new ≡ next.old + count_body (sequence (map stmt_of stmts.old.items))) }
 {
-    let mut before = Vec::new(alloc);
-    let value = folds_out(alloc, next, key, value, &mut before)?;
-    behind(before, Stmt::Assign { key, target, value })
+    for i in 0..stmts.len() {
+        body_out(alloc, next, &mut stmts[i])?;
+    }
+    Ok(())
 }
 
-// A deferred assignment so.
-fn defer_out(
-    alloc: Global,
-    next: &mut u32,
-    key: Key,
-    target: Target,
-    value: Expr,
-) -> Result<Stmt, AllocError>
-    ensures out { IfOk result (λ r. stmt_of r ≡ Hoisting.body_out next.old (Program.Defer key target (expr_of value))) }
-    ensures next { OnOk result (next.new ≡ next.old + count_folds (expr_of value)) }
+// The same of an outer body in a box.
+#[cycle(opening)]
+pub(crate) fn body_inner(alloc: Global, next: &mut u32, s: &mut Box<Stmt>) -> Result<(), AllocError>
+    ensures out { OnOk result (stmt_of s.new.value ≡ body_out next.old (stmt_of s.old.value)) }
+    ensures next { OnOk result (next.new ≡ next.old + count_body (stmt_of s.old.value)) }
 {
-    let mut before = Vec::new(alloc);
-    let value = folds_out(alloc, next, key, value, &mut before)?;
-    behind(before, Stmt::Defer { key, target, value })
+    body_out(alloc, next, s)?;
+    Ok(())
 }
 
-// A reduction assignment behind the loops of its values' reductions.
-fn reduce_out(
-    alloc: Global,
-    next: &mut u32,
-    key: Key,
-    total: TotalKey,
-    reduce: Reduce,
-    targets: Vec<Target>,
-    values: Vec<Expr>,
-) -> Result<Stmt, AllocError>
-    ensures out { IfOk result (λ r. stmt_of r ≡ Hoisting.body_out next.old (Program.Combine key total reduce targets.items (map expr_of values.items))) }
-    ensures next { OnOk result (next.new ≡ next.old + Hoisting.count_all (map expr_of values.items)) }
-{
-    let mut before = Vec::new(alloc);
-    let values = values_out(alloc, next, key, values, &mut before)?;
-    behind(
-        before,
-        Stmt::Reduce {
-            key,
-            total,
-            reduce,
-            targets,
-            values,
-        },
-    )
-}
-
-// An outer body with its reductions as loops onto the next locals.
-pub(crate) fn body_out(alloc: Global, next: &mut u32, s: Stmt) -> Result<Stmt, AllocError>
-    ensures out { IfOk result (λ r. stmt_of r ≡ Hoisting.body_out next.old (stmt_of s)) }
-    ensures next { OnOk result (next.new ≡ next.old + count_body (stmt_of s)) }
+// The same of an outer body.
+#[cycle(opening)]
+fn body_out(alloc: Global, next: &mut u32, s: &mut Stmt) -> Result<(), AllocError>
+    ensures out { OnOk result (stmt_of s.new ≡ body_out next.old (stmt_of s.old)) }
+    ensures next { OnOk result (next.new ≡ next.old + count_body (stmt_of s.old)) }
 {
     match s {
-        Stmt::Block(stmts) => {
-            let mut out = Vec::new(alloc);
-            for stmt in stmts {
-                let changed = body_out(alloc, next, stmt)?;
-                out.push(changed)?;
-            }
-            Ok(Stmt::Block(out))
-        }
+        Stmt::Block(stmts) => body_block(alloc, next, stmts),
         Stmt::Declare {
             key,
             variable,
             value,
-        } => declared_out(alloc, next, key, variable, value),
-        Stmt::Assign { key, target, value } => assign_out(alloc, next, key, target, value),
-        Stmt::Defer { key, target, value } => defer_out(alloc, next, key, target, value),
+        } => {
+            let before = declared_before(alloc, next, *key, *variable, value)?;
+            put_behind(alloc, before, s)?;
+            Ok(())
+        }
+        Stmt::Assign {
+            key,
+            target: _target,
+            value,
+        } => {
+            let before = folds_before(alloc, next, *key, value)?;
+            put_behind(alloc, before, s)?;
+            Ok(())
+        }
+        Stmt::Defer {
+            key,
+            target: _target,
+            value,
+        } => {
+            let before = folds_before(alloc, next, *key, value)?;
+            put_behind(alloc, before, s)?;
+            Ok(())
+        }
         Stmt::Reduce {
             key,
-            total,
-            reduce,
-            targets,
+            total: _total,
+            reduce: _reduce,
+            targets: _targets,
             values,
-        } => reduce_out(alloc, next, key, total, reduce, targets, values),
-        Stmt::If { key, test, yes, no } => {
-            let mut before = Vec::new(alloc);
-            let test = folds_out(alloc, next, key, test, &mut before)?;
-            let changed = body_out(alloc, next, Box::into_inner(yes))?;
-            let yes = Box::new(alloc, changed)?;
-            let changed = body_out(alloc, next, Box::into_inner(no))?;
-            let no = Box::new(alloc, changed)?;
-            behind(before, Stmt::If { key, test, yes, no })
+        } => {
+            let before = values_before(alloc, next, *key, values)?;
+            put_behind(alloc, before, s)?;
+            Ok(())
         }
-        other => Ok(other),
+        Stmt::If { key, test, yes, no } => {
+            let before = folds_before(alloc, next, *key, test)?;
+            let Ok(()) = body_inner(alloc, next, yes) else {
+                drop(before);
+                return Err(AllocError);
+            };
+            let Ok(()) = body_inner(alloc, next, no) else {
+                drop(before);
+                return Err(AllocError);
+            };
+            put_behind(alloc, before, s)?;
+            Ok(())
+        }
+        _ => Ok(()),
     }
 }

@@ -1,47 +1,51 @@
-use Rattle.std.proofs.Common.{◌≡◌, ◌+◌, ◌++◌, [], ◌∷◌, length, rules, arith, sym, ap, ◌∙◌, map, append-nil}
-use Rattle.std.proofs.lemmas.List.{append_assoc, map-append}
-use Rattle.std.specs.Vec.Iter.{into_iter_items, into_iter_len}
+use Rattle.std.proofs.Common.{◌≡◌, ◌+◌, ◌++◌, ◌<◌, ◌≤◌, refl, ap, sym, ◌∙◌, length, map, arith, append-nil}
+use Rattle.std.specs.Prelude.{slice_index_or}
+use Rattle.std.proofs.lemmas.List.{append_assoc, length-map, length-set}
 use Rattle.gm_ast.specs.Tree.{expr_of, stmt_of}
-use Rattle.gm_hoisting.specs.Hoisting.{count_folds, count_all, folds_set, all_set, told_from, all_told}
-use Rattle.gm_desugar.proofs.Trees.{nothing_left}
-use Rattle.gm_hoisting.proofs.InTurn.{told_one_more, set_one_more, count_one_more}
+use Rattle.gm_hoisting.specs.Hoisting.{count_folds, folds_set, told_from}
+use Rattle.gm_hoisting.proofs.InTurn.{counts_before, set_before, partly-more, counts-more, set-more, partly-all, counts-all, set-all, told-each, folds-counted}
 use Rattle.gm_hoisting.proofs.expressions.values_out.Goals as goal
 
-pub loop-value-preserved : goal.loop-value-preserved
-loop-value-preserved c =
-    let at = c.loop-value in
-    let n = c.args.next.now in
-    let k = c.args.key in
-    let e = c.in-Some.value in
-    let done = map expr_of at.yielded in
-    let first : (at.yielded ++ (e ∷ [])) ++ into_iter_items c.next.new.self ≡ into_iter_items c.into_iter-value-iterator.result =
-    append_assoc at.yielded (e ∷ []) (into_iter_items c.next.new.self) ∙ ap (λ l. at.yielded ++ l) (sym c.in-Some.ensures.steps.0) ∙ at.invariant.0 in
-    let left : into_iter_len c.next.new.self ≡ length (into_iter_items c.next.new.self) = search rules in
-    let more : map expr_of (at.yielded ++ (e ∷ [])) ≡ done ++ (expr_of e ∷ []) = map-append expr_of at.yielded (e ∷ []) in
-    let pushed : map expr_of c.push.new.self.items ≡ map expr_of at.out.items ++ (told_from at.next (expr_of e) ∷ []) =
-    ap (map expr_of) c.in_ok-push.ensures.items ∙ map-append expr_of at.out.items (c.in_ok-told.told ∷ []) ∙ ap (λ x. map expr_of at.out.items ++ (x ∷ [])) c.in_ok-told.ensures.told in
-    let moved : c.folds_out.new.next ≡ at.next + count_folds (expr_of e) = c.in_ok-told.ensures.next in
-    let total : count_all (map expr_of (at.yielded ++ (e ∷ []))) ≡ count_all done + count_folds (expr_of e) = ap count_all more ∙ count_one_more done (expr_of e) in
-    let places : (n + count_all done) + count_folds (expr_of e) ≡ n + (count_all done + count_folds (expr_of e)) = omega arith in (
-      first,
-      pushed ∙ ap (λ m. map expr_of at.out.items ++ (told_from m (expr_of e) ∷ [])) at.invariant.3 ∙ ap (λ l. l ++ (told_from (n + count_all done) (expr_of e) ∷ [])) at.invariant.1
-          ∙ sym (told_one_more n done (expr_of e)) ∙ ap (all_told n) (sym more),
-      left,
-      moved ∙ ap (λ m. m + count_folds (expr_of e)) at.invariant.3 ∙ places ∙ ap (λ m. n + m) (sym total),
-      c.in_ok-told.ensures.before ∙ ap (λ m. map stmt_of at.before.items ++ folds_set m k (expr_of e)) at.invariant.3
-          ∙ ap (λ l. l ++ folds_set (n + count_all done) k (expr_of e)) at.invariant.4 ∙ append_assoc (map stmt_of c.args.before.now.items) (all_set n k done) (folds_set (n + count_all done) k (expr_of e))
-          ∙ ap (λ l. map stmt_of c.args.before.now.items ++ l) (sym (set_one_more n k done (expr_of e)) ∙ ap (all_set n k) (sym more)),
-    )
+pub loop-i-init : goal.loop-i-init
+loop-i-init c = (refl, refl, omega arith, sym (append-nil (map stmt_of c.args.before.now.items)))
 
-pub returns : goal.returns
-returns c =
-    let at = c.loop-value in
+pub loop-i-preserved : goal.loop-i-preserved
+loop-i-preserved c =
+    let at = c.loop-i in
     let n = c.args.next.now in
     let k = c.args.key in
-    let empty : into_iter_items at.value-iterator ≡ [] = nothing_left _ (sym at.invariant.2 ∙ c.in-None.ensures.steps.0) in
-    let all : at.yielded ≡ c.args.values.items = sym (append-nil at.yielded) ∙ rw empty at at.invariant.0 ∙ c.into_iter-value-iterator.ensures.into_iter_gives.0 in
-    record {
-      told = at.invariant.1 ∙ ap (λ xs. all_told n (map expr_of xs)) all;
-      before = at.invariant.4 ∙ ap (λ xs. map stmt_of c.args.before.now.items ++ all_set n k (map expr_of xs)) all;
-      next = at.invariant.3 ∙ ap (λ xs. n + count_all (map expr_of xs)) all;
-    }
+    let es = map expr_of c.args.values.now.items in
+    let first = map stmt_of c.args.before.now.items in
+    let d = c.index_mut.result.now in
+    let e = expr_of (slice_index_or at.values.items at.i d) in
+    let m = n + counts_before count_folds at.i es in
+    let here : at.i < length at.values.items = omega (arith, c.len-i-end.ensures) in
+    let changed : expr_of c.folds_out.new.e ≡ told_from m e = c.in_ok-folds_out.ensures.told ∙ ap (λ x. told_from at.next (expr_of x)) c.index_mut.ensures.value ∙ ap (λ i. told_from i e) at.invariant.2 in
+    let counted : c.folds_out.new.next ≡ at.next + count_folds e = c.in_ok-folds_out.ensures.next ∙ ap (λ x. at.next + count_folds (expr_of x)) c.index_mut.ensures.value in
+    let more : counts_before count_folds (at.i + 1) es ≡ counts_before count_folds at.i es + count_folds e = counts-more expr_of told_from count_folds es at.values.items at.i n d at.invariant.1 here in
+    let set : map stmt_of c.folds_out.new.before.items ≡ first ++ set_before k (at.i + 1) n es =
+    c.in_ok-folds_out.ensures.before ∙ ap (λ x. map stmt_of at.before.items ++ folds_set at.next k (expr_of x)) c.index_mut.ensures.value ∙ ap (λ i. map stmt_of at.before.items ++ folds_set i k e) at.invariant.2
+    ∙ ap (λ l. l ++ folds_set m k e) at.invariant.3 ∙ append_assoc first (set_before k at.i n es) (folds_set m k e)
+    ∙ ap (λ l. first ++ l) (sym (set-more expr_of k es at.values.items at.i n d at.invariant.1 here)) in
+    (length-set at.values.items at.i c.folds_out.new.e ∙ at.invariant.0, partly-more expr_of told_from count_folds es at.values.items at.i n d c.folds_out.new.e at.invariant.1 here changed, omega arith, set)
+
+pub returns-clause-told : goal.returns-clause-told
+returns-clause-told c =
+    let at = c.loop-i in
+    let es = map expr_of c.args.values.now.items in
+    let end : length es ≤ at.i = omega (arith, c.len-i-end.ensures, length-map c.args.values.now.items expr_of) in
+    at.invariant.1 ∙ partly-all told_from count_folds es at.i c.args.next.now end ∙ sym (told-each c.args.next.now es)
+
+pub returns-clause-before : goal.returns-clause-before
+returns-clause-before c =
+    let at = c.loop-i in
+    let es = map expr_of c.args.values.now.items in
+    let end : length es ≤ at.i = omega (arith, c.len-i-end.ensures, length-map c.args.values.now.items expr_of) in
+    at.invariant.3 ∙ ap (λ l. map stmt_of c.args.before.now.items ++ l) (set-all c.args.key es at.i c.args.next.now end)
+
+pub returns-clause-next : goal.returns-clause-next
+returns-clause-next c =
+    let at = c.loop-i in
+    let es = map expr_of c.args.values.now.items in
+    let end : length es ≤ at.i = omega (arith, c.len-i-end.ensures, length-map c.args.values.now.items expr_of) in
+    at.invariant.2 ∙ ap (λ m. c.args.next.now + m) (counts-all count_folds es at.i end ∙ sym (folds-counted es))
