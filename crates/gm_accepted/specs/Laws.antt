@@ -5,6 +5,8 @@ use Rattle.gm_canon.specs.Verdict.{StandsFor}
 use Rattle.gm_depth.specs.Depths.{is_shallow}
 use Rattle.gm_forms.specs.Ready.{Ready0}
 use Rattle.gm_typed_stores.specs.Laws.{IsWellTyped}
+use Rattle.gm_hoisting.specs.Stages.{CanBeHoisted}
+use Rattle.gm_desugaring.specs.Desugaring.{CanBecomeLoops}
 
 -- the program that a text stands for is ready for the passes
 abbrev pub AcceptedIsReady : Type 0
@@ -21,3 +23,11 @@ pub record IsTypedThroughout (p : Program) : Type 0 where
 -- so it is in its runs
 abbrev pub AcceptedIsWellTyped : Type 0
 AcceptedIsWellTyped = (text : List ℕ) (p : Program) → StandsFor text p → IsTypedThroughout p
+
+-- its reductions in parallel loops and searches can become inner loops
+abbrev pub AcceptedCanBeHoisted : Type 0
+AcceptedCanBeHoisted = (text : List ℕ) (p : Program) → StandsFor text p → CanBeHoisted p
+
+-- and the passes can write it with plain loops
+abbrev pub AcceptedCanBecomeLoops : Type 0
+AcceptedCanBecomeLoops = (text : List ℕ) (p : Program) → StandsFor text p → CanBecomeLoops p

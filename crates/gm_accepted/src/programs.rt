@@ -5,6 +5,7 @@ ghost use Rattle.gm_accepted.specs.Laws.{IsTypedThroughout};
 ghost use Rattle.gm_ast.specs.Tree.{program_of};
 ghost use Rattle.gm_canon.specs.Verdict.{IsVerdictOf, StandsFor};
 ghost use Rattle.gm_depth.specs.Depths.{is_shallow};
+ghost use Rattle.gm_desugaring.specs.Desugaring.{CanBecomeLoops};
 ghost use Rattle.gm_forms.specs.Ready.{Ready0};
 
 use crate::laws::accepted_programs_are_ready;
@@ -28,6 +29,9 @@ pub fn accepted_program(alloc: Global, text: &[u8]) -> Result<Work, Stop>
 
     // Values keep their types in its runs, on every graph and all arguments that fit.
     ensures well_typed { IfOk result (λ work. IsTypedThroughout (program_of work)) }
+
+    // The passes of the compiler can write it with plain loops.
+    ensures loops { IfOk result (λ work. CanBecomeLoops (program_of work)) }
 
     ensures refused { IfErr result (IsVerdictOf text.now) }
 {

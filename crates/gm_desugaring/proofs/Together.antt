@@ -24,17 +24,20 @@ use Rattle.gm_desugar.proofs.LiteralsLaws as Literals
 use Rattle.gm_desugar.proofs.ConditionsOut as Conditions
 use Rattle.gm_desugar.proofs.ReadsOut as Reads
 use Rattle.gm_reductions.specs.Stages.{all_below, WithTypedRuns, WithLoopsAlone}
-use Rattle.gm_reductions.specs.Accesses.{without_accesses}
+use Rattle.gm_reductions.specs.Accesses.{added_at, without_accesses}
 use Rattle.gm_reductions.proofs.AccessesOut as Accesses
 use Rattle.gm_reductions.proofs.FoldsOut as Folds
 use Rattle.gm_reductions.specs.Phases.{is_desugared_outside}
-use Rattle.gm_reductions.proofs.PhasesLaws.{outside}
 use Rattle.gm_reductions.proofs.Telling.{tells_in-longer}
-use Rattle.gm_desugaring.specs.Desugaring.{CanBeDesugared, with_reads_alone, with_loops_alone, PicksNothing}
+use Rattle.gm_picks.specs.Laws.{WithPlainPicks}
+use Rattle.gm_picks.proofs.PicksLaws.{same-with_plain_picks}
+use Rattle.gm_picks.proofs.PicksOut.{picks-kept}
+use Rattle.gm_picks.proofs.ReadsTell.{behind-inputs}
+use Rattle.gm_desugaring.specs.Desugaring.{CanBeDesugared, with_reads_alone, with_picks_alone, with_loops_alone}
 use Rattle.gm_desugaring.specs.Laws.{KeepsTypedRuns, PassesKeepTypedRuns}
-use Rattle.gm_desugaring.proofs.PicksNone.{literals-pick, conditions-pick, reads-pick}
+use Rattle.gm_desugaring.proofs.PlainPicks.{accesses-plain, folds-plain, outside}
 use Rattle.gm_desugaring.proofs.RisingKept.{groups-rise, compounds-rise, literals-rise, conditions-rise, apart-rises}
-use Rattle.gm_desugaring.proofs.TellsKept.{groups-tell, compounds-tell, each-tell, literal-tells, conditions-tell, behind-inputs, apart-tell}
+use Rattle.gm_desugaring.proofs.TellsKept.{groups-tell, compounds-tell, each-tell, literal-tells, conditions-tell, apart-tell}
 
 -- ---- each pass
 
@@ -123,23 +126,29 @@ module _ (p : Program) (can : CanBeDesugared p) where
       (same-trans p3 p4 (with_reads_alone p) (Conditions.same-with_conditions p3 l.without_compounds.without_groups.ready.sane.named)
       (Reads.same-with_reads_apart p4 o.with_literals.without_compounds.without_groups.ready.sane.named))))
 
+  pub with-picks : WithPlainPicks (with_picks_alone p)
+  with-picks = picks-kept (with_reads_alone p) with-reads
+
+  same-picks : SameMeaning p (with_picks_alone p)
+  same-picks =
+      let q = with_reads_alone p in
+      let c = with-reads.with_rising_keys.with_reads_apart.with_conditions.with_literals.without_compounds in
+      same-trans p q (with_picks_alone p) same-reads (same-with_plain_picks q c.without_groups.ready.sane.named c.no_compounds)
+
   pub loops-alone : WithLoopsAlone (with_loops_alone p)
-  loops-alone = Folds.alone (without_accesses (with_reads_alone p)) (Accesses.kept (with_reads_alone p) with-reads)
+  loops-alone = let q = with_picks_alone p in Folds.alone (without_accesses q) (Accesses.kept q with-picks.with_typed_runs)
 
   pub same-loops : SameMeaning p (with_loops_alone p)
   same-loops =
-      let q = with_reads_alone p in
-      let a = Accesses.kept q with-reads in
+      let q = with_picks_alone p in
+      let a = Accesses.kept q with-picks.with_typed_runs in
       let k = a.with_typed_runs.with_rising_keys in
-      same-trans p q (with_loops_alone p) same-reads
-      (same-trans q (without_accesses q) (with_loops_alone p) (Accesses.same-without_accesses q with-reads)
+      same-trans p q (with_loops_alone p) same-picks
+      (same-trans q (without_accesses q) (with_loops_alone p) (Accesses.same-without_accesses q with-picks.with_typed_runs)
       (Folds.same-without_folds (without_accesses q) k.with_reads_apart.with_conditions.with_literals.without_compounds.without_groups.ready.form k.with_reads_apart.apart k.rising))
 
-  -- a program that picks nothing is desugared but for its parallel loops and searches
-  pub outside-alone : PicksNothing p → is_desugared_outside (with_loops_alone p) ≡ true
-  outside-alone none =
-      let q = with_reads_alone p in
-      let settled = literals-pick p2.body none in
-      let asked = conditions-pick (length p3.declarations) p3.body settled in
-      let apart = reads-pick p4.body (length p4.declarations) asked in
-      outside (with_loops_alone p) loops-alone (Folds.no-picks (without_accesses q) (Accesses.no-picks q apart))
+  -- it is desugared but for its parallel loops and searches
+  pub outside-alone : is_desugared_outside (with_loops_alone p) ≡ true
+  outside-alone =
+      let q = with_picks_alone p in
+      outside (with_loops_alone p) loops-alone (folds-plain (without_accesses q).body (accesses-plain q.declarations (added_at (length q.declarations)) [] q.body with-picks.plain))

@@ -1,3 +1,2 @@
-pub mod Picks
 pub mod Desugaring
 pub mod Laws

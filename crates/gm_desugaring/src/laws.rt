@@ -1,6 +1,6 @@
 //! What the passes keep for those that follow, as contracts of calls that do nothing.
 
-ghost use Rattle.gm_desugaring.specs.Laws.{PassesKeepTypedRuns, PicksMeanTheSame, PicksStayReady, TypedRises};
+ghost use Rattle.gm_desugaring.specs.Laws.{PassesKeepTotals, PassesKeepTypedRuns, TypedRises};
 
 /// The passes up to the one that sets reads apart keep what the later ones ask for besides a form: the keys of each
 /// reduction of the sequential phase rise, and the program tells values alone.
@@ -8,17 +8,17 @@ pub fn passes_keep_typed_runs()
     ensures { PassesKeepTypedRuns }
 {}
 
+/// The passes before the one that makes inner loops of reductions keep what it asks for: that the total of each
+/// reduction stands in order, as one that may fault, in the parallel loops and in what becomes one, which are group
+/// assignments and reductions of the sequential phase. Those before the pass of literals keep it of the program in which
+/// each minus before a literal is a constant.
+pub fn passes_keep_totals()
+    ensures { PassesKeepTotals }
+{}
+
 /// In a program whose types break no rule the keys of each reduction of the sequential phase rise: the filter is
 /// numbered before the braces, these before their total, and what stands in the reductions of a filter or of braces
 /// comes before what is theirs.
 pub fn typed_programs_rise()
     ensures { TypedRises }
-{}
-
-/// With its picks onto scalars a program means the same, for every graph, all arguments and every bound, where its
-/// variables stand in the table as they are used and nothing else is reduced at once. If it was ready for the loops of
-/// its accesses, it still is, and each pick is onto scalars, of what scalars and counts tell.
-pub fn picks_are_onto_scalars()
-    ensures same { PicksMeanTheSame }
-    ensures ready { PicksStayReady }
 {}

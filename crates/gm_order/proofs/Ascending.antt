@@ -15,7 +15,8 @@ use Rattle.gm_token.specs.Spellings.{IsNumber, IsToken}
 use Rattle.gm_token.specs.Scanning.{Scans}
 use Rattle.gm_token.specs.Tokens.{Token}
 use Rattle.gm_forms.proofs.Named.{both-true}
-use Rattle.gm_order.specs.Places.{is_before, ascend}
+use Rattle.gm_order.specs.Places.{is_before, ascend, right_behind}
+use Rattle.gm_order.proofs.PlaceOrder.{self-behind, later-behind, behind-before}
 use Rattle.gm_order.proofs.Picks.{Picks}
 
 abbrev places_of_tokens : List Token → List Place
@@ -27,6 +28,13 @@ picks-before : {ps : List Place} {us vs : List Token} → Picks ps us vs → (p 
 picks-before Picks.done p h = refl
 picks-before (Picks.skip {t} {us} k) p h = picks-before k p (both-true (place_lt p t.place) (is_before p (places_of_tokens us)) h).1
 picks-before (Picks.pick {t} {us} k) p h = let s = both-true (place_lt p t.place) (is_before p (places_of_tokens us)) h in both_true s.0 (picks-before k p s.1)
+picks-before (Picks.both {t} {u} {us} k) p h =
+    let s = both-true (place_lt p t.place) (is_before p (u.place ∷ places_of_tokens us)) h in
+    both_true s.0 (both_true (later-behind p t.place s.0) (picks-before k p (both-true (place_lt p u.place) (is_before p (places_of_tokens us)) s.1).1))
+
+before-all : (p u : Place) (qs : List Place) → place_lt p u ≡ true → is_before u qs ≡ true → is_before (right_behind p) qs ≡ true
+before-all p u [] lt h = refl
+before-all p u (q ∷ qs) lt h = let s = both-true (place_lt u q) (is_before u qs) h in both_true (behind-before p u q lt s.0) (before-all p u qs lt s.1)
 
 pub picks-ascend : {ps : List Place} {us vs : List Token} → Picks ps us vs → ascend (places_of_tokens us) ≡ true → ascend ps ≡ true
 picks-ascend Picks.done h = refl
@@ -34,6 +42,11 @@ picks-ascend (Picks.skip {t} {us} k) h = picks-ascend k (both-true (is_before t.
 picks-ascend (Picks.pick {t} {us} k) h =
     let s = both-true (is_before t.place (places_of_tokens us)) (ascend (places_of_tokens us)) h in
     both_true (picks-before k t.place s.0) (picks-ascend k s.1)
+picks-ascend (Picks.both {t} {u} {us} k) h =
+    let s = both-true (is_before t.place (u.place ∷ places_of_tokens us)) (ascend (u.place ∷ places_of_tokens us)) h in
+    let a = both-true (place_lt t.place u.place) (is_before t.place (places_of_tokens us)) s.0 in
+    let b = both-true (is_before u.place (places_of_tokens us)) (ascend (places_of_tokens us)) s.1 in
+    both_true (both_true (self-behind t.place) (picks-before k t.place a.1)) (both_true (picks-before k (right_behind t.place) (before-all t.place u.place (places_of_tokens us) a.0 b.0)) (picks-ascend k b.1))
 
 -- ---- places of a text
 

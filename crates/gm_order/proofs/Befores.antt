@@ -1,8 +1,8 @@
 -- Lists of faults that lie before others.
-use Rattle.std.proofs.Common.{◌≡◌, ◌<◌, ℕ, true, List, [], ◌∷◌, ◌++◌, ◌⊎◌, inl, inr, refl, sym, ap, subst}
-use Rattle.std.specs.Prelude.{nat_lt}
+use Rattle.std.proofs.Common.{◌≡◌, ◌<◌, ℕ, Bool, true, false, List, [], ◌∷◌, ◌++◌, ◌⊎◌, inl, inr, refl, sym, ap, subst, ◌∙◌, arith}
+use Rattle.std.specs.Prelude.{nat_lt, nat_eq, ◌&&◌, ◌||◌}
 use Rattle.std.specs.Cmp.Derive.{both_true}
-use Rattle.std.proofs.lemmas.Bool.{lt-ltb, eq-eqb, or_left, or_right}
+use Rattle.std.proofs.lemmas.Bool.{lt-ltb, ltb-true, eq-eqb, or_left, or_right}
 use Rattle.gm_base.specs.declared.places.Place.{Place}
 use Rattle.gm_base.specs.Places.{place_lt}
 use Rattle.gm_ast.specs.declared.tree.Key.{Key}
@@ -24,6 +24,10 @@ each-append P (x ∷ xs) ys h k = (h.0, each-append P xs ys h.1 k)
 pub each-map : (P Q : Fault → Type 0) (xs : List Fault) → ((f : Fault) → P f → Q f) → Each P xs → Each Q xs
 each-map P Q [] step h = tt
 each-map P Q (x ∷ xs) step h = (step x h.0, each-map P Q xs step h.1)
+
+pub each-and : (P Q : Fault → Type 0) (xs : List Fault) → Each P xs → Each Q xs → Each (λ f. P f × Q f) xs
+each-and P Q [] h k = tt
+each-and P Q (x ∷ xs) h k = ((h.0, k.0), each-and P Q xs h.1 k.1)
 
 pub before-one : (P : Fault → Type 0) (xs : List Fault) (b : Fault) → Each P xs → ((a : Fault) → P a → fault_lt a b ≡ true) → all_before xs b ≡ true
 before-one P [] b h step = refl
@@ -117,13 +121,39 @@ ascend-across (r ∷ ps) qs h p q (inl e) b =
     subst (λ t. place_lt t q ≡ true) e (before-among r qs q (before-right r ps qs s.0) b)
 ascend-across (r ∷ ps) qs h p q (inr a) b = ascend-across ps qs (ascend-tail r (ps ++ qs) h) p q a b
 
+-- a place among some, or between them: what stands before all of them stands before it, and what stands behind all of them behind it
+abbrev pub Inside : List Place → Place → Type 0
+Inside ps p = ((q : Place) → ((r : Place) → Among ps r → place_lt q r ≡ true) → place_lt q p ≡ true) × ((q : Place) → ((r : Place) → Among ps r → place_lt r q ≡ true) → place_lt p q ≡ true)
+
+pub inside-of : (ps : List Place) (p : Place) → Among ps p → Inside ps p
+inside-of ps p a = (λ q h. h p a, λ q h. h p a)
+
+pub inside-wide : (ps qs : List Place) → ((p : Place) → Among ps p → Among qs p) → (p : Place) → Inside ps p → Inside qs p
+inside-wide ps qs w p i = (λ q h. i.0 q (λ r a. h r (w r a)), λ q h. i.1 q (λ r a. h r (w r a)))
+
+pub inside-across : (ps qs : List Place) → ascend (ps ++ qs) ≡ true → (p q : Place) → Inside ps p → Inside qs q → place_lt p q ≡ true
+inside-across ps qs up p q i j = j.0 p (λ r b. i.1 r (λ s a. ascend-across ps qs up s r a b))
+
+-- some place, and one that stands behind another
+abbrev pub HasPlace : List Place → Type 0
+HasPlace ps = (r : Place) × Among ps r
+
+abbrev pub Followed : List Place → Place → Type 0
+Followed ps p = (r : Place) × (Among ps r × (place_lt p r ≡ true))
+
+pub followed-wide : (ps qs : List Place) → ((p : Place) → Among ps p → Among qs p) → (p : Place) → Followed ps p → Followed qs p
+followed-wide ps qs w p f = (f.0, (w f.0 f.1.0, f.1.1))
+
+pub follows : (at : Place) (ps : List Place) → ascend (at ∷ ps) ≡ true → HasPlace ps → Followed (at ∷ ps) at
+follows at ps up h = (h.0, (inr h.1, ascend-across (at ∷ []) ps up at h.0 (inl refl) h.1))
+
 -- ---- faults under a key, at some places
 
 abbrev pub At : Key → List Place → Fault → Type 0
-At k ps f = (f.key ≡ k) × Among ps f.place
+At k ps f = (f.key ≡ k) × Inside ps f.place
 
 pub wider : (k : Key) (ps qs : List Place) (xs : List Fault) → ((p : Place) → Among ps p → Among qs p) → Each (At k ps) xs → Each (At k qs) xs
-wider k ps qs xs w h = each-map (At k ps) (At k qs) xs (λ f a. (a.0, w f.place a.1)) h
+wider k ps qs xs w h = each-map (At k ps) (At k qs) xs (λ f a. (a.0, inside-wide ps qs w f.place a.1)) h
 
 at-keys : (j k : Key) (a b : Fault) → KeyBefore j k → a.key ≡ j → b.key ≡ k → fault_lt a b ≡ true
 at-keys j k a b lt e g = subst (λ i. fault_lt (record { key = i; place = a.place }) b ≡ true) (sym e) (subst (λ i. fault_lt (record { key = j; place = a.place }) (record { key = i; place = b.place }) ≡ true) (sym g) (lt a.place b.place))
@@ -135,12 +165,38 @@ lie-keys j k ps qs xs ys lt h g = lie (At j ps) (At k qs) xs ys h g (λ a b x y.
 pub one-keys : (j k : Key) (ps : List Place) (xs : List Fault) (b : Fault) → KeyBefore j k → Each (At j ps) xs → b.key ≡ k → all_before xs b ≡ true
 one-keys j k ps xs b lt h e = before-one (At j ps) xs b h (λ a x. at-keys j k a b lt x.0 e)
 
-at-places : (k : Key) (a b : Fault) → a.key ≡ k → b.key ≡ k → place_lt a.place b.place ≡ true → fault_lt a b ≡ true
+pub at-places : (k : Key) (a b : Fault) → a.key ≡ k → b.key ≡ k → place_lt a.place b.place ≡ true → fault_lt a b ≡ true
 at-places k a b e g lt = subst (λ i. fault_lt (record { key = i; place = a.place }) b ≡ true) (sym e) (subst (λ i. fault_lt (record { key = k; place = a.place }) (record { key = i; place = b.place }) ≡ true) (sym g) (place-before k a.place b.place lt))
 
 -- by their places
-pub lie-places : (k : Key) (ps qs : List Place) (xs ys : List Fault) → ((p q : Place) → Among ps p → Among qs q → place_lt p q ≡ true) → Each (At k ps) xs → Each (At k qs) ys → lie_before xs ys ≡ true
+pub lie-places : (k : Key) (ps qs : List Place) (xs ys : List Fault) → ((p q : Place) → Inside ps p → Inside qs q → place_lt p q ≡ true) → Each (At k ps) xs → Each (At k qs) ys → lie_before xs ys ≡ true
 lie-places k ps qs xs ys lt h g = lie (At k ps) (At k qs) xs ys h g (λ a b x y. at-places k a b x.0 y.0 (lt a.place b.place x.1 y.1))
 
-pub one-places : (k : Key) (ps : List Place) (xs : List Fault) (b : Fault) → ((p : Place) → Among ps p → place_lt p b.place ≡ true) → Each (At k ps) xs → b.key ≡ k → all_before xs b ≡ true
+pub one-places : (k : Key) (ps : List Place) (xs : List Fault) (b : Fault) → ((p : Place) → Inside ps p → place_lt p b.place ≡ true) → Each (At k ps) xs → b.key ≡ k → all_before xs b ≡ true
 one-places k ps xs b lt h e = before-one (At k ps) xs b h (λ a x. at-places k a b x.0 e (lt a.place x.1))
+
+-- of one key the place decides
+lt-self : (n : ℕ) → nat_lt n n ≡ false
+lt-self n = by (nat_lt n n) refl
+  where
+    by : (b : Bool) → nat_lt n n ≡ b → b ≡ false
+    by true e = absurd (let l : n < n = ltb-true n n e in omega (arith, l))
+    by false e = refl
+
+same-keys : (k : Key) (p q : Place) → fault_lt (record { key = k; place = p }) (record { key = k; place = q }) ≡ place_lt p q
+same-keys k p q =
+    let n = k.statement in
+    let r = stage_rank k.stage in
+    let last = nat_eq r r && place_lt p q in
+    ap (λ b. b || (nat_eq n n && (nat_lt r r || last))) (lt-self n) ∙ (ap (λ b. b && (nat_lt r r || last)) (eq-eqb n n refl) ∙ (ap (λ b. b || last) (lt-self r) ∙ ap (λ b. b && place_lt p q) (eq-eqb r r refl)))
+
+by-places : (k : Key) (a b : Fault) → a.key ≡ k → b.key ≡ k → fault_lt a b ≡ place_lt a.place b.place
+by-places k a b e g =
+    ap (λ i. fault_lt (record { key = i; place = a.place }) b) e
+    ∙ (ap (λ i. fault_lt (record { key = k; place = a.place }) (record { key = i; place = b.place })) g ∙ same-keys k a.place b.place)
+
+pub places-of : (k : Key) (a b : Fault) → a.key ≡ k → b.key ≡ k → fault_lt a b ≡ true → place_lt a.place b.place ≡ true
+places-of k a b e g h = sym (by-places k a b e g) ∙ h
+
+pub not-places : (k : Key) (a b : Fault) → a.key ≡ k → b.key ≡ k → fault_lt a b ≡ false → place_lt a.place b.place ≡ false
+not-places k a b e g h = sym (by-places k a b e g) ∙ h

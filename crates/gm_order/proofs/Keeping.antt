@@ -1,6 +1,7 @@
 -- What typing keeps of expressions, where their parts have it.
-use Rattle.std.proofs.Common.{◌≡◌, ℕ, Bool, true, false, List, [], ◌∷◌, ◌++◌, inl, inr, refl, Option, Some, None, Ok, Err}
+use Rattle.std.proofs.Common.{◌≡◌, ℕ, Bool, true, false, List, [], ◌∷◌, ◌++◌, inl, inr, refl, sym, ◌∙◌, Option, Some, None, Ok, Err}
 use Rattle.std.specs.Prelude.{◌&&◌, ◌||◌, if◌then◌else◌}
+use Rattle.std.proofs.lemmas.Bool.{false≢true}
 use Rattle.gm_base.specs.declared.places.Place.{Place}
 use Rattle.gm_base.specs.declared.rules.Rule.{Rule}
 use Rattle.gm_base.specs.declared.rules.Rule.TheVariants.{T7, T8, T10}
@@ -8,9 +9,9 @@ use Rattle.gm_value.specs.declared.values.VType.{VType}
 use Rattle.gm_value.specs.declared.values.VType.TheVariants.{I32, I64, Flag, Node}
 use Rattle.gm_value.specs.declared.operations.Op1.{Op1}
 use Rattle.gm_value.specs.declared.operations.Op2.{Op2}
+use Rattle.gm_value.specs.declared.operations.Op2.TheVariants as Ops
 use Rattle.gm_value.specs.declared.values.Value.{Value}
 use Rattle.gm_ast.specs.declared.tree.Direction.{Direction}
-use Rattle.gm_ast.specs.declared.tree.Key.{Key}
 use Rattle.gm_ast.specs.declared.tree.Sort.{Sort}
 use Rattle.gm_ast.specs.declared.tree.Sort.TheVariants as Sorts
 use Rattle.gm_ast.specs.declared.kinds.Binding.{Binding}
@@ -28,12 +29,127 @@ use Rattle.gm_ast.specs.Program as P
 use Rattle.gm_ast.specs.Program.{Expr}
 use Rattle.gm_ast.specs.Judged.{Judged, Answer, judge, ok_of, refused, refused_unless, then_answer}
 use Rattle.gm_ast.specs.Names.{Env, is, used, both, later}
-use Rattle.gm_ast.specs.Kinds.{Part, part_of, narrowed, as_int, as_long, int_of, taken, joint, settled, settled_as, is_empty, is_number, is_flag, accepts, fitted}
+use Rattle.gm_ast.specs.Kinds.{Part, part_of, narrowed, as_int, as_long, int_of, taken, flexible_beside, joint_type, joint, is_number_type, settled, settled_as, is_empty, is_number, is_flag, accepts, fitted}
 use Rattle.gm_ast.specs.Typing.{typed, condition, start_of, named_as, named_part, member_part, method_part, query_of, stands_for_node, cast_part, prefix_part, paired, paired_after, large_of, compares_any, is_arithmetic, is_value, compared_as, operation, operation_by, infix_part, choice_by, choice_part}
 use Rattle.gm_ready.proofs.Judging.{IfPart, if-by, if-both, if-good, if-then, if-else}
 use Rattle.gm_order.proofs.Parts.{anything}
-use Rattle.gm_order.specs.Places.{ascend, closing, places_in}
-use Rattle.gm_order.proofs.Befores.{Among, ascend-tail, ascend-left, ascend-right}
+use Rattle.gm_forms.specs.Order.{can_fail1, can_fail2}
+use Rattle.gm_order.specs.Places.{ascend, is_absent, closing, right_behind, places_in}
+use Rattle.gm_order.proofs.Befores.{Among, among-right, HasPlace, Followed, follows, ascend-tail, ascend-left, ascend-right}
+
+-- ---- where numbers stand
+
+pub if-and : {A : Type 0} (P Q : A → Type 0) (o : Option A) → IfPart P o → IfPart Q o → IfPart (λ a. P a × Q a) o
+if-and P Q None h k = tt
+if-and P Q (Some a) h k = (h, k)
+
+if-map : {A : Type 0} (P Q : A → Type 0) (o : Option A) → ((a : A) → P a → Q a) → IfPart P o → IfPart Q o
+if-map P Q None f h = tt
+if-map P Q (Some a) f h = f a h
+
+-- a number beside another kind, as one of both
+flexible-number : (k : Kind) → IfPart (λ m. is_number m ≡ true → is_number k ≡ true) (flexible_beside k)
+flexible-number k = by (is_number k) refl
+  where
+    by : (b : Bool) → is_number k ≡ b → IfPart (λ m. is_number m ≡ true → is_number k ≡ true) (if b then Some k else None)
+    by true e = λ _. e
+    by false e = tt
+
+number-flexible : (k : Kind) → IfPart (λ m. is_number m ≡ true → is_number Kinds.Flexible ≡ true) (flexible_beside k)
+number-flexible k = by (is_number k)
+  where
+    by : (b : Bool) → IfPart (λ m. is_number m ≡ true → is_number Kinds.Flexible ≡ true) (if b then Some k else None)
+    by true = λ _. refl
+    by false = tt
+
+types-number : (t u : VType) → IfPart (λ m. is_number m ≡ true → is_number_type u ≡ true) (joint_type t u)
+types-number I32 I32 = λ h. refl
+types-number I32 I64 = λ h. refl
+types-number I32 Flag = tt
+types-number I32 Node = tt
+types-number I64 I32 = λ h. refl
+types-number I64 I64 = λ h. refl
+types-number I64 Flag = tt
+types-number I64 Node = tt
+types-number Flag I32 = tt
+types-number Flag I64 = tt
+types-number Flag Flag = λ h. h
+types-number Flag Node = tt
+types-number Node I32 = tt
+types-number Node I64 = tt
+types-number Node Flag = tt
+types-number Node Node = λ h. h
+
+joint-number : (j k : Kind) → IfPart (λ m. is_number m ≡ true → is_number k ≡ true) (joint j k)
+joint-number Kinds.Flexible k = flexible-number k
+joint-number (Kinds.Of t) Kinds.Flexible = number-flexible (Kinds.Of t)
+joint-number (Kinds.Of t) (Kinds.Of u) = types-number t u
+joint-number (Kinds.Of t) Kinds.Edge = tt
+joint-number Kinds.Edge Kinds.Flexible = tt
+joint-number Kinds.Edge (Kinds.Of u) = tt
+joint-number Kinds.Edge Kinds.Edge = λ h. h
+
+-- an operator that may fail is one of arithmetic
+fails-alike : (op : Op2) → can_fail2 op ≡ is_arithmetic op
+fails-alike Ops.Add = refl
+fails-alike Ops.Sub = refl
+fails-alike Ops.Mul = refl
+fails-alike Ops.Div = refl
+fails-alike Ops.Rem = refl
+fails-alike Ops.Eq = refl
+fails-alike Ops.Ne = refl
+fails-alike Ops.Lt = refl
+fails-alike Ops.Le = refl
+fails-alike Ops.Gt = refl
+fails-alike Ops.Ge = refl
+
+-- what is absent is no number, and all else has a place
+abbrev NumberHasPlace : SurfaceExpr → Part → Type 0
+NumberHasPlace e p = is_number p.kind ≡ true → HasPlace (places_in e)
+
+stands : (e : SurfaceExpr) (o : Option Part) → HasPlace (places_in e) → IfPart (NumberHasPlace e) o
+stands e None h = tt
+stands e (Some p) h = λ _. h
+
+number-place : (e : SurfaceExpr) (env : Env) → IfPart (NumberHasPlace e) (typed e env).part
+number-place Always env = λ h. absurd (false≢true h)
+number-place (Number at n) env = stands (Number at n) (typed (Number at n) env).part (at, inl refl)
+number-place (Truth at b) env = stands (Truth at b) (typed (Truth at b) env).part (at, inl refl)
+number-place (Nil at) env = stands (Nil at) (typed (Nil at) env).part (at, inl refl)
+number-place (Greatest at) env = stands (Greatest at) (typed (Greatest at) env).part (at, inl refl)
+number-place (Least at) env = stands (Least at) (typed (Least at) env).part (at, inl refl)
+number-place (Named x) env = stands (Named x) (typed (Named x) env).part (x.place, inl refl)
+number-place (Member x p) env = stands (Member x p) (typed (Member x p) env).part (x.place, inl refl)
+number-place (Method x m) env = stands (Method x m) (typed (Method x m) env).part (x.place, inl refl)
+number-place (Paren at e) env = stands (Paren at e) (typed (Paren at e) env).part (at, inl refl)
+number-place (Prefixed at op e) env = stands (Prefixed at op e) (typed (Prefixed at op e) env).part (at, inl refl)
+number-place (Infixed at op a b) env = stands (Infixed at op a b) (typed (Infixed at op a b) env).part (at, among-right (places_in a) (at ∷ places_in b) at (inl refl))
+number-place (Choose at c a b) env = stands (Choose at c a b) (typed (Choose at c a b) env).part (at, among-right (places_in c) (at ∷ (places_in a ++ places_in b)) at (inl refl))
+number-place (Reduction at word h filter body close) env = stands (Reduction at word h filter body close) (typed (Reduction at word h filter body close) env).part (at, inl refl)
+
+-- what is absent is True
+abbrev pub AbsentIsTrue : SurfaceExpr → Part → Type 0
+AbsentIsTrue e p = is_absent e ≡ true → p.core ≡ P.always
+
+present : (e : SurfaceExpr) (o : Option Part) → is_absent e ≡ false → IfPart (AbsentIsTrue e) o
+present e None h = tt
+present e (Some p) h = λ k. absurd (false≢true (sym h ∙ k))
+
+pub absent-core : (e : SurfaceExpr) (env : Env) → IfPart (AbsentIsTrue e) (typed e env).part
+absent-core Always env = λ _. refl
+absent-core (Number at n) env = present (Number at n) (typed (Number at n) env).part refl
+absent-core (Truth at b) env = present (Truth at b) (typed (Truth at b) env).part refl
+absent-core (Nil at) env = present (Nil at) (typed (Nil at) env).part refl
+absent-core (Greatest at) env = present (Greatest at) (typed (Greatest at) env).part refl
+absent-core (Least at) env = present (Least at) (typed (Least at) env).part refl
+absent-core (Named x) env = present (Named x) (typed (Named x) env).part refl
+absent-core (Member x p) env = present (Member x p) (typed (Member x p) env).part refl
+absent-core (Method x m) env = present (Method x m) (typed (Method x m) env).part refl
+absent-core (Paren at e) env = present (Paren at e) (typed (Paren at e) env).part refl
+absent-core (Prefixed at op e) env = present (Prefixed at op e) (typed (Prefixed at op e) env).part refl
+absent-core (Infixed at op a b) env = present (Infixed at op a b) (typed (Infixed at op a b) env).part refl
+absent-core (Choose at c a b) env = present (Choose at c a b) (typed (Choose at c a b) env).part refl
+absent-core (Reduction at word h filter body close) env = present (Reduction at word h filter body close) (typed (Reduction at word h filter body close) env).part refl
 
 -- a fact on expressions at some places that goes from parts to what is made of them
 pub record IsKept (Q : List Place → Expr → Type 0) : Type 0 where
@@ -44,10 +160,10 @@ pub record IsKept (Q : List Place → Expr → Type 0) : Type 0 where
   pub degree : (ps : List Place) (d : Direction) (x : ℕ) (at : Place) → Among ps at → Q ps (P.Degree d x at)
   pub nodes : (ps : List Place) → Q ps P.NodeCount
   pub edges : (ps : List Place) → Q ps P.EdgeCount
-  pub unary : (ps : List Place) (op : Op1) (at : Place) (e : Expr) → Among ps at → Q ps e → Q ps (P.Unary op at e)
+  pub unary : (ps : List Place) (op : Op1) (at : Place) (e : Expr) → Among ps at → (can_fail1 op ≡ true → Followed ps at) → Q ps e → Q ps (P.Unary op at e)
   pub long : (ps : List Place) (at : Place) (e : Expr) → Q ps e → Q ps (P.Unary Op1.ToI64 at e)
   pub wide : (ps qs : List Place) (e : Expr) → ((p : Place) → Among ps p → Among qs p) → Q ps e → Q qs e
-  pub binary : (ps qs : List Place) (op : Op2) (at : Place) (a b : Expr) → ascend (ps ++ (at ∷ qs)) ≡ true → Q ps a → Q qs b → Q (ps ++ (at ∷ qs)) (P.Binary op at a b)
+  pub binary : (ps qs : List Place) (op : Op2) (at : Place) (a b : Expr) → ascend (ps ++ (at ∷ qs)) ≡ true → (can_fail2 op ≡ true → HasPlace qs) → Q ps a → Q qs b → Q (ps ++ (at ∷ qs)) (P.Binary op at a b)
   pub both : (ps qs : List Place) (at : Place) (a b : Expr) → ascend (ps ++ (at ∷ qs)) ≡ true → Q ps a → Q qs b → Q (ps ++ (at ∷ qs)) (P.Both a b)
   pub either : (ps qs : List Place) (at : Place) (a b : Expr) → ascend (ps ++ (at ∷ qs)) ≡ true → Q ps a → Q qs b → Q (ps ++ (at ∷ qs)) (P.Either a b)
   pub choose : (ps qs rs : List Place) (at : Place) (c a b : Expr) → ascend (ps ++ (at ∷ (qs ++ rs))) ≡ true → Q ps c → Q qs a → Q rs b → Q (ps ++ (at ∷ (qs ++ rs))) (P.Choose c a b)
@@ -141,20 +257,20 @@ module _ (Q : List Place → Expr → Type 0) (kept : IsKept Q) where
 
   -- ---- operators
 
-  cast-kept : (ps : List Place) (t : VType) (at : Place) (p : Part) → Among ps at → KeptPart ps p → KeptPart ps (cast_part t at p)
-  cast-kept ps I32 at p here h = kept.unary ps Op1.ToI32 at p.core here h
-  cast-kept ps I64 at p here h = kept.unary ps Op1.ToI64 at p.core here h
-  cast-kept ps Flag at p here h = h
-  cast-kept ps Node at p here h = h
+  cast-kept : (ps : List Place) (t : VType) (at : Place) (p : Part) → Among ps at → Followed ps at → KeptPart ps p → KeptPart ps (cast_part t at p)
+  cast-kept ps I32 at p here f h = kept.unary ps Op1.ToI32 at p.core here (λ _. f) h
+  cast-kept ps I64 at p here f h = kept.unary ps Op1.ToI64 at p.core here (λ _. f) h
+  cast-kept ps Flag at p here f h = h
+  cast-kept ps Node at p here f h = h
 
-  prefix-kept : (ps : List Place) (at : Place) (op : Prefix) (p : Part) → Among ps at → KeptPart ps p → IfKeptPart ps (prefix_part at op p)
-  prefix-kept ps at Prefixes.Minus p here h = if-good (KeptPart ps) (is_number p.kind) T8 at _ (λ _. kept.unary ps Op1.Neg at p.core here h)
-  prefix-kept ps at Prefixes.Not p here h = if-good (KeptPart ps) (is_flag p.kind) T8 at _ (λ _. kept.unary ps Op1.Not at p.core here h)
-  prefix-kept ps at (Prefixes.Cast t) p here h = if-good (KeptPart ps) (is_number p.kind) T8 at _ (λ _. cast-kept ps t at (settled p) here (settled-kept ps p.kind p h))
+  prefix-kept : (ps : List Place) (at : Place) (op : Prefix) (p : Part) → Among ps at → (is_number p.kind ≡ true → Followed ps at) → KeptPart ps p → IfKeptPart ps (prefix_part at op p)
+  prefix-kept ps at Prefixes.Minus p here f h = if-good (KeptPart ps) (is_number p.kind) T8 at _ (λ g. kept.unary ps Op1.Neg at p.core here (λ _. f g) h)
+  prefix-kept ps at Prefixes.Not p here f h = if-good (KeptPart ps) (is_flag p.kind) T8 at _ (λ _. kept.unary ps Op1.Not at p.core here (λ c. absurd (false≢true c)) h)
+  prefix-kept ps at (Prefixes.Cast t) p here f h = if-good (KeptPart ps) (is_number p.kind) T8 at _ (λ g. cast-kept ps t at (settled p) here (f g) (settled-kept ps p.kind p h))
 
   module _ (ps qs : List Place) (at : Place) (up : ascend (ps ++ (at ∷ qs)) ≡ true) where
-    operation-kept : (op : Op2) (k : Kind) (a b : Part) → KeptPart ps a → KeptPart qs b → IfKeptPart (ps ++ (at ∷ qs)) (operation at op k a b)
-    operation-kept op k a b h g =
+    operation-kept : (op : Op2) (k : Kind) (a b : Part) → (is_number k ≡ true → HasPlace qs) → KeptPart ps a → KeptPart qs b → IfKeptPart (ps ++ (at ∷ qs)) (operation at op k a b)
+    operation-kept op k a b more h g =
         let all = ps ++ (at ∷ qs) in
         let large = large_of k (a.large ++ b.large) in
         let c = compared_as k large in
@@ -162,18 +278,20 @@ module _ (Q : List Place → Expr → Type 0) (kept : IsKept Q) where
         let compared = if is_number k || (compares_any op && is_value k) then then_answer (paired at c a b) (λ p. part_of (Kinds.Of Flag) (P.Binary op at p.0 p.1)) else refused T8 at in
         if-else (KeptPart all) (is_arithmetic op) number compared
         (λ _. if-else (KeptPart all) (is_number k) (then_answer (paired at k a b) (λ p. record { kind = k; core = P.Binary op at p.0 p.1; large = large })) (refused T8 at)
-        (λ _. if-then (KeptPair ps qs) (KeptPart all) (paired at k a b) (λ p. record { kind = k; core = P.Binary op at p.0 p.1; large = large }) (paired-kept ps qs at k a b h g) (λ p m. kept.binary ps qs op at p.0 p.1 up m.0 m.1)) (λ _. tt))
-        (λ _. if-else (KeptPart all) (is_number k || (compares_any op && is_value k)) (then_answer (paired at c a b) (λ p. part_of (Kinds.Of Flag) (P.Binary op at p.0 p.1))) (refused T8 at)
-        (λ _. if-then (KeptPair ps qs) (KeptPart all) (paired at c a b) (λ p. part_of (Kinds.Of Flag) (P.Binary op at p.0 p.1)) (paired-kept ps qs at c a b h g) (λ p m. kept.binary ps qs op at p.0 p.1 up m.0 m.1)) (λ _. tt))
+        (λ n. if-then (KeptPair ps qs) (KeptPart all) (paired at k a b) (λ p. record { kind = k; core = P.Binary op at p.0 p.1; large = large }) (paired-kept ps qs at k a b h g) (λ p m. kept.binary ps qs op at p.0 p.1 up (λ _. more n) m.0 m.1)) (λ _. tt))
+        (λ plain. if-else (KeptPart all) (is_number k || (compares_any op && is_value k)) (then_answer (paired at c a b) (λ p. part_of (Kinds.Of Flag) (P.Binary op at p.0 p.1))) (refused T8 at)
+        (λ _. if-then (KeptPair ps qs) (KeptPart all) (paired at c a b) (λ p. part_of (Kinds.Of Flag) (P.Binary op at p.0 p.1)) (paired-kept ps qs at c a b h g) (λ p m. kept.binary ps qs op at p.0 p.1 up (λ c. absurd (false≢true (sym plain ∙ sym (fails-alike op) ∙ c))) m.0 m.1)) (λ _. tt))
 
-    operation_by-kept : (op : Op2) (o : Option Kind) (a b : Part) → KeptPart ps a → KeptPart qs b → IfKeptPart (ps ++ (at ∷ qs)) (operation_by at op o a b)
-    operation_by-kept op None a b h g = tt
-    operation_by-kept op (Some k) a b h g = operation-kept op k a b h g
+    operation_by-kept : (op : Op2) (o : Option Kind) (a b : Part) → IfPart (λ k. is_number k ≡ true → HasPlace qs) o → KeptPart ps a → KeptPart qs b → IfKeptPart (ps ++ (at ∷ qs)) (operation_by at op o a b)
+    operation_by-kept op None a b more h g = tt
+    operation_by-kept op (Some k) a b more h g = operation-kept op k a b more h g
 
-    infix-kept : (op : Infix) (xs : Part × Part) → KeptPart ps xs.0 × KeptPart qs xs.1 → IfKeptPart (ps ++ (at ∷ qs)) (infix_part at op xs)
-    infix-kept (Infixes.Op op) xs h = operation_by-kept op (joint xs.0.kind xs.1.kind) xs.0 xs.1 h.0 h.1
-    infix-kept Infixes.And xs h = if-good (KeptPart (ps ++ (at ∷ qs))) (is_flag xs.0.kind && is_flag xs.1.kind) T8 at _ (λ _. kept.both ps qs at xs.0.core xs.1.core up h.0 h.1)
-    infix-kept Infixes.Or xs h = if-good (KeptPart (ps ++ (at ∷ qs))) (is_flag xs.0.kind && is_flag xs.1.kind) T8 at _ (λ _. kept.either ps qs at xs.0.core xs.1.core up h.0 h.1)
+    infix-kept : (op : Infix) (xs : Part × Part) → (is_number xs.1.kind ≡ true → HasPlace qs) → KeptPart ps xs.0 × KeptPart qs xs.1 → IfKeptPart (ps ++ (at ∷ qs)) (infix_part at op xs)
+    infix-kept (Infixes.Op op) xs more h =
+        operation_by-kept op (joint xs.0.kind xs.1.kind) xs.0 xs.1
+        (if-map (λ m. is_number m ≡ true → is_number xs.1.kind ≡ true) (λ m. is_number m ≡ true → HasPlace qs) (joint xs.0.kind xs.1.kind) (λ m f n. more (f n)) (joint-number xs.0.kind xs.1.kind)) h.0 h.1
+    infix-kept Infixes.And xs more h = if-good (KeptPart (ps ++ (at ∷ qs))) (is_flag xs.0.kind && is_flag xs.1.kind) T8 at _ (λ _. kept.both ps qs at xs.0.core xs.1.core up h.0 h.1)
+    infix-kept Infixes.Or xs more h = if-good (KeptPart (ps ++ (at ∷ qs))) (is_flag xs.0.kind && is_flag xs.1.kind) T8 at _ (λ _. kept.either ps qs at xs.0.core xs.1.core up h.0 h.1)
 
   choice_by-kept : (ps qs rs : List Place) (at : Place) → ascend (ps ++ (at ∷ (qs ++ rs))) ≡ true → (o : Option Kind) (c : Expr) (a b : Part) → Q ps c → KeptPart qs a → KeptPart rs b
       → IfKeptPart (ps ++ (at ∷ (qs ++ rs))) (choice_by at o c a b)
@@ -210,16 +328,18 @@ module _ (Q : List Place → Expr → Type 0) (kept : IsKept Q) where
           widened ps qs (Some p) w h = kept.wide ps qs p.core w h
       typed-kept (Prefixed at op e) up env m =
           let ps = at ∷ places_in e in
-          if-by (KeptPart (places_in e)) (KeptPart ps) (typed e env).part (prefix_part at op) (typed-kept e (ascend-tail at (places_in e) up) env m)
-          (λ p k. prefix-kept ps at op p (inl refl) (kept.wide (places_in e) ps p.core (λ q a. inr a) k))
+          if-by (λ p. KeptPart (places_in e) p × NumberHasPlace e p) (KeptPart ps) (typed e env).part (prefix_part at op)
+          (if-and (KeptPart (places_in e)) (NumberHasPlace e) (typed e env).part (typed-kept e (ascend-tail at (places_in e) up) env m) (number-place e env))
+          (λ p k. prefix-kept ps at op p (inl refl) (λ n. follows at (places_in e) up (k.1 n)) (kept.wide (places_in e) ps p.core (λ q a. inr a) k.0))
       typed-kept (Infixed at op a b) up env m =
           let ps = places_in a in
           let qs = places_in b in
           let x = typed a env in
           let y = typed b (later env x) in
-          if-by (λ xs. KeptPart ps xs.0 × KeptPart qs xs.1) (KeptPart (ps ++ (at ∷ qs))) (both (typed a) (typed b) env).part (infix_part at op)
-          (if-both (KeptPart ps) (KeptPart qs) x.part y.part (typed-kept a (ascend-left ps (at ∷ qs) up) env m) (typed-kept b (ascend-tail at qs (ascend-right ps (at ∷ qs) up)) (later env x) (goes-on Part env x m)))
-          (λ xs k. infix-kept ps qs at up op xs k)
+          if-by (λ xs. KeptPart ps xs.0 × (KeptPart qs xs.1 × NumberHasPlace b xs.1)) (KeptPart (ps ++ (at ∷ qs))) (both (typed a) (typed b) env).part (infix_part at op)
+          (if-both (KeptPart ps) (λ p. KeptPart qs p × NumberHasPlace b p) x.part y.part (typed-kept a (ascend-left ps (at ∷ qs) up) env m)
+          (if-and (KeptPart qs) (NumberHasPlace b) y.part (typed-kept b (ascend-tail at qs (ascend-right ps (at ∷ qs) up)) (later env x) (goes-on Part env x m)) (number-place b (later env x))))
+          (λ xs k. infix-kept ps qs at up op xs k.1.1 (k.0, k.1.0))
       typed-kept (Choose at c a b) up env m =
           let ps = places_in c in
           let qs = places_in a in
@@ -236,7 +356,9 @@ module _ (Q : List Place → Expr → Type 0) (kept : IsKept Q) where
       typed-kept (Reduction at word h filter body close) up env m =
           let ps = places_in filter in
           let qs = places_in body in
-          let rest = ps ++ (qs ++ closing word at close) in
-          let back = ascend-tail h.owner.place rest (ascend-tail h.iterator.place (h.owner.place ∷ rest) (ascend-tail at (h.iterator.place ∷ (h.owner.place ∷ rest)) up)) in
-          folds at word h filter body close up (typed-kept filter (ascend-left ps (qs ++ closing word at close) back))
-          (typed-kept body (ascend-left qs (closing word at close) (ascend-right ps (qs ++ closing word at close) back))) env m
+          let ends = closing word body at close in
+          let o = h.owner.place in
+          let rest = ps ++ (qs ++ ends) in
+          let back = ascend-tail (right_behind o) rest (ascend-tail o (right_behind o ∷ rest) (ascend-tail h.iterator.place (o ∷ (right_behind o ∷ rest)) (ascend-tail at (h.iterator.place ∷ (o ∷ (right_behind o ∷ rest))) up))) in
+          folds at word h filter body close up (typed-kept filter (ascend-left ps (qs ++ ends) back))
+          (typed-kept body (ascend-left qs ends (ascend-right ps (qs ++ ends) back))) env m

@@ -1,8 +1,10 @@
 mod Parts
 mod Constants
 mod Picks
+mod PlaceOrder
 mod Befores
 mod Keeping
+mod ExpressionFaults
 mod OrderedExpressions
 mod OrderedTyping
 mod Shapes

@@ -8,12 +8,16 @@ use Rattle.gm_ast.specs.Names.{Env, with_name}
 use Rattle.gm_ast.specs.Statements.{variable_of, with_names}
 use Rattle.gm_ast.specs.Procedures.{nothing_known, with_parameters, env_of_outputs, env_of_body, result_of}
 use Rattle.gm_forms.specs.Order.{is_ordered}
+use Rattle.gm_desugar.specs.Literals.{with_negative_literals}
+use Rattle.gm_hoisting.specs.Throughout.{stands_throughout}
+use Rattle.gm_hoisting.specs.Totals.{can_be_hoisted}
+use Rattle.gm_hoisting.proofs.Throughout.{throughout-hoisted}
 use Rattle.gm_ready.proofs.Judging.{IfPart}
 use Rattle.gm_order.specs.Places.{ascend, places_of_each, places_of_group, places_of, places_of_procedure}
 use Rattle.gm_order.specs.Laws.{HasProgram}
 use Rattle.gm_order.proofs.Befores.{ascend-tail, ascend-right}
 use Rattle.gm_order.proofs.Shapes.{procedure-shaped}
-use Rattle.gm_order.proofs.OrderedPhases.{elaborated-ordered}
+use Rattle.gm_order.proofs.OrderedPhases.{Orders, elaborated-ordered}
 use Rattle.gm_order.proofs.Spelled.{text-ascends}
 
 -- parameters stand in no loop
@@ -34,7 +38,14 @@ body-ascends p h =
     let outs = places_of_each places_of_group p.outputs in
     ascend-right outs (places_of p.body) (ascend-right ins (outs ++ places_of p.body) (ascend-tail p.name.place (ins ++ (outs ++ places_of p.body)) h))
 
+orders : (text : List ℕ) (p : Program) → HasProgram text p → Orders p
+orders text p s = subst (IfPart Orders) s.is (elaborated-ordered s.tree (body-ascends s.tree (text-ascends text s.tree s.spelled)) (procedure-shaped s.spelled.spelled) (body-depth s.tree))
+
 pub text-ordered : (text : List ℕ) (p : Program) → HasProgram text p → uncanonical p ≡ [] → is_ordered p ≡ true
-text-ordered text p s canonical =
-    subst (IfPart (λ q. uncanonical q ≡ [] → is_ordered q ≡ true)) s.is
-    (elaborated-ordered s.tree (body-ascends s.tree (text-ascends text s.tree s.spelled)) (procedure-shaped s.spelled.spelled) (body-depth s.tree)) canonical
+text-ordered text p s canonical = (orders text p s canonical).0
+
+pub text-throughout : (text : List ℕ) (p : Program) → HasProgram text p → uncanonical p ≡ [] → stands_throughout (with_negative_literals p) ≡ true
+text-throughout text p s canonical = (orders text p s canonical).2
+
+pub text-hoisted : (text : List ℕ) (p : Program) → HasProgram text p → uncanonical p ≡ [] → can_be_hoisted p ≡ true
+text-hoisted text p s canonical = let o = orders text p s canonical in throughout-hoisted p o.0 o.1

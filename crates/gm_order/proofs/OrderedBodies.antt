@@ -8,6 +8,7 @@ use Rattle.gm_base.specs.declared.rules.Rule.{Rule}
 use Rattle.gm_base.specs.declared.rules.Rule.TheVariants.{T9, T11, T14}
 use Rattle.gm_value.specs.declared.values.VType.{VType}
 use Rattle.gm_value.specs.declared.values.VType.TheVariants.{I32, I64, Flag, Node}
+use Rattle.gm_value.specs.declared.values.Value.{Value}
 use Rattle.gm_value.specs.declared.values.Value.TheVariants as V
 use Rattle.gm_value.specs.declared.reductions.Reduce.{Reduce}
 use Rattle.gm_value.specs.declared.reductions.Reduce.TheVariants as R
@@ -36,12 +37,15 @@ use Rattle.gm_ast.specs.Statements.{group_target, in_group, goal, fits_goal, red
 use Rattle.gm_forms.proofs.Named.{both-true}
 use Rattle.gm_ast.specs.Ways.{is_in}
 use Rattle.gm_forms.specs.Order.{lie_before, rest_in, hoisted_in, hoists_in_order, faults_in, in_order, faults_in_all, hoisted_in_all, all_in_order, fault_of, fault_if, are_numbered, cannot_fail, target_faults, targets_faults, faults_of, leads, body_in_order, loop_in_order, begins, search_in_order}
+use Rattle.gm_desugar.specs.Literals.{with_literals, each_expr_in}
+use Rattle.gm_hoisting.specs.Totals.{as_sums, body_as_sums, hoists_follow, rest_in_all, values_in_order, values_stand}
 use Rattle.gm_ready.proofs.Judging.{IfPart, if-by, if-both, if-good, if-then, append-empty}
 use Rattle.gm_order.specs.Places.{ascend, places_of_each, places_in, places_of_target, place_of_option, places_of}
 use Rattle.gm_order.proofs.Parts.{anything, if-with, if-judged}
-use Rattle.gm_order.proofs.Befores.{Each, each-append, each-map, lie, nothing-before, inner, operators, KeyBefore, stage-before, statement-before, At, lie-keys, ascend-tail, ascend-left, ascend-right}
+use Rattle.gm_order.proofs.Befores.{Each, each-append, each-map, lie, nothing-before, inner, operators, KeyBefore, stage-before, statement-before, among-left, among-right, inside-across, At, wider, lie-keys, lie-places, ascend-tail, ascend-left, ascend-right}
 use Rattle.gm_order.proofs.Keeping.{KeptPart, fitted-kept, condition-kept}
-use Rattle.gm_order.proofs.OrderedExpressions.{InParallel, parallel-kept}
+use Rattle.gm_order.proofs.ExpressionFaults.{sums-read, literals-read}
+use Rattle.gm_order.proofs.OrderedExpressions.{Lies, LiesBoth, InParallel, parallel-kept}
 use Rattle.gm_order.proofs.OrderedTyping.{not-zero, Parallel, parallel-typed}
 use Rattle.gm_order.proofs.Shapes.{shaped}
 
@@ -63,11 +67,55 @@ pub numbered-in : (lo hi : ℕ) → 0 < lo → (xs : List Fault) → Each (In lo
 numbered-in lo hi lt [] h = refl
 numbered-in lo hi lt (f ∷ fs) h = let l = h.0.0 in both_true (lt-ltb 0 f.key.statement (omega (arith, lt, l))) (numbered-in lo hi lt fs h.1)
 
+-- what stands in a statement that is seen as another: as itself, or with its reductions as sums
+abbrev pub Seen : ℕ → ℕ → List ℕ → Stmt → Stmt → Type 0
+Seen lo hi its s t = Each (In lo hi) (faults_of its t) × ((w : Around) → is_parallel w.loops ≡ true → forms_broken s w ≡ [] → body_in_order its t ≡ true)
+
+-- as another, and this with its reductions as sums
+abbrev pub SeenBoth : ℕ → ℕ → List ℕ → Stmt → Stmt → Type 0
+SeenBoth lo hi its s t = Seen lo hi its s t × Seen lo hi its s (body_as_sums t) × (values_stand t ≡ true)
+
+-- as itself, and with negative literals
+abbrev pub literal : Stmt → Stmt
+literal s = each_expr_in with_literals s
+
 abbrev pub InBody : ℕ → ℕ → Stmt → Type 0
-InBody lo hi s = (its : List ℕ) → Each (In lo hi) (faults_of its s) × ((w : Around) → is_parallel w.loops ≡ true → forms_broken s w ≡ [] → body_in_order its s ≡ true)
+InBody lo hi s = (its : List ℕ) → SeenBoth lo hi its s s × SeenBoth lo hi its s (literal s)
+
+wider-seen : (lo hi a b : ℕ) (its : List ℕ) (s t : Stmt) → a ≤ lo → hi ≤ b → Seen lo hi its s t → Seen a b its s t
+wider-seen lo hi a b its s t l h k = (wider-in lo hi a b (faults_of its t) l h k.0, k.1)
 
 wider-body : (lo hi a b : ℕ) (s : Stmt) → a ≤ lo → hi ≤ b → InBody lo hi s → InBody a b s
-wider-body lo hi a b s l h k its = (wider-in lo hi a b (faults_of its s) l h (k its).0, (k its).1)
+wider-body lo hi a b s l h k its = let x = k its in (both s x.0, both (literal s) x.1)
+  where
+    both : (t : Stmt) → SeenBoth lo hi its s t → SeenBoth a b its s t
+    both t x = (wider-seen lo hi a b its s t l h x.0, wider-seen lo hi a b its s (body_as_sums t) l h x.1, x.2)
+
+-- one expression reads no more than another
+abbrev pub Sees : Expr → Expr → Type 0
+Sees e d = (w : Around) → reads_broken e w ≡ [] → reads_broken d w ≡ []
+
+pub sees-self : (e : Expr) → Sees e e
+sees-self e w r = r
+
+pub sees-sums : (e : Expr) → Sees e (as_sums e)
+sees-sums e w r = sums-read e w ∙ r
+
+pub sees-literals : (e : Expr) → Sees e (with_literals e)
+sees-literals e w r = literals-read e w ∙ r
+
+pub sees-both : (e d : Expr) → Sees e d → Sees e (as_sums d)
+sees-both e d sees w r = sees-sums d w (sees w r)
+
+AllSee : List Expr → List Expr → Type 0
+AllSee es ds = (w : Around) → all_broken es w ≡ [] → all_broken ds w ≡ []
+
+all-seen : (f : Expr → Expr) → ((e : Expr) → Sees e (f e)) → (es : List Expr) → AllSee es (map f es)
+unfolding AllSee
+all-seen f one [] w r = refl
+all-seen f one (e ∷ es) w r =
+    let s = append-empty (reads_broken e w) (all_broken es w) r in
+    ap (λ xs. xs ++ all_broken (map f es) w) (one e w s.0) ∙ all-seen f one es w s.1
 
 -- ---- an expression of a statement
 
@@ -75,13 +123,13 @@ module _ (n : ℕ) (k : Key) (key : k ≡ operators n) where
   pub inner-before : KeyBefore (inner n) k
   inner-before = subst (KeyBefore (inner n)) (sym key) (stage-before (inner n) (operators n) refl refl)
 
-  statement : k.statement ≡ n
+  pub statement : k.statement ≡ n
   statement = ap (λ (j : Key). j.statement) key
 
-  pub expr-faults : (hi : ℕ) (ps : List Place) (e : Expr) → n < hi → InParallel n ps e → Each (In n hi) (faults_in e k)
+  pub expr-faults : (hi : ℕ) (ps : List Place) (e : Expr) → n < hi → Lies n ps e → Each (In n hi) (faults_in e k)
   expr-faults hi ps e lt h = each-append (In n hi) (hoisted_in e) (rest_in e k) (under n hi (inner n) ps (hoisted_in e) refl lt h.0) (under n hi k ps (rest_in e k) statement lt (h.1 k))
 
-  pub expr-order : (ps : List Place) (e : Expr) → InParallel n ps e → hoists_in_order e ≡ true → in_order e k ≡ true
+  pub expr-order : (ps : List Place) (e : Expr) → Lies n ps e → hoists_in_order e ≡ true → in_order e k ≡ true
   expr-order ps e h o = both_true o (lie-keys (inner n) k ps ps (hoisted_in e) (rest_in e k) inner-before h.0 (h.1 k))
 
   -- what is under the statement's key
@@ -107,78 +155,153 @@ module _ (n : ℕ) (k : Key) (key : k ≡ operators n) where
   hoisted-under ps xs ys h g = lie (At (inner n) ps) Under xs ys h g
       (λ a b x y. subst (λ i. fault_lt (record { key = i; place = a.place }) b ≡ true) (sym x.0) (subst (λ i. fault_lt (record { key = inner n; place = a.place }) (record { key = i; place = b.place }) ≡ true) (sym y) (inner-before a.place b.place)))
 
-  targeted : (its : List ℕ) (hi : ℕ) (ps : List Place) (t : Target) (e : Expr) → n < hi → InParallel n ps e → Each (In n hi) (target_faults its t k ++ faults_in e k)
+  targeted : (its : List ℕ) (hi : ℕ) (ps : List Place) (t : Target) (e : Expr) → n < hi → Lies n ps e → Each (In n hi) (target_faults its t k ++ faults_in e k)
   targeted its hi ps t e lt h = each-append (In n hi) (target_faults its t k) (faults_in e k) (under-in hi (target_faults its t k) lt (target-under its t)) (expr-faults hi ps e lt h)
 
-  assign-body : (hi : ℕ) (ps : List Place) (t : Target) (e : Expr) → n < hi → InParallel n ps e → InBody n hi (P.Assign k t e)
-  assign-body hi ps t e lt h its = (
-    targeted its hi ps t e lt h,
+  assign-seen : (its : List ℕ) (hi : ℕ) (ps : List Place) (t : Target) (e d : Expr) → n < hi → Lies n ps d → Sees e d → Seen n hi its (P.Assign k t e) (P.Assign k t d)
+  assign-seen its hi ps t e d lt h sees = (
+    targeted its hi ps t d lt h,
     λ w p r.
         let s = append-empty (assignment_broken w t) (reads_broken e w) r in
-        both_true (expr-order ps e h (h.2 w p s.1)) (hoisted-under ps (hoisted_in e) (target_faults its t k) h.0 (target-under its t)),
+        both_true (expr-order ps d h (h.2 w p (sees w s.1))) (hoisted-under ps (hoisted_in d) (target_faults its t k) h.0 (target-under its t)),
   )
 
-  defer-body : (hi : ℕ) (ps : List Place) (t : Target) (e : Expr) → n < hi → InParallel n ps e → InBody n hi (P.Defer k t e)
-  defer-body hi ps t e lt h its = (
-    targeted its hi ps t e lt h,
+  assign-body : (hi : ℕ) (ps : List Place) (t : Target) (e : Expr) → n < hi → InParallel n ps e → InBody n hi (P.Assign k t e)
+  assign-body hi ps t e lt h its = (both e h.0 (sees-self e), both (with_literals e) h.1 (sees-literals e))
+    where
+      both : (d : Expr) → LiesBoth n ps d → Sees e d → SeenBoth n hi its (P.Assign k t e) (P.Assign k t d)
+      both d x sees = (assign-seen its hi ps t e d lt x.0 sees, assign-seen its hi ps t e (as_sums d) lt x.1 (sees-both e d sees), refl)
+
+  defer-seen : (its : List ℕ) (hi : ℕ) (ps : List Place) (t : Target) (e d : Expr) → n < hi → Lies n ps d → Sees e d → Seen n hi its (P.Defer k t e) (P.Defer k t d)
+  defer-seen its hi ps t e d lt h sees = (
+    targeted its hi ps t d lt h,
     λ w p r.
         let s = append-empty (parallel_only w.loops (target_place t)) (not_inner w.loops (target_place t) ++ reads_broken e w) r in
         let u = append-empty (not_inner w.loops (target_place t)) (reads_broken e w) s.1 in
-        both_true (expr-order ps e h (h.2 w p u.1)) (hoisted-under ps (hoisted_in e) (target_faults its t k) h.0 (target-under its t)),
+        both_true (expr-order ps d h (h.2 w p (sees w u.1))) (hoisted-under ps (hoisted_in d) (target_faults its t k) h.0 (target-under its t)),
   )
 
+  defer-body : (hi : ℕ) (ps : List Place) (t : Target) (e : Expr) → n < hi → InParallel n ps e → InBody n hi (P.Defer k t e)
+  defer-body hi ps t e lt h its = (both e h.0 (sees-self e), both (with_literals e) h.1 (sees-literals e))
+    where
+      both : (d : Expr) → LiesBoth n ps d → Sees e d → SeenBoth n hi its (P.Defer k t e) (P.Defer k t d)
+      both d x sees = (defer-seen its hi ps t e d lt x.0 sees, defer-seen its hi ps t e (as_sums d) lt x.1 (sees-both e d sees), refl)
+
+  declare-seen : (its : List ℕ) (hi : ℕ) (ps : List Place) (x : ℕ) (e d : Expr) → n < hi → Lies n ps d → Sees e d → Seen n hi its (P.Declare k x (Some e)) (P.Declare k x (Some d))
+  declare-seen its hi ps x e d lt h sees = (expr-faults hi ps d lt h, λ w p r. expr-order ps d h (h.2 w p (sees w r)))
+
   declare-body : (hi : ℕ) (ps : List Place) (x : ℕ) (e : Expr) → n < hi → InParallel n ps e → InBody n hi (P.Declare k x (Some e))
-  declare-body hi ps x e lt h its = (expr-faults hi ps e lt h, λ w p r. expr-order ps e h (h.2 w p r))
+  declare-body hi ps x e lt h its = (both e h.0 (sees-self e), both (with_literals e) h.1 (sees-literals e))
+    where
+      both : (d : Expr) → LiesBoth n ps d → Sees e d → SeenBoth n hi its (P.Declare k x (Some e)) (P.Declare k x (Some d))
+      both d y sees = (declare-seen its hi ps x e d lt y.0 sees, declare-seen its hi ps x e (as_sums d) lt y.1 (sees-both e d sees), refl)
 
-  -- ---- several expressions
+  -- ---- several expressions, at places one after another
 
-  abbrev Somewhere : Expr → Type 0
-  Somewhere e = (ps : List Place) × InParallel n ps e
+  abbrev AllLie : List Place → List Expr → Type 0
+  AllLie all [] = Unit {0}
+  AllLie all (e ∷ es) = (qs : List Place) × ((rs : List Place) × ((all ≡ qs ++ rs) × (Lies n qs e × AllLie rs es)))
 
-  abbrev AllIn : List Expr → Type 0
-  AllIn [] = Unit {0}
-  AllIn (e ∷ es) = Somewhere e × AllIn es
+  abbrev AllIn : List Place → List Expr → Type 0
+  AllIn all [] = Unit {0}
+  AllIn all (e ∷ es) = (qs : List Place) × ((rs : List Place) × ((all ≡ qs ++ rs) × (InParallel n qs e × AllIn rs es)))
 
-  abbrev Hoisted : Fault → Type 0
-  Hoisted f = f.key ≡ inner n
+  -- each of them as another
+  all-lie : (f : Expr → Expr) → ((qs : List Place) (e : Expr) → InParallel n qs e → Lies n qs (f e)) → (all : List Place) (es : List Expr) → AllIn all es → AllLie all (map f es)
+  all-lie f one all [] h = tt
+  all-lie f one all (e ∷ es) h = (h.0, (h.1.0, (h.1.1.0, (one h.0 e h.1.1.1.0, all-lie f one h.1.0 es h.1.1.1.1))))
 
-  all-hoisted : (es : List Expr) → AllIn es → Each Hoisted (hoisted_in_all es)
-  all-hoisted [] h = tt
-  all-hoisted (e ∷ es) h = each-append Hoisted (hoisted_in e) (hoisted_in_all es) (each-map (At (inner n) h.0.0) Hoisted (hoisted_in e) (λ f a. a.0) h.0.1.0) (all-hoisted es h.1)
+  itself-lies : (all : List Place) (es : List Expr) → AllIn all es → AllLie all es
+  itself-lies all [] h = tt
+  itself-lies all (e ∷ es) h = (h.0, (h.1.0, (h.1.1.0, (h.1.1.1.0.0.0, itself-lies h.1.0 es h.1.1.1.1))))
 
-  all-faults : (hi : ℕ) (es : List Expr) → n < hi → AllIn es → Each (In n hi) (faults_in_all es k)
-  all-faults hi [] lt h = tt
-  all-faults hi (e ∷ es) lt h = each-append (In n hi) (faults_in e k) (faults_in_all es k) (expr-faults hi h.0.0 e lt h.0.1) (all-faults hi es lt h.1)
+  all-hoisted : (all : List Place) (es : List Expr) → AllLie all es → Each (At (inner n) all) (hoisted_in_all es)
+  all-hoisted all [] h = tt
+  all-hoisted all (e ∷ es) h =
+      let qs = h.0 in
+      let rs = h.1.0 in
+      subst (λ ps. Each (At (inner n) ps) (hoisted_in e ++ hoisted_in_all es)) (sym h.1.1.0)
+      (each-append (At (inner n) (qs ++ rs)) (hoisted_in e) (hoisted_in_all es) (wider (inner n) qs (qs ++ rs) (hoisted_in e) (λ p a. among-left qs rs p a) h.1.1.1.0.0)
+      (wider (inner n) rs (qs ++ rs) (hoisted_in_all es) (λ p a. among-right qs rs p a) (all-hoisted rs es h.1.1.1.1)))
 
-  all-order : (es : List Expr) → AllIn es → (w : Around) → is_parallel w.loops ≡ true → all_broken es w ≡ [] → all_in_order es k ≡ true
-  all-order [] h w p r = refl
-  all-order (e ∷ es) h w p r =
+  all-rest : (all : List Place) (es : List Expr) → AllLie all es → Each Under (rest_in_all es k)
+  all-rest all [] h = tt
+  all-rest all (e ∷ es) h = each-append Under (rest_in e k) (rest_in_all es k) (each-map (At k h.0) Under (rest_in e k) (λ f a. a.0) (h.1.1.1.0.1 k)) (all-rest h.1.0 es h.1.1.1.1)
+
+  all-follow : (all : List Place) (es : List Expr) → ascend all ≡ true → AllLie all es → hoists_follow es ≡ true
+  all-follow all [] up h = refl
+  all-follow all (e ∷ es) up h =
+      let qs = h.0 in
+      let rs = h.1.0 in
+      let up' = subst (λ ps. ascend ps ≡ true) h.1.1.0 up in
+      both_true (lie-places (inner n) qs rs (hoisted_in e) (hoisted_in_all es) (inside-across qs rs up') h.1.1.1.0.0 (all-hoisted rs es h.1.1.1.1)) (all-follow rs es (ascend-right qs rs up') h.1.1.1.1)
+
+  all-values : (all : List Place) (es : List Expr) → ascend all ≡ true → AllLie all es → values_in_order es k ≡ true
+  all-values all es up h = both_true (all-follow all es up h) (hoisted-under all (hoisted_in_all es) (rest_in_all es k) (all-hoisted all es h) (all-rest all es h))
+
+  all-faults : (hi : ℕ) (all : List Place) (es : List Expr) → n < hi → AllLie all es → Each (In n hi) (faults_in_all es k)
+  all-faults hi all [] lt h = tt
+  all-faults hi all (e ∷ es) lt h = each-append (In n hi) (faults_in e k) (faults_in_all es k) (expr-faults hi h.0 e lt h.1.1.1.0) (all-faults hi h.1.0 es lt h.1.1.1.1)
+
+  all-order : (all : List Place) (es : List Expr) → AllLie all es → (w : Around) → is_parallel w.loops ≡ true → all_broken es w ≡ [] → all_in_order es k ≡ true
+  all-order all [] h w p r = refl
+  all-order all (e ∷ es) h w p r =
       let s = append-empty (reads_broken e w) (all_broken es w) r in
-      both_true (expr-order h.0.0 e h.0.1 (h.0.1.2 w p s.0)) (all-order es h.1 w p s.1)
+      both_true (expr-order h.0 e h.1.1.1.0 (h.1.1.1.0.2 w p s.0)) (all-order h.1.0 es h.1.1.1.1 w p s.1)
 
   -- a fault of the statement that is not of an inner reduction
   abbrev Later : Fault → Type 0
   Later f = KeyBefore (inner n) f.key × (f.key.statement ≡ n)
 
-  combine-body : (hi : ℕ) (at : Place) (op : Reduce) (ts : List Target) (es : List Expr) → n < hi → AllIn es → InBody n hi (P.Combine k (total_at k at) op ts es)
-  combine-body hi at op ts es lt h its =
+  combine-seen : (its : List ℕ) (hi : ℕ) (at : Place) (op : Reduce) (ts : List Target) (all : List Place) (es ds : List Expr) → n < hi → AllLie all ds → ((w : Around) → all_broken es w ≡ [] → all_broken ds w ≡ [])
+      → Seen n hi its (P.Combine k (total_at k at) op ts es) (P.Combine k (total_at k at) op ts ds)
+  combine-seen its hi at op ts all es ds lt h sees =
       let total = total_at k at in
       let own : List Fault = record { key = k; place = total.place } ∷ (total_fault total ∷ []) in
       let own-later : Each Later own = ((inner-before, statement), ((stage-before (inner n) total.key (sym statement) refl, statement), tt)) in
       let ends : Each Later (targets_faults its ts k ++ own) = each-append Later (targets_faults its ts k) own (each-map Under Later (targets_faults its ts k) (λ f e. (subst (KeyBefore (inner n)) (sym e) inner-before, ap (λ (j : Key). j.statement) e ∙ statement)) (targets-under its ts)) own-later in (
-        each-append (In n hi) (targets_faults its ts k) (faults_in_all es k ++ own) (under-in hi (targets_faults its ts k) lt (targets-under its ts))
-            (each-append (In n hi) (faults_in_all es k) own (all-faults hi es lt h) (each-map Later (In n hi) own (λ f l. let s = l.1 in (omega (arith, s), omega (arith, s, lt))) own-later)),
-        λ w p r. both_true (all-order es h w p r) (lie Hoisted Later (hoisted_in_all es) (targets_faults its ts k ++ own) (all-hoisted es h) ends
-            (λ x y e l. subst (λ i. fault_lt (record { key = i; place = x.place }) y ≡ true) (sym e) (l.0 x.place y.place))),
+        each-append (In n hi) (targets_faults its ts k) (faults_in_all ds k ++ own) (under-in hi (targets_faults its ts k) lt (targets-under its ts))
+            (each-append (In n hi) (faults_in_all ds k) own (all-faults hi all ds lt h) (each-map Later (In n hi) own (λ f l. let s = l.1 in (omega (arith, s), omega (arith, s, lt))) own-later)),
+        λ w p r. both_true (all-order all ds h w p (sees w r)) (lie (At (inner n) all) Later (hoisted_in_all ds) (targets_faults its ts k ++ own) (all-hoisted all ds h) ends
+            (λ x y e l. subst (λ i. fault_lt (record { key = i; place = x.place }) y ≡ true) (sym e.0) (l.0 x.place y.place))),
       )
+
+  combine-body : (hi : ℕ) (at : Place) (op : Reduce) (ts : List Target) (all : List Place) (es : List Expr) → n < hi → ascend all ≡ true → AllIn all es → InBody n hi (P.Combine k (total_at k at) op ts es)
+  unfolding AllSee
+  combine-body hi at op ts all es lt up h its = (
+    (
+      combine-seen its hi at op ts all es es lt (itself-lies all es h) (λ w r. r),
+      combine-seen its hi at op ts all es (map as_sums es) lt sums (all-seen as_sums sees-sums es),
+      all-values all (map as_sums es) up sums,
+    ),
+    (
+      combine-seen its hi at op ts all es (map with_literals es) lt (all-lie with_literals (λ qs e x. x.1.0) all es h) (all-seen with_literals sees-literals es),
+      combine-seen its hi at op ts all es (map as_sums (map with_literals es)) lt literals (λ w r. all-seen as_sums sees-sums (map with_literals es) w (all-seen with_literals sees-literals es w r)),
+      all-values all (map as_sums (map with_literals es)) up literals,
+    ),
+  )
+    where
+      sums : AllLie all (map as_sums es)
+      sums = all-lie as_sums (λ qs e x. x.0.1) all es h
+
+      literals : AllLie all (map as_sums (map with_literals es))
+      literals = twice all es h
+        where
+          twice : (all : List Place) (es : List Expr) → AllIn all es → AllLie all (map as_sums (map with_literals es))
+          twice all [] h = tt
+          twice all (e ∷ es) h = (h.0, (h.1.0, (h.1.1.0, (h.1.1.1.0.1.1, twice h.1.0 es h.1.1.1.1))))
 
 -- ---- statements without expressions
 
 plain-body : (lo hi : ℕ) (k : Key) (ns : List ℕ) → InBody lo hi (plain_declarations k ns)
-plain-body lo hi k [] its = (tt, λ w p r. refl)
-plain-body lo hi k (m ∷ ns) its =
-    let rest = plain-body lo hi k ns its in
-    (rest.0, λ w p r. both_true (rest.1 w p r) (nothing-before [] (faults_of its (plain_declarations k ns)) refl))
+plain-body lo hi k [] its = (((tt, λ w p r. refl), (tt, λ w p r. refl), refl), ((tt, λ w p r. refl), (tt, λ w p r. refl), refl))
+plain-body lo hi k (m ∷ ns) its = let rest = plain-body lo hi k ns its in (both (plain_declarations k ns) rest.0, both (literal (plain_declarations k ns)) rest.1)
+  where
+    one : (t : Stmt) → Seen lo hi its (plain_declarations k ns) t → Seen lo hi its (plain_declarations k (m ∷ ns)) (P.Then (P.Declare k m None) t)
+    one t x = (x.0, λ w p r. both_true (x.1 w p r) (nothing-before [] (faults_of its t) refl))
+
+    both : (t : Stmt) → SeenBoth lo hi its (plain_declarations k ns) t → SeenBoth lo hi its (plain_declarations k (m ∷ ns)) (P.Then (P.Declare k m None) t)
+    both t x = (one t x.0, one (body_as_sums t) x.1, x.2)
 
 declarations-body : (lo hi : ℕ) (s : Sort) (k : Key) (xs : List SurfaceName) (ns : List ℕ) → IfPart (InBody lo hi) (ok_of (declarations_as s k xs ns))
 declarations-body lo hi Sorts.Edge k xs ns = tt
@@ -190,65 +313,100 @@ declarations-body lo hi Sorts.EdgeProperty k xs ns = plain-body lo hi k ns
 
 -- ---- statements of statements
 
-then-body : (lo mid top hi : ℕ) (a b : Stmt) → mid ≤ top → lo ≤ top → mid ≤ hi → InBody lo mid a → InBody top hi b → InBody lo hi (P.Then a b)
-then-body lo mid top hi a b le down up x y its = (
-  each-append (In lo hi) (faults_of its a) (faults_of its b) (wider-in lo mid lo hi (faults_of its a) (omega arith) up (x its).0) (wider-in top hi lo hi (faults_of its b) down (omega arith) (y its).0),
+then-seen : (lo mid top hi : ℕ) (its : List ℕ) (a b s t : Stmt) → mid ≤ top → lo ≤ top → mid ≤ hi → Seen lo mid its a s → Seen top hi its b t → Seen lo hi its (P.Then a b) (P.Then s t)
+then-seen lo mid top hi its a b s t le down up x y = (
+  each-append (In lo hi) (faults_of its s) (faults_of its t) (wider-in lo mid lo hi (faults_of its s) (omega arith) up x.0) (wider-in top hi lo hi (faults_of its t) down (omega arith) y.0),
   λ w p r.
-      let s = append-empty (forms_broken a w) (forms_broken b w) r in
-      both_true ((x its).1 w p s.0) (both_true ((y its).1 w p s.1) (in-apart lo mid top hi (faults_of its a) (faults_of its b) le (x its).0 (y its).0)),
+      let u = append-empty (forms_broken a w) (forms_broken b w) r in
+      both_true (x.1 w p u.0) (both_true (y.1 w p u.1) (in-apart lo mid top hi (faults_of its s) (faults_of its t) le x.0 y.0)),
 )
 
-pub loop-order : (its : List ℕ) (n : ℕ) (k : Key) → k ≡ operators n → (ps : List Place) (c : Expr) (body : Stmt) (lo hi : ℕ) → n < lo → InParallel n ps c → InBody lo hi body → (v u : Around) → is_parallel v.loops ≡ true → is_parallel u.loops ≡ true
-    → reads_broken c v ≡ [] → forms_broken body u ≡ [] → loop_in_order its k c body ≡ true
-loop-order its n k key ps c body lo hi lt x y v u pv pu rc rb =
-    both_true (expr-order n k key ps c x (x.2 v pv rc)) (both_true ((y its).1 u pu rb)
-    (in-apart n (n + 1) lo hi (faults_in c k) (faults_of its body) (omega (arith, lt)) (expr-faults n k key (n + 1) ps c (omega arith) x) (y its).0))
+then-body : (lo mid top hi : ℕ) (a b : Stmt) → mid ≤ top → lo ≤ top → mid ≤ hi → InBody lo mid a → InBody top hi b → InBody lo hi (P.Then a b)
+then-body lo mid top hi a b le down up x y its =
+    let l = x its in
+    let r = y its in
+    (both a b l.0 r.0, both (literal a) (literal b) l.1 r.1)
+  where
+    both : (s t : Stmt) → SeenBoth lo mid its a s → SeenBoth top hi its b t → SeenBoth lo hi its (P.Then a b) (P.Then s t)
+    both s t l r = (
+      then-seen lo mid top hi its a b s t le down up l.0 r.0,
+      then-seen lo mid top hi its a b (body_as_sums s) (body_as_sums t) le down up l.1 r.1,
+      both_true l.2 r.2,
+    )
 
-module _ (its : List ℕ) (n : ℕ) (k : Key) (key : k ≡ operators n) (at : Place) (body : Stmt) (lo hi : ℕ) (lt : n < lo) (y : InBody lo hi body) where
+pub loop-order : (its : List ℕ) (n : ℕ) (k : Key) → k ≡ operators n → (ps : List Place) (c d : Expr) (body t : Stmt) (lo hi : ℕ) → n < lo → Lies n ps d → Sees c d → Seen lo hi its body t → (v u : Around) → is_parallel v.loops ≡ true → is_parallel u.loops ≡ true
+    → reads_broken c v ≡ [] → forms_broken body u ≡ [] → loop_in_order its k d t ≡ true
+loop-order its n k key ps c d body t lo hi lt x sees y v u pv pu rc rb =
+    both_true (expr-order n k key ps d x (x.2 v pv (sees v rc))) (both_true (y.1 u pu rb)
+    (in-apart n (n + 1) lo hi (faults_in d k) (faults_of its t) (omega (arith, lt)) (expr-faults n k key (n + 1) ps d (omega arith) x) y.0))
+
+module _ (its : List ℕ) (n : ℕ) (k : Key) (key : k ≡ operators n) (at : Place) (body : Stmt) (lo hi : ℕ) (lt : n < lo) (y : Each (In lo hi) (faults_of its body)) where
   start : Each (In n (n + 1)) (fault_of k at ∷ [])
   start = let e = statement n k key in ((omega (arith, e), omega (arith, e)), tt)
 
   pub leads-order : leads its k at body ≡ true
-  leads-order = in-apart n (n + 1) lo hi (fault_of k at ∷ []) (faults_of its body) (omega (arith, lt)) start (y its).0
+  leads-order = in-apart n (n + 1) lo hi (fault_of k at ∷ []) (faults_of its body) (omega (arith, lt)) start y
 
-  pub begins-order : (ps : List Place) (c : Expr) → InParallel n ps c → 0 < n → begins its k at c body ≡ true
+  pub begins-order : (ps : List Place) (c : Expr) → Lies n ps c → 0 < n → begins its k at c body ≡ true
   begins-order ps c x positive =
       let e = statement n k key in
       both_true leads-order (both_true (numbered-in n (n + 1 + hi) positive (hoisted_in c ++ faults_of its body)
-      (each-append (In n (n + 1 + hi)) (hoisted_in c) (faults_of its body) (under n (n + 1 + hi) (inner n) ps (hoisted_in c) refl (omega arith) x.0) (wider-in lo hi n (n + 1 + hi) (faults_of its body) (omega (arith, lt)) (omega arith) (y its).0)))
+      (each-append (In n (n + 1 + hi)) (hoisted_in c) (faults_of its body) (under n (n + 1 + hi) (inner n) ps (hoisted_in c) refl (omega arith) x.0) (wider-in lo hi n (n + 1 + hi) (faults_of its body) (omega (arith, lt)) (omega arith) y)))
       (or_left (nat_lt 0 k.statement) (cannot_fail c) (lt-ltb 0 k.statement (omega (arith, e, positive)))))
 
-  pub search-order : (ps : List Place) (c : Expr) → InParallel n ps c → 0 < n → loop_in_order its k c body ≡ true → search_in_order its k at c body ≡ true
+  pub search-order : (ps : List Place) (c : Expr) → Lies n ps c → 0 < n → loop_in_order its k c body ≡ true → search_in_order its k at c body ≡ true
   search-order ps c x positive h = both_true (numbered-in n (n + 1) positive (fault_of k at ∷ []) start) (both_true (begins-order ps c x positive) h)
 
-if-body : (n : ℕ) (k : Key) → k ≡ operators n → (ps : List Place) (c : Expr) (a b : Stmt) (lo mid top hi : ℕ) → n < lo → mid ≤ top → lo ≤ top → mid ≤ hi → n < hi → InParallel n ps c → InBody lo mid a → InBody top hi b → InBody n hi (P.If k c a b)
-if-body n k key ps c a b lo mid top hi lt le down up high x y z its =
-    let branches : Each (In lo hi) (faults_of its a ++ faults_of its b) = each-append (In lo hi) (faults_of its a) (faults_of its b) (wider-in lo mid lo hi (faults_of its a) (omega arith) up (y its).0) (wider-in top hi lo hi (faults_of its b) down (omega arith) (z its).0) in (
-      each-append (In n hi) (faults_in c k) (faults_of its a ++ faults_of its b) (expr-faults n k key hi ps c high x) (wider-in lo hi n hi (faults_of its a ++ faults_of its b) (omega (arith, lt)) (omega arith) branches),
-      λ w p r.
-          let s = append-empty (reads_broken c w) (forms_broken a w ++ forms_broken b w) r in
-          let u = append-empty (forms_broken a w) (forms_broken b w) s.1 in
-          both_true (expr-order n k key ps c x (x.2 w p s.0)) (both_true ((y its).1 w p u.0) (both_true ((z its).1 w p u.1) (both_true
-          (in-apart n (n + 1) lo hi (faults_in c k) (faults_of its a ++ faults_of its b) (omega (arith, lt)) (expr-faults n k key (n + 1) ps c (omega arith) x) branches)
-          (in-apart lo mid top hi (faults_of its a) (faults_of its b) le (y its).0 (z its).0)))),
-    )
+module _ (n : ℕ) (k : Key) (key : k ≡ operators n) (ps : List Place) (lo mid top hi : ℕ) (lt : n < lo) (le : mid ≤ top) (down : lo ≤ top) (up : mid ≤ hi) (high : n < hi) where
+  if-seen : (its : List ℕ) (c d : Expr) (a b s t : Stmt) → Lies n ps d → Sees c d → Seen lo mid its a s → Seen top hi its b t → Seen n hi its (P.If k c a b) (P.If k d s t)
+  if-seen its c d a b s t x sees y z =
+      let branches : Each (In lo hi) (faults_of its s ++ faults_of its t) = each-append (In lo hi) (faults_of its s) (faults_of its t) (wider-in lo mid lo hi (faults_of its s) (omega arith) up y.0) (wider-in top hi lo hi (faults_of its t) down (omega arith) z.0) in (
+        each-append (In n hi) (faults_in d k) (faults_of its s ++ faults_of its t) (expr-faults n k key hi ps d high x) (wider-in lo hi n hi (faults_of its s ++ faults_of its t) (omega (arith, lt)) (omega arith) branches),
+        λ w p r.
+            let e = append-empty (reads_broken c w) (forms_broken a w ++ forms_broken b w) r in
+            let u = append-empty (forms_broken a w) (forms_broken b w) e.1 in
+            both_true (expr-order n k key ps d x (x.2 w p (sees w e.0))) (both_true (y.1 w p u.0) (both_true (z.1 w p u.1) (both_true
+            (in-apart n (n + 1) lo hi (faults_in d k) (faults_of its s ++ faults_of its t) (omega (arith, lt)) (expr-faults n k key (n + 1) ps d (omega arith) x) branches)
+            (in-apart lo mid top hi (faults_of its s) (faults_of its t) le y.0 z.0)))),
+      )
+
+  if-body : (c : Expr) (a b : Stmt) → InParallel n ps c → InBody lo mid a → InBody top hi b → InBody n hi (P.If k c a b)
+  if-body c a b x y z its =
+      let l = y its in
+      let r = z its in
+      (both c a b x.0 (sees-self c) l.0 r.0, both (with_literals c) (literal a) (literal b) x.1 (sees-literals c) l.1 r.1)
+    where
+      both : (d : Expr) (s t : Stmt) → LiesBoth n ps d → Sees c d → SeenBoth lo mid its a s → SeenBoth top hi its b t → SeenBoth n hi its (P.If k c a b) (P.If k d s t)
+      both d s t x sees l r = (
+        if-seen its c d a b s t x.0 sees l.0 r.0,
+        if-seen its c (as_sums d) a b (body_as_sums s) (body_as_sums t) x.1 (sees-both c d sees) l.1 r.1,
+        both_true l.2 r.2,
+      )
 
 parallel-within : (ls : List C.Loop) (l : C.Loop) → is_parallel (ls ++ (l ∷ [])) ≡ true
 parallel-within [] l = refl
 parallel-within (m ∷ ls) l = refl
 
+-- an inner loop has no reductions: it is seen as itself
 foreach-body : (n : ℕ) (k : Key) → k ≡ operators n → (at : Place) (h : Head) (ps : List Place) (c : Expr) (body : Stmt) (lo hi : ℕ) → n < lo → n < hi → InParallel n ps c → InBody lo hi body → InBody n hi (P.Foreach k at h c body)
-foreach-body n k key at h ps c body lo hi lt high x y its = (
-  (let e = statement n k key in (omega (arith, e), omega (arith, e, high)), each-append (In n hi) (faults_in c k) (faults_of (h.iterator ∷ its) body) (expr-faults n k key hi ps c high x) (wider-in lo hi n hi (faults_of (h.iterator ∷ its) body) (omega (arith, lt)) (omega arith) (y (h.iterator ∷ its)).0)),
-  λ w p r.
-      let v = within w C.Body h.iterator in
-      let here = parallel-within w.loops (record { code = C.Body; iterator = h.iterator }) in
-      let s = append-empty (not_inner w.loops at) (range_broken w.loops h ++ (reads_broken c v ++ (forms_broken body v ++ C.ways_broken w.loops h c body))) r in
-      let u = append-empty (range_broken w.loops h) (reads_broken c v ++ (forms_broken body v ++ C.ways_broken w.loops h c body)) s.1 in
-      let q = append-empty (reads_broken c v) (forms_broken body v ++ C.ways_broken w.loops h c body) u.1 in
-      let e = append-empty (forms_broken body v) (C.ways_broken w.loops h c body) q.1 in
-      both_true (leads-order (h.iterator ∷ its) n k key h.place body lo hi lt y) (loop-order (h.iterator ∷ its) n k key ps c body lo hi lt x y v v here here q.0 e.0),
-)
+foreach-body n k key at h ps c body lo hi lt high x y its =
+    let z = y (h.iterator ∷ its) in
+    let plain = seen c body x.0.0 (sees-self c) z.0.0 in
+    let literals = seen (with_literals c) (literal body) x.1.0 (sees-literals c) z.1.0 in
+    ((plain, plain, refl), (literals, literals, refl))
+  where
+    seen : (d : Expr) (t : Stmt) → Lies n ps d → Sees c d → Seen lo hi (h.iterator ∷ its) body t → Seen n hi its (P.Foreach k at h c body) (P.Foreach k at h d t)
+    seen d t x sees y = (
+      (let e = statement n k key in (omega (arith, e), omega (arith, e, high)), each-append (In n hi) (faults_in d k) (faults_of (h.iterator ∷ its) t) (expr-faults n k key hi ps d high x) (wider-in lo hi n hi (faults_of (h.iterator ∷ its) t) (omega (arith, lt)) (omega arith) y.0)),
+      λ w p r.
+          let v = within w C.Body h.iterator in
+          let here = parallel-within w.loops (record { code = C.Body; iterator = h.iterator }) in
+          let s = append-empty (not_inner w.loops at) (range_broken w.loops h ++ (reads_broken c v ++ (forms_broken body v ++ C.ways_broken w.loops h c body))) r in
+          let u = append-empty (range_broken w.loops h) (reads_broken c v ++ (forms_broken body v ++ C.ways_broken w.loops h c body)) s.1 in
+          let q = append-empty (reads_broken c v) (forms_broken body v ++ C.ways_broken w.loops h c body) u.1 in
+          let e = append-empty (forms_broken body v) (C.ways_broken w.loops h c body) q.1 in
+          both_true (leads-order (h.iterator ∷ its) n k key h.place t lo hi lt y.0) (loop-order (h.iterator ∷ its) n k key ps c d body t lo hi lt x sees y v v here here q.0 e.0),
+    )
 
 -- ---- what typing makes of statements
 
@@ -295,7 +453,7 @@ module _ (n : ℕ) (env : Env) (st : Stands n env) (hi : ℕ) (lt : n < hi) (e :
   grouped-body x p at =
       let parts = both (group_target x p) (in_group (typed e)) env in
       if-by (λ ps. Unit {0}) (InBody n hi) parts.part (λ ps. then_answer (fitted ps.0.1.1 T9 at ps.1) (P.Group env.key x.place ps.0.0 ps.0.1.0)) (anything parts.part)
-      (λ ps _. if-then (λ a. Unit {0}) (InBody n hi) (fitted ps.0.1.1 T9 at ps.1) (P.Group env.key x.place ps.0.0 ps.0.1.0) (anything (ok_of (fitted ps.0.1.1 T9 at ps.1))) (λ a _. (λ its. (tt, λ w p r. refl))))
+      (λ ps _. if-then (λ a. Unit {0}) (InBody n hi) (fitted ps.0.1.1 T9 at ps.1) (P.Group env.key x.place ps.0.0 ps.0.1.0) (anything (ok_of (fitted ps.0.1.1 T9 at ps.1))) (λ a _. (λ its. (((tt, λ w q r. refl), (tt, λ w q r. refl), refl), ((tt, λ w q r. refl), (tt, λ w q r. refl), refl)))))
 
   assignment-body : (o : Option SurfaceName) (t : SurfaceTarget) (at : Place) → IfPart (InBody n hi) (assignment o t at e env).part
   assignment-body None t at = assigned-body t at
@@ -313,50 +471,55 @@ module _ (n : ℕ) (env : Env) (st : Stands n env) (hi : ℕ) (lt : n < hi) (e :
   with-body : (o : Option SurfaceName) (t : SurfaceType) (x : SurfaceName) (at : Place) → IfPart (InBody n hi) (declared_with o t x at e env).part
   with-body (Some y) t x at =
       let parts = both (declared_typed t x) (edge_owner y) env in
-      if-by (λ p. Unit {0}) (InBody n hi) parts.part (λ p. Ok (P.DeclareEdge p.0 p.1.index y.place)) (anything parts.part) (λ p _. (λ its. (tt, λ w q r. refl)))
+      if-by (λ p. Unit {0}) (InBody n hi) parts.part (λ p. Ok (P.DeclareEdge p.0 p.1.index y.place)) (anything parts.part) (λ p _. (λ its. (((tt, λ w q r. refl), (tt, λ w q r. refl), refl), ((tt, λ w q r. refl), (tt, λ w q r. refl), refl))))
   with-body None t x at =
       if-by (λ p. Unit {0} × Part-kept p.1) (InBody n hi) (both (declared_typed t x) (typed e) env).part (declared_value env.key x at (vtype_of t) (sort_of t))
       (beside-kept (declared_typed t x env)) (λ p k. value-body (sort_of t) x at (vtype_of t) p k.1)
 
 -- ---- reductions
 
-abbrev AllParts : ℕ → List Part → Type 0
-AllParts n [] = Unit {0}
-AllParts n (p ∷ ps) = ((qs : List Place) × InParallel n qs p.core) × AllParts n ps
+abbrev AllParts : ℕ → List Place → List Part → Type 0
+AllParts n all [] = Unit {0}
+AllParts n all (p ∷ ps) = (qs : List Place) × ((rs : List Place) × ((all ≡ qs ++ rs) × (InParallel n qs p.core × AllParts n rs ps)))
 
-all-kept : (n : ℕ) (es : List SurfaceExpr) → ascend (places_of_each places_in es) ≡ true → (env : Env) → Parallel n env.key env.depth → IfPart (AllParts n) (typed_all es env).part
+all-kept : (n : ℕ) (es : List SurfaceExpr) → ascend (places_of_each places_in es) ≡ true → (env : Env) → Parallel n env.key env.depth → IfPart (AllParts n (places_of_each places_in es)) (typed_all es env).part
 all-kept n [] up env m = tt
 all-kept n (e ∷ es) up env m =
     let ps = places_in e in
+    let qs = places_of_each places_in es in
     let p = typed e env in
     let rest = typed_all es (later env p) in
-    if-by (λ q. InParallel n ps q.0.core × AllParts n q.1) (AllParts n) (beside p rest).part (λ q. Ok (q.0 ∷ q.1))
-    (if-both (KeptPart (InParallel n) (parallel-kept n) ps) (AllParts n) p.part rest.part (parallel-typed n e (ascend-left ps (places_of_each places_in es) up) env m) (all-kept n es (ascend-right ps (places_of_each places_in es) up) (later env p) m))
-    (λ q k. ((ps, k.0), k.1))
+    if-by (λ q. InParallel n ps q.0.core × AllParts n qs q.1) (AllParts n (ps ++ qs)) (beside p rest).part (λ q. Ok (q.0 ∷ q.1))
+    (if-both (KeptPart (InParallel n) (parallel-kept n) ps) (AllParts n qs) p.part rest.part (parallel-typed n e (ascend-left ps qs up) env m) (all-kept n es (ascend-right ps qs up) (later env p) m))
+    (λ q k. (ps, (qs, (refl, (k.0, k.1)))))
 
-fits-all : (n : ℕ) (k : Key) (key : k ≡ operators n) (at : Place) (gs : List Goal) (ps : List Part) → AllParts n ps → IfPart (AllIn n k key) (ok_of (all_answers (fits_each at gs ps)))
-fits-all n k key at [] [] h = tt
-fits-all n k key at [] (p ∷ ps) h = tt
-fits-all n k key at (g ∷ gs) [] h = tt
-fits-all n k key at (g ∷ gs) (p ∷ ps) h =
-    if-with (InParallel n h.0.0) (AllIn n k key) (AllIn n k key) (λ x xs. x ∷ xs) (fits_goal g.wanted T9 at p) (all_answers (fits_each at gs ps))
-    (fits-goal n h.0.0 g.wanted T9 at p h.0.1) (fits-all n k key at gs ps h.1) (λ a rest m s. ((h.0.0, m), s))
+fits-all : (n : ℕ) (k : Key) (key : k ≡ operators n) (at : Place) (all : List Place) (gs : List Goal) (ps : List Part) → AllParts n all ps → IfPart (AllIn n k key all) (ok_of (all_answers (fits_each at gs ps)))
+fits-all n k key at all [] [] h = tt
+fits-all n k key at all [] (p ∷ ps) h = tt
+fits-all n k key at all (g ∷ gs) [] h = tt
+fits-all n k key at all (g ∷ gs) (p ∷ ps) h =
+    if-with (InParallel n h.0) (AllIn n k key h.1.0) (AllIn n k key all) (λ x xs. x ∷ xs) (fits_goal g.wanted T9 at p) (all_answers (fits_each at gs ps))
+    (fits-goal n h.0 g.wanted T9 at p h.1.1.1.0) (fits-all n k key at h.1.0 gs ps h.1.1.1.1) (λ a rest m s. (h.0, (h.1.0, (h.1.1.0, (m, s)))))
 
 reduced-body : (n : ℕ) (env : Env) (st : Stands n env) (hi : ℕ) → n < hi → (ts : List SurfaceTarget) (r : Reduce) (at : Place) (es : List SurfaceExpr) → ascend (places_of_each places_in es) ≡ true → IfPart (InBody n hi) (reduced ts r at es env).part
 reduced-body n env st hi lt ts r at es up =
     let together = goals_together ts env in
     let values = typed_all es (later env together) in
-    if-by (λ ps. Unit {0} × AllParts n ps.1) (InBody n hi) (both (goals_together ts) (typed_all es) env).part (combined env.key at r)
-    (if-both (λ g. Unit {0}) (AllParts n) together.part values.part (anything together.part) (all-kept n es up (later env together) (mode n env st)))
-    (λ ps k. if-with (λ u. Unit {0}) (AllIn n env.key st.0) (InBody n hi) (λ u xs. P.Combine env.key (total_at env.key at) r (map (λ g. g.target) ps.0) xs)
+    let all = places_of_each places_in es in
+    if-by (λ ps. Unit {0} × AllParts n all ps.1) (InBody n hi) (both (goals_together ts) (typed_all es) env).part (combined env.key at r)
+    (if-both (λ g. Unit {0}) (AllParts n all) together.part values.part (anything together.part) (all-kept n es up (later env together) (mode n env st)))
+    (λ ps k. if-with (λ u. Unit {0}) (AllIn n env.key st.0 all) (InBody n hi) (λ u xs. P.Combine env.key (total_at env.key at) r (map (λ g. g.target) ps.0) xs)
     (refused_unless (reduces r (first_wanted ps.0)) T11 at (tt {0})) (all_answers (fits_each at ps.0 ps.1))
-    (anything (ok_of (refused_unless (reduces r (first_wanted ps.0)) T11 at (tt {0})))) (fits-all n env.key st.0 at ps.0 ps.1 k.1)
-    (λ u xs _ m. combine-body n env.key st.0 hi at r (map (λ g. g.target) ps.0) xs lt m))
+    (anything (ok_of (refused_unless (reduces r (first_wanted ps.0)) T11 at (tt {0})))) (fits-all n env.key st.0 at all ps.0 ps.1 k.1)
+    (λ u xs _ m. combine-body n env.key st.0 hi at r (map (λ g. g.target) ps.0) all xs lt up m))
+
+one-in : (n : ℕ) (k : Key) (key : k ≡ operators n) (v : Value) → AllIn n k key [] (P.Const v ∷ [])
+one-in n k key v = ([], ([], (refl, ((parallel-kept n).constant [] v, tt))))
 
 incremented-body : (n : ℕ) (k : Key) (key : k ≡ operators n) (hi : ℕ) → n < hi → (at : Place) (g : Goal) (w : Option VType) → IfPart (InBody n hi) (ok_of (then_answer (one_of w at) (λ e. P.Combine k (total_at k at) R.Sum (g.target ∷ []) (e ∷ []))))
 incremented-body n k key hi lt at g None = tt
-incremented-body n k key hi lt at g (Some I32) = combine-body n k key hi at R.Sum (g.target ∷ []) (P.Const (V.I32 (pos 1)) ∷ []) lt ((([], (tt, λ j. tt, λ w p r. refl))), tt)
-incremented-body n k key hi lt at g (Some I64) = combine-body n k key hi at R.Sum (g.target ∷ []) (P.Const (V.I64 (pos 1)) ∷ []) lt ((([], (tt, λ j. tt, λ w p r. refl))), tt)
+incremented-body n k key hi lt at g (Some I32) = combine-body n k key hi at R.Sum (g.target ∷ []) [] (P.Const (V.I32 (pos 1)) ∷ []) lt refl (one-in n k key (V.I32 (pos 1)))
+incremented-body n k key hi lt at g (Some I64) = combine-body n k key hi at R.Sum (g.target ∷ []) [] (P.Const (V.I64 (pos 1)) ∷ []) lt refl (one-in n k key (V.I64 (pos 1)))
 incremented-body n k key hi lt at g (Some Flag) = tt
 incremented-body n k key hi lt at g (Some Node) = tt
 
@@ -371,12 +534,8 @@ numbered_env env = record env { number = env.number + 1; key = operators_of env.
 numbered-stands : (env : Env) → nat_eq env.depth 0 ≡ false → Stands env.number (numbered_env env)
 numbered-stands env d = (refl, omega arith, d)
 
--- a statement that no body may hold has no faults there
-nothing-in : (lo hi : ℕ) (s : Stmt) → ((its : List ℕ) → faults_of its s ≡ []) → ((its : List ℕ) → body_in_order its s ≡ true) → InBody lo hi s
-nothing-in lo hi s e o its = (subst (Each (In lo hi)) (sym (e its)) tt, λ w p r. o its)
-
 pub body-ordered : (rest : Bool) (s : SurfaceStmt) → ascend (places_of s) ≡ true → shaped rest s ≡ true → (n : ℕ) (env : Env) → Stands n env → IfPart (InBody (low rest n env) (env.number + (checked s env).numbers)) (checked s env).part
-body-ordered rest S.Skip up sh n env st = λ its. (tt, λ w p r. refl)
+body-ordered rest S.Skip up sh n env st = λ its. (((tt, λ w q r. refl), (tt, λ w q r. refl), refl), ((tt, λ w q r. refl), (tt, λ w q r. refl), refl))
 body-ordered rest (S.Then a b) up sh n env st =
     let ps = places_of a in
     let qs = places_of b in
@@ -430,7 +589,7 @@ body-ordered false (S.Increment t at) up sh n env st =
 body-ordered false (S.Call r f es xs) up sh n env st = tt
 body-ordered false (S.Loop at Loop.For head filter body) up sh n env st =
     let parts = both (ranged head) (iterated head.iterator 0 (both (test filter) (numbered (checked body)))) env in
-    if-by (λ p. Unit {0}) (InBody n (env.number + parts.numbers)) parts.part (λ p. Ok (loop_of Loop.For env.key at (head_with head p.0 p.1.0) p.1.1.0 p.1.1.1)) (anything parts.part) (λ p _. (λ its. (tt, λ w q r. refl)))
+    if-by (λ p. Unit {0}) (InBody n (env.number + parts.numbers)) parts.part (λ p. Ok (loop_of Loop.For env.key at (head_with head p.0 p.1.0) p.1.1.0 p.1.1.1)) (anything parts.part) (λ p _. (λ its. (((tt, λ w q r. refl), (tt, λ w q r. refl), refl), ((tt, λ w q r. refl), (tt, λ w q r. refl), refl))))
 body-ordered false (S.Loop at Loop.Foreach head filter body) up sh n env st =
     let l = st.1 in
     let ps = places_in filter in
@@ -477,24 +636,24 @@ body-ordered false (S.If at c a b) up sh n env st =
     (if-both (InBody m1 top1) (InBody m2 top2) y.part z.part
     (body-ordered false a (ascend-left qs rs branches) h.0 m1 (numbered_env env1) (numbered-stands env1 st.2))
     (body-ordered false b (ascend-right qs rs branches) h.1 m2 (numbered_env env2) (numbered-stands env2 st.2))))
-    (λ p k. if-body n env.key st.0 ps p.0 p.1.0 p.1.1 m1 top1 m2 hi (omega (arith, l)) (omega arith) (omega arith) (omega arith) (omega (arith, l)) k.0 k.1.0 (wider-body m2 top2 m2 hi p.1.1 (omega arith) (omega arith) k.1.1))
+    (λ p k. if-body n env.key st.0 ps m1 top1 m2 hi (omega (arith, l)) (omega arith) (omega arith) (omega arith) (omega (arith, l)) p.0 p.1.0 p.1.1 k.0 k.1.0 (wider-body m2 top2 m2 hi p.1.1 (omega arith) (omega arith) k.1.1))
 body-ordered false (S.While at c body) up sh n env st =
     let parts = both (test c) (numbered (checked body)) env in
-    if-by (λ p. Unit {0}) (InBody n (env.number + parts.numbers)) parts.part (λ p. Ok (P.While env.key at p.0 p.1)) (anything parts.part) (λ p _. (λ its. (tt, λ w q r. refl)))
+    if-by (λ p. Unit {0}) (InBody n (env.number + parts.numbers)) parts.part (λ p. Ok (P.While env.key at p.0 p.1)) (anything parts.part) (λ p _. (λ its. (((tt, λ w q r. refl), (tt, λ w q r. refl), refl), ((tt, λ w q r. refl), (tt, λ w q r. refl), refl))))
 body-ordered false (S.Do at body c) up sh n env st =
     let parts = both (numbered (checked body)) (test c) env in
-    if-by (λ p. Unit {0}) (InBody n (env.number + parts.numbers)) parts.part (λ p. Ok (P.Do env.key at p.0 p.1)) (anything parts.part) (λ p _. (λ its. (tt, λ w q r. refl)))
+    if-by (λ p. Unit {0}) (InBody n (env.number + parts.numbers)) parts.part (λ p. Ok (P.Do env.key at p.0 p.1)) (anything parts.part) (λ p _. (λ its. (((tt, λ w q r. refl), (tt, λ w q r. refl), refl), ((tt, λ w q r. refl), (tt, λ w q r. refl), refl))))
 body-ordered false (S.InBfs at v g root filter body) up sh n env st =
     let parts = both (both (graph_searched g) (rooted root)) (iterated v 1 (both (test filter) (numbered (checked body)))) env in
-    if-by (λ p. Unit {0}) (InBody n (env.number + parts.numbers)) parts.part (λ p. Ok (P.InBfs env.key at (search_of root p.0 p.1.0) p.1.1.0 p.1.1.1)) (anything parts.part) (λ p _. (λ its. (tt, λ w q r. refl)))
+    if-by (λ p. Unit {0}) (InBody n (env.number + parts.numbers)) parts.part (λ p. Ok (P.InBfs env.key at (search_of root p.0 p.1.0) p.1.1.0 p.1.1.1)) (anything parts.part) (λ p _. (λ its. (((tt, λ w q r. refl), (tt, λ w q r. refl), refl), ((tt, λ w q r. refl), (tt, λ w q r. refl), refl))))
 body-ordered false (S.InBfsBoth at v g root filter body reverse back_filter back) up sh n env st =
     let parts = both (both (graph_searched g) (rooted root)) (iterated v 1 (both (both (test filter) (numbered (checked body))) (numbered (searched (test back_filter) (numbered (checked back)))))) env in
-    if-by (λ p. Unit {0}) (InBody n (env.number + parts.numbers)) parts.part (λ p. Ok (P.InBfsBoth env.key at (search_of root p.0 p.1.0) p.1.1.0.0 p.1.1.0.1 p.1.1.1.0 p.1.1.1.1.0 p.1.1.1.1.1)) (anything parts.part) (λ p _. (λ its. (tt, λ w q r. refl)))
-body-ordered false (S.Return at None) up sh n env st = if-good (InBody n (env.number + 0)) (is_none env.result) T14 at (P.Return env.key at None) (λ _. (λ its. (tt, λ w q r. refl)))
+    if-by (λ p. Unit {0}) (InBody n (env.number + parts.numbers)) parts.part (λ p. Ok (P.InBfsBoth env.key at (search_of root p.0 p.1.0) p.1.1.0.0 p.1.1.0.1 p.1.1.1.0 p.1.1.1.1.0 p.1.1.1.1.1)) (anything parts.part) (λ p _. (λ its. (((tt, λ w q r. refl), (tt, λ w q r. refl), refl), ((tt, λ w q r. refl), (tt, λ w q r. refl), refl))))
+body-ordered false (S.Return at None) up sh n env st = if-good (InBody n (env.number + 0)) (is_none env.result) T14 at (P.Return env.key at None) (λ _. (λ its. (((tt, λ w q r. refl), (tt, λ w q r. refl), refl), ((tt, λ w q r. refl), (tt, λ w q r. refl), refl))))
 body-ordered false (S.Return at (Some e)) up sh n env st =
     let hi = env.number + (typed e env).numbers in
     if-by (λ p. Unit {0}) (InBody n hi) (typed e env).part (returned env.key at env.result) (anything (typed e env).part) (λ p _. by hi env.result p)
   where
     by : (hi : ℕ) (o : Option VType) (p : Part) → IfPart (InBody n hi) (ok_of (returned env.key at o p))
     by hi None p = tt
-    by hi (Some t) p = if-then (λ a. Unit {0}) (InBody n hi) (fitted t T14 at p) (λ a. P.Return env.key at (Some a)) (anything (ok_of (fitted t T14 at p))) (λ a _. (λ its. (tt, λ w q r. refl)))
+    by hi (Some t) p = if-then (λ a. Unit {0}) (InBody n hi) (fitted t T14 at p) (λ a. P.Return env.key at (Some a)) (anything (ok_of (fitted t T14 at p))) (λ a _. (λ its. (((tt, λ w q r. refl), (tt, λ w q r. refl), refl), ((tt, λ w q r. refl), (tt, λ w q r. refl), refl))))

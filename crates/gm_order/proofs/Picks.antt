@@ -11,28 +11,32 @@ use Rattle.gm_token.specs.Tokens.{Token}
 use Rattle.gm_ast.specs.declared.surface.Range.{Range}
 use Rattle.gm_ast.specs.declared.surface.ReductionWord.{ReductionWord}
 use Rattle.gm_ast.specs.Surface.{SurfaceName, SurfaceType, SurfaceHead, SurfaceTarget, SurfaceExpr, SurfaceStmt, SurfaceGroup, SurfaceProcedure, sequence}
+use Rattle.gm_ast.specs.Surface as S
 use Rattle.gm_parse.specs.Terminals.{Terminal}
 use Rattle.gm_parse.specs.Grammar.{Part}
 use Rattle.gm_parse.specs.Choices.{test_reduction}
 use Rattle.gm_ready.proofs.Judging.{IfPart}
 use Rattle.gm_parse.specs.Trees.{ReadsWord, ReadsAs, ReadsName, ReadsNumber, ReadsNames, ReadsOf, ReadsType, ReadsTree, ReadsCondition, ReadsFilter, ReadsBraces, ReadsRange, ReadsHead, ReadsTarget, ReadsEntries, ReadsTuple, ReadsAt, ReadsFrom, ReadsSearch, ReadsStmt, ReadsMany, ReadsBlock, ReadsReverse, ReadsGroup, ReadsGroups, ReadsParameters, ReadsOutputs, ReadsResult, ReadsProcedure}
-use Rattle.gm_order.specs.Places.{places_of_each, place_of_name, place_of_option, may_be_bare, closing, places_in, places_of_target, places_of, places_of_group, places_of_procedure}
+use Rattle.gm_order.specs.Places.{places_of_each, place_of_name, place_of_option, may_be_bare, is_absent, closing, right_behind, places_in, places_of_target, places_of, places_of_group, places_of_procedure}
 
--- from where these tokens are left to where those are left, places are picked in order
+-- from where these tokens are left to where those are left, places are picked in order, and the place right behind a token with it, where one more token is passed over
 pub data Picks : List Place → List Token → List Token → Type 0 where
   done : {us : List Token} → Picks [] us us
   skip : {ps : List Place} {t : Token} {us vs : List Token} → Picks ps us vs → Picks ps (t ∷ us) vs
   pick : {ps : List Place} {t : Token} {us vs : List Token} → Picks ps us vs → Picks (t.place ∷ ps) (t ∷ us) vs
+  both : {ps : List Place} {t u : Token} {us vs : List Token} → Picks ps us vs → Picks (t.place ∷ (right_behind t.place ∷ ps)) (t ∷ (u ∷ us)) vs
 
 pub join : {ps qs : List Place} {us vs ws : List Token} → Picks ps us vs → Picks qs vs ws → Picks (ps ++ qs) us ws
 join Picks.done k = k
 join (Picks.skip h) k = Picks.skip (join h k)
 join (Picks.pick h) k = Picks.pick (join h k)
+join (Picks.both h) k = Picks.both (join h k)
 
 pub forget : {ps : List Place} {us vs : List Token} → Picks ps us vs → Picks [] us vs
 forget Picks.done = Picks.done
 forget (Picks.skip h) = Picks.skip (forget h)
 forget (Picks.pick h) = Picks.skip (forget h)
+forget (Picks.both h) = Picks.skip (Picks.skip (forget h))
 
 -- what is read before is passed over
 pub over : {ps qs : List Place} {us vs ws : List Token} → Picks ps us vs → Picks qs vs ws → Picks qs us ws
@@ -85,8 +89,8 @@ vtype (ReadsType.property w l t r g) = over (meant w) (over (word l) (over (vtyp
 
 -- ---- expressions
 
-closed : (w : ReductionWord) (at q : Place) {us vs : List Token} → Picks (q ∷ []) us vs → Picks (closing w at q) us vs
-closed w at q {us} {vs} h = by (may_be_bare w && place_eq at q)
+closed : (w : ReductionWord) (e : SurfaceExpr) (at q : Place) {us vs : List Token} → Picks (q ∷ []) us vs → Picks (closing w e at q) us vs
+closed w e at q {us} {vs} h = by ((may_be_bare w && is_absent e) && place_eq at q)
   where
     by : (bare : Bool) → Picks (if bare then [] else q ∷ []) us vs
     by true = forget h
@@ -100,16 +104,23 @@ bare-words _ = tt
 bare-word : {us vs : List Token} {w : ReductionWord} {p : Place} → ReadsAs test_reduction us w p vs → may_be_bare w ≡ true
 bare-word (ReadsAs.word {t} e) = subst (IfPart (λ w. may_be_bare w ≡ true)) e (bare-words t.word)
 
-closing-self : (w : ReductionWord) (p : Place) → may_be_bare w ≡ true → [] ≡ closing w p p
-closing-self w p bare = sym (ap (λ b. if b then [] else p ∷ []) (both_true bare (both_true (eq-eqb p.line p.line refl) (eq-eqb p.col p.col refl))))
+closing-self : (w : ReductionWord) (p : Place) → may_be_bare w ≡ true → [] ≡ closing w S.Always p p
+closing-self w p bare = sym (ap (λ b. if b then [] else p ∷ []) (both_true (both_true bare refl) (both_true (eq-eqb p.line p.line refl) (eq-eqb p.col p.col refl))))
 
 pub range : {us vs : List Token} {g : SurfaceName} {r : Range} → ReadsRange us g r vs → Picks (place_of_name g) us vs
 range (ReadsRange.range n d r) = join (name n) (over (word d) (forget (meant r)))
 
+-- with the place right behind the owner
+range-behind : {us vs : List Token} {g : SurfaceName} {r : Range} → ReadsRange us g r vs → Picks (g.place ∷ (right_behind g.place ∷ [])) us vs
+range-behind (ReadsRange.range (ReadsName.name f) (ReadsWord.word d) r) = Picks.both (forget (meant r))
+
 abbrev places_of_head : SurfaceHead → SurfaceExpr → List Place
 places_of_head h f = h.iterator.place ∷ (h.owner.place ∷ places_in f)
 
-around : (f : SurfaceExpr) {x g : Place} {ps : List Place} {us vs ws : List Token} → Picks (x ∷ (g ∷ places_in f)) us vs → Picks ps vs ws → Picks (x ∷ (g ∷ (places_in f ++ ps))) us ws
+abbrev places_of_fold : SurfaceHead → SurfaceExpr → List Place
+places_of_fold h f = h.iterator.place ∷ (h.owner.place ∷ (right_behind h.owner.place ∷ places_in f))
+
+around : (f : SurfaceExpr) {x g b : Place} {ps : List Place} {us vs ws : List Token} → Picks (x ∷ (g ∷ (b ∷ places_in f))) us vs → Picks ps vs ws → Picks (x ∷ (g ∷ (b ∷ (places_in f ++ ps)))) us ws
 around f h k = join h k
 
 closed-by : (e : SurfaceExpr) {us vs ws : List Token} {q : Place} → Picks (places_in e) us vs → Picks (q ∷ []) vs ws → Picks (places_in e) us ws
@@ -126,9 +137,9 @@ mutual
   tree (ReadsTree.member x d m) = join (name x) (over (word d) (name m))
   tree (ReadsTree.method x d m l r) = join (name x) (over (word d) (join (name m) (over (word l) (forget (word r)))))
   tree (ReadsTree.parentheses {e} l r c) = join (word l) (closed-by e (tree r) (word c))
-  tree (ReadsTree.reduction {w} {f} {p} r h b) = join (meant r) (around f (head h) (braces w p b))
-  tree (ReadsTree.test {w} {f} {p} r h b) = join (meant r) (around f (head h) (braces w p b))
-  tree (ReadsTree.bare_test {w} {f} {p} r h) = join (meant r) (around f (head h) (as_picks (closing-self w p (bare-word r)) Picks.done))
+  tree (ReadsTree.reduction {w} {f} {p} r h b) = join (meant r) (around f (folded-head h) (braces w p b))
+  tree (ReadsTree.test {w} {f} {p} r h b) = join (meant r) (around f (folded-head h) (braces w p b))
+  tree (ReadsTree.bare_test {w} {f} {p} r h) = join (meant r) (around f (folded-head h) (as_picks (closing-self w p (bare-word r)) Picks.done))
   tree (ReadsTree.primary r) = tree r
   tree (ReadsTree.negation w r) = join (word w) (tree r)
   tree (ReadsTree.minus w o r) = join (word w) (tree r)
@@ -148,11 +159,14 @@ mutual
   filter ReadsFilter.absent = Picks.done
   filter (ReadsFilter.present r) = condition r
 
-  pub braces : (w : ReductionWord) (at : Place) {us vs : List Token} {e : SurfaceExpr} {q : Place} → ReadsBraces us e q vs → Picks (places_in e ++ closing w at q) us vs
-  braces w at (ReadsBraces.braces {q} l r c) = over (word l) (join (tree r) (closed w at q (word c)))
+  pub braces : (w : ReductionWord) (at : Place) {us vs : List Token} {e : SurfaceExpr} {q : Place} → ReadsBraces us e q vs → Picks (places_in e ++ closing w e at q) us vs
+  braces w at (ReadsBraces.braces {e} {q} l r c) = over (word l) (join (tree r) (closed w e at q (word c)))
 
   pub head : {us vs : List Token} {h : SurfaceHead} {f : SurfaceExpr} → ReadsHead us h f vs → Picks (places_of_head h f) us vs
   head (ReadsHead.head l x c g r f) = over (word l) (join (name x) (over (word c) (join (range g) (over (word r) (filter f)))))
+
+  folded-head : {us vs : List Token} {h : SurfaceHead} {f : SurfaceExpr} → ReadsHead us h f vs → Picks (places_of_fold h f) us vs
+  folded-head (ReadsHead.head l x c g r f) = over (word l) (join (name x) (over (word c) (join (range-behind g) (over (word r) (filter f)))))
 
 -- ---- statements
 

@@ -47,6 +47,7 @@ rest : {ps : List Place} {us vs : List Token} → Picks ps us vs → AllSmall us
 rest Picks.done h = h
 rest (Picks.skip k) h = rest k h.1
 rest (Picks.pick k) h = rest k h.1
+rest (Picks.both k) h = rest k h.1.1
 
 -- ---- expressions
 

@@ -9,7 +9,10 @@ use Rattle.gm_ast.specs.Procedures.{elaborated}
 use Rattle.gm_ast.specs.Canonical.{uncanonical}
 use Rattle.gm_forms.specs.Order.{is_ordered}
 use Rattle.gm_forms.specs.Typing.{has_types}
+use Rattle.gm_desugar.specs.Literals.{with_negative_literals}
 use Rattle.gm_ready.specs.Spelled.{is_spelled}
+use Rattle.gm_hoisting.specs.Throughout.{stands_throughout}
+use Rattle.gm_hoisting.specs.Totals.{can_be_hoisted}
 use Rattle.gm_order.specs.Places.{ascend, places_of_procedure}
 
 -- a text is made of tokens, and this is their tree
@@ -40,3 +43,11 @@ TextProgramsHaveTypes = (text : List ℕ) (p : Program) → HasProgram text p �
 -- a canonical program of a text is ordered
 abbrev pub TextProgramsAreOrdered : Type 0
 TextProgramsAreOrdered = (text : List ℕ) (p : Program) → HasProgram text p → uncanonical p ≡ [] → is_ordered p ≡ true
+
+-- where hoisting asks for it, the total of each reduction of a canonical program of a text stands in order, as one that may fault
+abbrev pub TextProgramsCanBeHoisted : Type 0
+TextProgramsCanBeHoisted = (text : List ℕ) (p : Program) → HasProgram text p → uncanonical p ≡ [] → can_be_hoisted p ≡ true
+
+-- and so does that of each reduction within a group assignment or another reduction, which passes make loops of, where each minus before a literal is a constant
+abbrev pub TextTotalsStand : Type 0
+TextTotalsStand = (text : List ℕ) (p : Program) → HasProgram text p → uncanonical p ≡ [] → stands_throughout (with_negative_literals p) ≡ true

@@ -1,6 +1,7 @@
 -- The places in a tree, in the order of its text: of names but those of types, of operators, of the words of statements
--- and reductions, and of the closing braces of reductions.
-use Rattle.std.specs.Prelude.{Bool, true, false, ◌&&◌, if◌then◌else◌, List, [], ◌∷◌, ◌++◌, Option, Some, None}
+-- and reductions, and of the closing braces of reductions. Behind the owner of a reduction's range comes the place right
+-- behind it too, before which nothing of the rest stands.
+use Rattle.std.specs.Prelude.{suc, Bool, true, false, ◌&&◌, if◌then◌else◌, List, [], ◌∷◌, ◌++◌, Option, Some, None}
 use Rattle.gm_base.specs.declared.places.Place.{Place}
 use Rattle.gm_base.specs.Places.{place_eq, place_lt}
 use Rattle.gm_ast.specs.declared.surface.ReductionWord.{ReductionWord}
@@ -39,9 +40,18 @@ may_be_bare words.Count = true
 may_be_bare words.Exist = true
 may_be_bare words.All = false
 
+-- whether what stands in braces is absent
+abbrev pub is_absent : SurfaceExpr → Bool
+is_absent Always = true
+is_absent _ = false
+
 -- the closing brace of a reduction whose word stands there; one without braces ends at its word, which is named already
-abbrev pub closing : ReductionWord → Place → Place → List Place
-closing word at close = if may_be_bare word && place_eq at close then [] else close ∷ []
+abbrev pub closing : ReductionWord → SurfaceExpr → Place → Place → List Place
+closing word body at close = if (may_be_bare word && is_absent body) && place_eq at close then [] else close ∷ []
+
+-- the next column of a line
+abbrev pub right_behind : Place → Place
+right_behind p = record { line = p.line; col = suc p.col }
 
 abbrev pub places_in : SurfaceExpr → List Place
 places_in Always = []
@@ -58,7 +68,7 @@ places_in (Prefixed at op e) = at ∷ places_in e
 places_in (Infixed at op a b) = places_in a ++ (at ∷ places_in b)
 places_in (Choose at c a b) = places_in c ++ (at ∷ (places_in a ++ places_in b))
 places_in (Reduction at word h filter body close) =
-    at ∷ (h.iterator.place ∷ (h.owner.place ∷ (places_in filter ++ (places_in body ++ closing word at close))))
+    at ∷ (h.iterator.place ∷ (h.owner.place ∷ (right_behind h.owner.place ∷ (places_in filter ++ (places_in body ++ closing word body at close)))))
 
 abbrev pub places_of_target : SurfaceTarget → List Place
 places_of_target t = t.owner.place ∷ place_of_option t.property

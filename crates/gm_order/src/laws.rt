@@ -1,11 +1,12 @@
 //! What follows from a text for its tree and its program, as contracts of calls that do nothing.
 
-ghost use Rattle.gm_order.specs.Laws.{PlacesOfTextsAscend, TextProgramsAreOrdered, TextProgramsAreSpelled, TextProgramsHaveTypes};
+ghost use Rattle.gm_order.specs.Laws.{PlacesOfTextsAscend, TextProgramsAreOrdered, TextProgramsAreSpelled, TextProgramsCanBeHoisted, TextProgramsHaveTypes, TextTotalsStand};
 
 use gm_ready::typed_programs_have_types;
 
 /// The places in the tree of a text ascend as they do in the text: on the left those of a smaller place, and a
-/// reduction's word before its filter, its filter before its braces, and these before their end.
+/// reduction's word before its range, this before its filter, its filter before its braces, and these before their end.
+/// So does the place right behind the owner of a reduction's range: more of the range stands before what comes next.
 pub fn places_of_texts_ascend()
     ensures { PlacesOfTextsAscend }
 {}
@@ -30,4 +31,14 @@ pub fn text_programs_have_types()
 /// cannot fault.
 pub fn text_programs_are_ordered()
     ensures { TextProgramsAreOrdered }
+{}
+
+/// In the program of a text that is canonical the total of each reduction stands in order too, as one that may fault:
+/// behind its range, its filter and its braces, and before what comes next. Of a reduction without braces, whose total
+/// is told at its word, that is the place right behind the last fault of its range and its filter. So its reductions can
+/// be hoisted; and where passes make loops of group assignments and of the sequential phase's reductions, what stands in
+/// these can be, too.
+pub fn text_programs_can_be_hoisted()
+    ensures hoisted { TextProgramsCanBeHoisted }
+    ensures throughout { TextTotalsStand }
 {}

@@ -5,5 +5,5 @@ mod laws;
 
 pub use laws::{
     places_of_texts_ascend, text_programs_are_ordered, text_programs_are_spelled,
-    text_programs_have_types,
+    text_programs_can_be_hoisted, text_programs_have_types,
 };

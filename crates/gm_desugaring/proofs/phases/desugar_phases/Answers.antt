@@ -18,6 +18,6 @@ returns-clause-ready c can =
     subst WithLoopsAlone (sym made) (loops-alone (program_of c.args.program) can)
 
 pub returns-clause-outside : goal.returns-clause-outside
-returns-clause-outside c can none =
+returns-clause-outside c can =
     let made : program_of c.in_ok-looped.looped ≡ with_loops_alone (program_of c.args.program) = search rules in
-    subst (λ p. is_desugared_outside p ≡ true) (sym made) (outside-alone (program_of c.args.program) can none)
+    subst (λ p. is_desugared_outside p ≡ true) (sym made) (outside-alone (program_of c.args.program) can)

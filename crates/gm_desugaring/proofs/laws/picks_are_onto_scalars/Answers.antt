@@ -1,9 +1,0 @@
-use Rattle.gm_desugaring.proofs.PicksLaws.{same-with_plain_picks}
-use Rattle.gm_desugaring.proofs.PicksOut.{picks-kept}
-use Rattle.gm_desugaring.proofs.laws.picks_are_onto_scalars.Goals as goal
-
-pub returns-clause-same : goal.returns-clause-same
-returns-clause-same c = same-with_plain_picks
-
-pub returns-clause-ready : goal.returns-clause-ready
-returns-clause-ready c = picks-kept
