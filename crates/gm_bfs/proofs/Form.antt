@@ -78,7 +78,7 @@ module _ (f : Fresh) (marks : List Bool) (w : ℕ) (its : List ℕ) (edge : Bool
   flat-all (e ∷ es) = two-same (is_flat its edge (reading f marks w e)) (is_flat its edge e) (list_all (is_flat its edge) (map (reading f marks w) es)) (list_all (is_flat its edge) es) (flat-reading e) (flat-all es)
 
 -- a conjunction is flat where both conditions are
-flat-conjunction : (its : List ℕ) (edge : Bool) (a b : Expr) → is_flat its edge a ≡ true → is_flat its edge b ≡ true → is_flat its edge (conjunction a b) ≡ true
+pub flat-conjunction : (its : List ℕ) (edge : Bool) (a b : Expr) → is_flat its edge a ≡ true → is_flat its edge b ≡ true → is_flat its edge (conjunction a b) ≡ true
 flat-conjunction its edge a b p q = by (is_always b)
   where
     by : (c : Bool) → is_flat its edge (cond c a (Both a b)) ≡ true
@@ -393,10 +393,10 @@ module _ (ds : List Declaration) where
 pub depth-fresh : (ds : List Declaration) (i : ℕ) → depth_at (with_fresh ds) (length ds + i) ≡ depth_at (fresh_declarations ++ map copy_declaration ds) i
 depth-fresh ds i = ap (λ (v : Variable). v.depth) (variable-behind ds (fresh_declarations ++ map copy_declaration ds) i)
 
-depth-root : (ds : List Declaration) → depth_at (with_fresh ds) (length ds) ≡ 0
+pub depth-root : (ds : List Declaration) → depth_at (with_fresh ds) (length ds) ≡ 0
 depth-root ds = let here : length ds ≡ length ds + 0 = omega arith in ap (depth_at (with_fresh ds)) here ∙ depth-fresh ds 0
 
-iterators-apart : (k : ℕ) → nat_eq (k + 9) (k + 8) ≡ false
+pub iterators-apart : (k : ℕ) → nat_eq (k + 9) (k + 8) ≡ false
 iterators-apart k = grind (arith)
 
 -- the pass gives the form without searches

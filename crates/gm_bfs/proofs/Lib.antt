@@ -1,5 +1,10 @@
 mod Trees
 mod Sequences
+mod InPlace
+mod InPlaceTrees
+mod Added
+mod Tables
+mod Copying
 mod Form
 mod LevelFacts
 mod Expressions
@@ -26,4 +31,11 @@ mod Same
 mod Longer
 mod NamedKept
 mod TypedKept
+mod Ordered
+mod Members
+mod LongerShares
+mod Changed
+mod Seen
+mod Settled
+mod RaceFree
 mod Rows

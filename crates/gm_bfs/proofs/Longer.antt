@@ -188,7 +188,7 @@ module _ (ds : List Declaration) where
   levels-marked changed (InBfsBoth key at search c body back_key d back) marks h m = m
   levels-marked changed (Return key at e) marks h m = m
 
-  none-marked : (n p : ℕ) → is_marked (no_marks n) p ≡ false
+  pub none-marked : (n p : ℕ) → is_marked (no_marks n) p ≡ false
   none-marked zero p = refl
   none-marked (suc n) zero = refl
   none-marked (suc n) (suc p) = none-marked n p

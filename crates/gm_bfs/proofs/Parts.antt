@@ -29,7 +29,7 @@ use Rattle.gm_bfs.proofs.Visits.{Part}
 abbrev pub iterates : Variable → Bool
 iterates v = is Sorts.Iterator v || is Sorts.Graph v
 
-written-apart : (v : Variable) → has_role v Written ≡ true → iterates v ≡ false
+pub written-apart : (v : Variable) → has_role v Written ≡ true → iterates v ≡ false
 written-apart v h = by v.sort h
   where
     by : (sort : Sort) → is Sorts.Scalar (record v { sort = sort }) ≡ true → is Sorts.Iterator (record v { sort = sort }) || is Sorts.Graph (record v { sort = sort }) ≡ false
@@ -40,7 +40,7 @@ written-apart v h = by v.sort h
     by Sorts.NodeProperty h = refl
     by Sorts.EdgeProperty h = refl
 
-declared-apart : (v : Variable) → has_role v Declared ≡ true → iterates v ≡ false
+pub declared-apart : (v : Variable) → has_role v Declared ≡ true → iterates v ≡ false
 declared-apart v h = by v.sort h
   where
     by : (sort : Sort) → has_role (record v { sort = sort }) Declared ≡ true → is Sorts.Iterator (record v { sort = sort }) || is Sorts.Graph (record v { sort = sort }) ≡ false
@@ -223,7 +223,7 @@ module _ (ds : List Declaration) (k : ℕ) where
         }
 
 -- marks are as many as there are variables
-mark-length : (p : ℕ) (marks : List Bool) → length (mark p marks) ≡ length marks
+pub mark-length : (p : ℕ) (marks : List Bool) → length (mark p marks) ≡ length marks
 mark-length p marks = length-set marks p true
 
 module _ (changed : List Bool) (w : ℕ) where
@@ -276,7 +276,7 @@ module _ (changed : List Bool) (w : ℕ) where
   inner-length (InBfsBoth key at search c body back_key d back) marks = refl
   inner-length (Return key at e) marks = refl
 
-levels-length : (changed : List Bool) (b : Stmt) (marks : List Bool) → length (mark_levels changed b marks) ≡ length marks
+pub levels-length : (changed : List Bool) (b : Stmt) (marks : List Bool) → length (mark_levels changed b marks) ≡ length marks
 levels-length changed Skip marks = refl
 levels-length changed (Then a b) marks = levels-length changed b (mark_levels changed a marks) ∙ levels-length changed a marks
 levels-length changed (Declare key y e) marks = refl
@@ -298,7 +298,7 @@ levels-length changed (InBfs key at search c body) marks = refl
 levels-length changed (InBfsBoth key at search c body back_key d back) marks = refl
 levels-length changed (Return key at e) marks = refl
 
-no-length : (n : ℕ) → length (no_marks n) ≡ n
+pub no-length : (n : ℕ) → length (no_marks n) ≡ n
 no-length n = length-replicate n false
 
 pub copied-short : (n : ℕ) (body : Stmt) → length (copied n body) ≤ n

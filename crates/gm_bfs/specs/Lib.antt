@@ -1,4 +1,5 @@
 pub mod Variables
 pub mod Copies
+pub mod Marked
 pub mod Searches
 pub mod Levelled

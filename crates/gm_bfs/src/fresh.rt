@@ -121,19 +121,15 @@ fn fresh_declarations(alloc: Global) -> Result<Vec<Declaration>, NoMemory>
     ]?)
 }
 
-// The table with the fresh variables and the copies behind it.
-pub(crate) fn with_fresh(
-    alloc: Global,
-    declarations: Vec<Declaration>,
-) -> Result<Vec<Declaration>, NoMemory>
-    ensures { IfOk result (λ all. all.items ≡ Variables.with_fresh declarations.items) }
+// Adds the fresh variables and the copies to the table.
+pub(crate) fn add_fresh(alloc: Global, declarations: &mut Vec<Declaration>) -> Result<(), NoMemory>
+    ensures { OnOk result (declarations.new.items ≡ Variables.with_fresh declarations.old.items) }
 {
-    let mut copies = copies_of(alloc, &declarations)?;
+    let mut copies = copies_of(alloc, declarations)?;
     let mut fresh = fresh_declarations(alloc)?;
-    let mut all = declarations;
-    all.append(&mut fresh)?;
-    all.append(&mut copies)?;
-    Ok(all)
+    declarations.append(&mut fresh)?;
+    declarations.append(&mut copies)?;
+    Ok(())
 }
 
 impl Site {

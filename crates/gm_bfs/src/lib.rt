@@ -12,9 +12,9 @@
 //! reads it at other levels it reads from copies made before: so the loop over the active nodes breaks no rule of
 //! races, though nothing says any more that the nodes that it reads are others than those that it changes.
 //!
-//! All searches of a program share the fresh variables, since none stands in another. Trees are rebuilt by value and
-//! no part is copied: time and memory are linear in the tree, but that each part that asks for levels has a table of
-//! all variables.
+//! All searches of a program share the fresh variables, since none stands in another. Trees are changed where they
+//! stand and no part is copied, and which variables a part marks is a set of those that it has: memory is linear in the
+//! tree and time near linear, however many variables and searches there are.
 //!
 //! It is proved that the code gives what the definition says, that a desugared program comes out without searches, and
 //! that it means the same: the same outcome for every graph, all arguments and every bound, with the same fault and the
@@ -24,9 +24,11 @@
 //! level has the nodes to which an edge leads from this one and that had no level.
 //!
 //! - `fresh`: the fresh variables and where a search stands;
+//! - `marked`: marked variables, as a set;
 //! - `marks`: which properties a part copies;
 //! - `readings`: expressions and inner loops that read copies and ask for levels;
 //! - `quiet`: bodies that do nothing, and filters that cannot fault;
+//! - `places`: statements and expressions put in the place of others;
 //! - `pieces`: the statements that keep levels;
 //! - `searches`: the loops of a search;
 //! - `levelled`: the pass.
@@ -34,8 +36,10 @@
 
 pub mod fresh;
 pub mod levelled;
+mod marked;
 mod marks;
 mod pieces;
+mod places;
 mod quiet;
 mod readings;
 mod searches;

@@ -1,11 +1,13 @@
 //! The statements that keep levels.
 
-ghost use Rattle.std.specs.Prelude.{◌≡◌, IfOk, map};
-ghost use Rattle.gm_ast.specs.Program.{Binary, always};
+ghost use Rattle.std.specs.Prelude.{◌≡◌, [], ◌∷◌, ◌++◌, IfOk, OnOk, map};
+ghost use Rattle.gm_ast.specs.Program.{Assign, Binary, Live, always, sequence};
+ghost use Rattle.gm_ast.specs.declared.tree.Target.TheVariants.{Scalar};
 ghost use Rattle.gm_ast.specs.Tree.{expr_of, stmt_of};
 ghost use Rattle.gm_bfs.specs.Searches as Searches;
 
 use crate::fresh::{Fresh, Site, copy_of};
+use crate::marked::Marks;
 use gm_ast::tree::{Domain, Expr, Head, Key, Stage, Stmt, Target};
 use gm_base::NoMemory;
 use gm_value::{Op2, Reduce, Value};
@@ -139,6 +141,52 @@ fn first_levels(alloc: Global, site: Site, fresh: Fresh) -> Result<Stmt, NoMemor
     each_node(alloc, site, fresh, always(), body)
 }
 
+// Adds a statement to those of a block.
+pub(crate) fn add(stmts: &mut Vec<Stmt>, stmt: Stmt) -> Result<(), NoMemory>
+    ensures { OnOk result (map stmt_of stmts.new.items ≡ map stmt_of stmts.old.items ++ (stmt_of stmt ∷ [])) }
+{
+    stmts.push(stmt)?;
+    Ok(())
+}
+
+// The block of statements.
+pub(crate) fn block(stmts: Vec<Stmt>) -> Stmt
+    ensures { stmt_of result ≡ sequence (map stmt_of stmts.items) }
+{
+    Stmt::Block(stmts)
+}
+
+// Looks the root up.
+fn find_root(site: Site, fresh: Fresh, key: Key, root: u32) -> Stmt
+    ensures { stmt_of result ≡ Assign key (Scalar fresh.root site.place) (Live root site.place) }
+{
+    Stmt::Assign {
+        key,
+        target: Target::Scalar {
+            variable: fresh.root,
+            place: site.place,
+        },
+        value: Expr::Live {
+            variable: root,
+            place: site.place,
+        },
+    }
+}
+
+// Sets the current level to that of the root.
+fn set_first(site: Site, fresh: Fresh) -> Stmt
+    ensures { stmt_of result ≡ Searches.set site fresh.current (Searches.number 0) }
+{
+    set(site, fresh.current, Expr::Const(Value::I32(0)))
+}
+
+// Says that there is a level whose turn is to come.
+fn set_more(site: Site, fresh: Fresh) -> Stmt
+    ensures { stmt_of result ≡ Searches.set site fresh.more always }
+{
+    set(site, fresh.more, always())
+}
+
 // What comes before the first level.
 pub(crate) fn begin(
     alloc: Global,
@@ -149,21 +197,12 @@ pub(crate) fn begin(
 ) -> Result<Stmt, NoMemory>
     ensures { IfOk result (λ r. stmt_of r ≡ Searches.begin site fresh key root) }
 {
-    let find = Stmt::Assign {
-        key,
-        target: Target::Scalar {
-            variable: fresh.root,
-            place: site.place,
-        },
-        value: Expr::Live {
-            variable: root,
-            place: site.place,
-        },
-    };
-    let levels = first_levels(alloc, site, fresh)?;
-    let current = set(site, fresh.current, Expr::Const(Value::I32(0)));
-    let more = set(site, fresh.more, always());
-    Ok(Stmt::Block(vec![in alloc; find, levels, current, more]?))
+    let mut stmts = Vec::new(alloc);
+    add(&mut stmts, find_root(site, fresh, key, root))?;
+    add(&mut stmts, first_levels(alloc, site, fresh)?)?;
+    add(&mut stmts, set_first(site, fresh))?;
+    add(&mut stmts, set_more(site, fresh))?;
+    Ok(block(stmts))
 }
 
 // Sets the next level.
@@ -260,31 +299,32 @@ fn copy_property(site: Site, fresh: Fresh, property: u32) -> Result<Stmt, NoMemo
     Ok(set_at(site, fresh.node, copy, at_node(site, fresh.node, property)))
 }
 
-// The assignments of the copies of marked properties.
-fn copies(alloc: Global, site: Site, fresh: Fresh, marks: &[bool]) -> Result<Vec<Stmt>, NoMemory>
-    ensures { IfOk result (λ r. map stmt_of r.items ≡ Searches.copies_from site fresh 0 marks.now) }
-{
-    let mut out = Vec::new(alloc);
-    let mut property = 0u32;
-    for marked in marks {
-        if *marked {
-            out.push(copy_property(site, fresh, property)?)?;
-        }
-        let Some(next) = property.checked_add(1) else {
-            return Err(NoMemory);
-        };
-        property = next;
-    }
-    Ok(out)
-}
-
-// The copies of a part.
-pub(crate) fn copy(
+// The assignments of the copies of properties.
+fn copy_each(
     alloc: Global,
     site: Site,
     fresh: Fresh,
-    marks: &[bool],
-) -> Result<Stmt, NoMemory>
+    properties: &[u32],
+) -> Result<Vec<Stmt>, NoMemory>
+    ensures { IfOk result (λ r. map stmt_of r.items ≡ map (Searches.copy_property site fresh) properties.now) }
+{
+    let mut copies = Vec::with_capacity(alloc, properties.len())?;
+    for property in properties {
+        copies.push(copy_property(site, fresh, *property)?)?;
+    }
+    Ok(copies)
+}
+
+// The assignments of the copies of marked properties.
+fn copies(alloc: Global, site: Site, fresh: Fresh, marks: &Marks) -> Result<Vec<Stmt>, NoMemory>
+    ensures { IfOk result (λ r. map stmt_of r.items ≡ Searches.copies_from site fresh 0 marks.now) }
+{
+    let properties = marks.in_order(alloc)?;
+    copy_each(alloc, site, fresh, &properties)
+}
+
+// The copies of a part.
+pub(crate) fn copy(alloc: Global, site: Site, fresh: Fresh, marks: &Marks) -> Result<Stmt, NoMemory>
     ensures { IfOk result (λ r. stmt_of r ≡ Searches.copy site fresh marks.now) }
 {
     let copies = copies(alloc, site, fresh, marks)?;

@@ -1,217 +1,155 @@
 //! Expressions and inner loops that read copies, and inner loops over neighbours on other levels.
 
-ghost use Rattle.std.specs.Prelude.{◌≡◌, IfOk, map, option_map};
+ghost use Rattle.std.specs.Prelude.{◌≡◌, IfOk, OnOk, map, option_map};
+ghost use Rattle.gm_ast.specs.Program as Program;
+ghost use Rattle.gm_ast.specs.Program.{sequence};
+ghost use Rattle.gm_ast.specs.declared.tree.Key.{Key};
+ghost use Rattle.gm_base.specs.declared.places.Place.{Place};
 ghost use Rattle.gm_ast.specs.Tree.{expr_of, stmt_of};
 ghost use Rattle.gm_bfs.specs.Copies as Copies;
 ghost use Rattle.gm_bfs.specs.Searches as Searches;
 
 use crate::fresh::{Fresh, copy_of};
-use crate::marks::is_marked;
-use gm_ast::tree::{Domain, Expr, Head, Key, Stmt};
-use gm_base::{NoMemory, Place};
+use crate::marked::Marks;
+use crate::places::{put, taken_value};
+use gm_ast::tree::{Domain, Expr, Head, Stmt};
+use gm_base::NoMemory;
 use gm_value::{Op2, Value};
 use std::alloc::Global;
 
 // The property that is read in place of one.
 fn seen_as(
     fresh: Fresh,
-    marks: &[bool],
+    marks: &Marks,
     iterator: u32,
     owner: u32,
     property: u32,
 ) -> Result<u32, NoMemory>
     ensures { IfOk result (λ p. p ≡ Copies.seen_as fresh marks.now iterator owner property) }
 {
-    if owner == iterator && is_marked(marks, property) {
+    if owner == iterator && marks.has(property) {
         copy_of(fresh, property)
     } else {
         Ok(property)
     }
 }
 
-// The expression that reads copies.
-fn reading(
-    alloc: Global,
-    fresh: Fresh,
-    marks: &[bool],
-    iterator: u32,
-    e: Expr,
-) -> Result<Expr, NoMemory>
-    ensures { IfOk result (λ r. expr_of r ≡ Copies.reading fresh marks.now iterator (expr_of e)) }
+// Changes an expression, so that it reads copies.
+fn read_copies(fresh: Fresh, marks: &Marks, iterator: u32, e: &mut Expr) -> Result<(), NoMemory>
+    ensures { OnOk result (expr_of e.new ≡ Copies.reading fresh marks.now iterator (expr_of e.old)) }
 {
     match e {
         Expr::Property {
             owner,
             property,
-            place,
+            ..
         } => {
-            let property = seen_as(fresh, marks, iterator, owner, property)?;
-            Ok(Expr::Property {
-                owner,
-                property,
-                place,
-            })
+            *property = seen_as(fresh, marks, iterator, *owner, *property)?;
+            Ok(())
         }
-        Expr::Unary { op, place, inner } => {
-            let changed = reading(alloc, fresh, marks, iterator, Box::into_inner(inner))?;
-            let inner = Box::new(alloc, changed)?;
-            Ok(Expr::Unary { op, place, inner })
-        }
-        Expr::Binary {
-            op,
-            place,
-            left,
-            right,
-        } => {
-            let changed = reading(alloc, fresh, marks, iterator, Box::into_inner(left))?;
-            let left = Box::new(alloc, changed)?;
-            let changed = reading(alloc, fresh, marks, iterator, Box::into_inner(right))?;
-            let right = Box::new(alloc, changed)?;
-            Ok(Expr::Binary {
-                op,
-                place,
-                left,
-                right,
-            })
+        Expr::Unary { inner, .. } => read_copies(fresh, marks, iterator, inner),
+        Expr::Binary { left, right, .. } => {
+            read_copies(fresh, marks, iterator, left)?;
+            read_copies(fresh, marks, iterator, right)
         }
         Expr::Both(left, right) => {
-            let changed = reading(alloc, fresh, marks, iterator, Box::into_inner(left))?;
-            let left = Box::new(alloc, changed)?;
-            let changed = reading(alloc, fresh, marks, iterator, Box::into_inner(right))?;
-            let right = Box::new(alloc, changed)?;
-            Ok(Expr::Both(left, right))
+            read_copies(fresh, marks, iterator, left)?;
+            read_copies(fresh, marks, iterator, right)
         }
         Expr::Either(left, right) => {
-            let changed = reading(alloc, fresh, marks, iterator, Box::into_inner(left))?;
-            let left = Box::new(alloc, changed)?;
-            let changed = reading(alloc, fresh, marks, iterator, Box::into_inner(right))?;
-            let right = Box::new(alloc, changed)?;
-            Ok(Expr::Either(left, right))
+            read_copies(fresh, marks, iterator, left)?;
+            read_copies(fresh, marks, iterator, right)
         }
         Expr::Choose(test, yes, no) => {
-            let changed = reading(alloc, fresh, marks, iterator, Box::into_inner(test))?;
-            let test = Box::new(alloc, changed)?;
-            let changed = reading(alloc, fresh, marks, iterator, Box::into_inner(yes))?;
-            let yes = Box::new(alloc, changed)?;
-            let changed = reading(alloc, fresh, marks, iterator, Box::into_inner(no))?;
-            let no = Box::new(alloc, changed)?;
-            Ok(Expr::Choose(test, yes, no))
+            read_copies(fresh, marks, iterator, test)?;
+            read_copies(fresh, marks, iterator, yes)?;
+            read_copies(fresh, marks, iterator, no)
         }
-        Expr::Fold {
-            fold,
-            head,
-            filter,
-            body,
-        } => {
-            let changed = reading(alloc, fresh, marks, iterator, Box::into_inner(filter))?;
-            let filter = Box::new(alloc, changed)?;
-            let changed = reading(alloc, fresh, marks, iterator, Box::into_inner(body))?;
-            let body = Box::new(alloc, changed)?;
-            Ok(Expr::Fold {
-                fold,
-                head,
-                filter,
-                body,
-            })
+        Expr::Fold { filter, body, .. } => {
+            read_copies(fresh, marks, iterator, filter)?;
+            read_copies(fresh, marks, iterator, body)
         }
-        other => Ok(other),
+        Expr::Const(_)
+        | Expr::Var { .. }
+        | Expr::EdgeProperty { .. }
+        | Expr::Degree { .. }
+        | Expr::NodeCount
+        | Expr::EdgeCount
+        | Expr::Live { .. } => Ok(()),
     }
 }
 
 // The same of an expression that may be absent.
-fn option_reading(
-    alloc: Global,
+fn read_option(
     fresh: Fresh,
-    marks: &[bool],
+    marks: &Marks,
     iterator: u32,
-    e: Option<Expr>,
-) -> Result<Option<Expr>, NoMemory>
-    ensures { IfOk result (λ r. option_map expr_of r ≡ option_map (Copies.reading fresh marks.now iterator) (option_map expr_of e)) }
+    e: &mut Option<Expr>,
+) -> Result<(), NoMemory>
+    ensures { OnOk result (option_map expr_of e.new ≡ option_map (Copies.reading fresh marks.now iterator) (option_map expr_of e.old)) }
 {
     match e {
-        None => Ok(None),
-        Some(e) => Ok(Some(reading(alloc, fresh, marks, iterator, e)?)),
+        None => Ok(()),
+        Some(e) => read_copies(fresh, marks, iterator, e),
     }
 }
 
 // The same of several expressions.
-fn all_reading(
-    alloc: Global,
+fn read_all(
     fresh: Fresh,
-    marks: &[bool],
+    marks: &Marks,
     iterator: u32,
-    values: Vec<Expr>,
-) -> Result<Vec<Expr>, NoMemory>
-    ensures { IfOk result (λ r. map expr_of r.items ≡ map (Copies.reading fresh marks.now iterator) (map expr_of values.items)) }
+    values: &mut Vec<Expr>,
+) -> Result<(), NoMemory>
+    ensures { OnOk result (map expr_of values.new.items ≡ map (Copies.reading fresh marks.now iterator) (map expr_of values.old.items)) }
 {
-    let mut out = Vec::new(alloc);
-    for value in values {
-        let changed = reading(alloc, fresh, marks, iterator, value)?;
-        out.push(changed)?;
+    for value in values.iter_mut() {
+        read_copies(fresh, marks, iterator, value)?;
     }
-    Ok(out)
+    Ok(())
 }
 
-// The body of an inner loop that reads copies.
-fn inner_reading(
-    alloc: Global,
+// The same of a block in the body of an inner loop.
+#[cycle(inner)]
+fn read_block(
     fresh: Fresh,
-    marks: &[bool],
+    marks: &Marks,
     iterator: u32,
-    s: Stmt,
-) -> Result<Stmt, NoMemory>
-    ensures { IfOk result (λ r. stmt_of r ≡ Copies.inner_reading fresh marks.now iterator (stmt_of s)) }
+    stmts: &mut Vec<Stmt>,
+) -> Result<(), NoMemory>
+    ensures { OnOk result (sequence (map stmt_of stmts.new.items) ≡ Copies.inner_reading fresh marks.now iterator (sequence (map stmt_of stmts.old.items))) }
+{
+    for stmt in stmts.iter_mut() {
+        read_inner(fresh, marks, iterator, stmt)?;
+    }
+    Ok(())
+}
+
+// The same of the body of an inner loop.
+#[cycle(inner)]
+fn read_inner(fresh: Fresh, marks: &Marks, iterator: u32, s: &mut Stmt) -> Result<(), NoMemory>
+    ensures { OnOk result (stmt_of s.new ≡ Copies.inner_reading fresh marks.now iterator (stmt_of s.old)) }
 {
     match s {
-        Stmt::Block(stmts) => {
-            let mut out = Vec::new(alloc);
-            for stmt in stmts {
-                let changed = inner_reading(alloc, fresh, marks, iterator, stmt)?;
-                out.push(changed)?;
-            }
-            Ok(Stmt::Block(out))
+        Stmt::Block(stmts) => read_block(fresh, marks, iterator, stmts),
+        Stmt::Declare { value, .. } => read_option(fresh, marks, iterator, value),
+        Stmt::Assign { value, .. } => read_copies(fresh, marks, iterator, value),
+        Stmt::Reduce { values, .. } => read_all(fresh, marks, iterator, values),
+        Stmt::If { test, yes, no, .. } => {
+            read_copies(fresh, marks, iterator, test)?;
+            read_inner(fresh, marks, iterator, yes)?;
+            read_inner(fresh, marks, iterator, no)
         }
-        Stmt::Declare {
-            key,
-            variable,
-            value,
-        } => {
-            let value = option_reading(alloc, fresh, marks, iterator, value)?;
-            Ok(Stmt::Declare {
-                key,
-                variable,
-                value,
-            })
-        }
-        Stmt::Assign { key, target, value } => {
-            let value = reading(alloc, fresh, marks, iterator, value)?;
-            Ok(Stmt::Assign { key, target, value })
-        }
-        Stmt::Reduce {
-            key,
-            total,
-            reduce,
-            targets,
-            values,
-        } => {
-            let values = all_reading(alloc, fresh, marks, iterator, values)?;
-            Ok(Stmt::Reduce {
-                key,
-                total,
-                reduce,
-                targets,
-                values,
-            })
-        }
-        Stmt::If { key, test, yes, no } => {
-            let test = reading(alloc, fresh, marks, iterator, test)?;
-            let changed = inner_reading(alloc, fresh, marks, iterator, Box::into_inner(yes))?;
-            let yes = Box::new(alloc, changed)?;
-            let changed = inner_reading(alloc, fresh, marks, iterator, Box::into_inner(no))?;
-            let no = Box::new(alloc, changed)?;
-            Ok(Stmt::If { key, test, yes, no })
-        }
-        other => Ok(other),
+        Stmt::DeclareEdge { .. }
+        | Stmt::Defer { .. }
+        | Stmt::Group { .. }
+        | Stmt::Foreach { .. }
+        | Stmt::For { .. }
+        | Stmt::While { .. }
+        | Stmt::Do { .. }
+        | Stmt::InBfs { .. }
+        | Stmt::InBfsBoth { .. }
+        | Stmt::Return { .. } => Ok(()),
     }
 }
 
@@ -247,16 +185,24 @@ fn is_always(e: &Expr) -> bool
     }
 }
 
+// Two conditions that are to hold both.
+fn both(alloc: Global, first: Expr, second: Expr) -> Result<Expr, NoMemory>
+    ensures { IfOk result (λ r. expr_of r ≡ Program.Both (expr_of first) (expr_of second)) }
+{
+    let left = Box::new(alloc, first)?;
+    let right = Box::new(alloc, second)?;
+    Ok(Expr::Both(left, right))
+}
+
 // Two conditions, of which the second may be absent.
 pub(crate) fn conjunction(alloc: Global, first: Expr, second: Expr) -> Result<Expr, NoMemory>
     ensures { IfOk result (λ r. expr_of r ≡ Searches.conjunction (expr_of first) (expr_of second)) }
 {
     if is_always(&second) {
-        return Ok(first);
+        Ok(first)
+    } else {
+        both(alloc, first, second)
     }
-    let left = Box::new(alloc, first)?;
-    let right = Box::new(alloc, second)?;
-    Ok(Expr::Both(left, right))
 }
 
 // Whether the end of an inner loop's edge is on a level.
@@ -280,121 +226,126 @@ fn is_on(alloc: Global, fresh: Fresh, head: Head, level: u32) -> Result<Expr, No
     })
 }
 
-// An inner loop with its key, its place and its head.
-#[derive(Clone, Copy)]
-struct Loop {
-    key: Key,
-    place: Place,
-    head: Head,
+// A condition before another, which may be absent.
+fn conjoin(alloc: Global, first: Expr, second: &mut Expr) -> Result<(), NoMemory>
+    ensures { OnOk result (expr_of second.new ≡ Searches.conjunction (expr_of first) (expr_of second.old)) }
+{
+    let other = taken_value(second);
+    let both = conjunction(alloc, first, other)?;
+    put(second, both);
+    Ok(())
 }
 
-// An inner loop over the edges of a node in a direction whose other ends are on a level.
+// Changes an inner loop into one over the edges of a node in a direction whose other ends are on a level.
 fn ranged(
     alloc: Global,
     fresh: Fresh,
-    marks: &[bool],
-    around: Loop,
-    filter: Expr,
-    body: Stmt,
+    marks: &Marks,
+    head: &mut Head,
+    filter: &mut Expr,
+    body: &mut Stmt,
     domain: Domain,
     level: u32,
-) -> Result<Stmt, NoMemory>
-    ensures { IfOk result (λ r. stmt_of r ≡ Searches.ranged fresh marks.now around.key around.place around.head (expr_of filter) (stmt_of body) domain level) }
+) -> Result<(), NoMemory>
+    ensures { OnOk result ((key : Key) (place : Place) → Program.Foreach key place head.new (expr_of filter.new) (stmt_of body.new) ≡ Searches.ranged fresh marks.now key place head.old (expr_of filter.old) (stmt_of body.old) domain level) }
 {
-    let iterator = around.head.iterator;
-    let test = is_on(alloc, fresh, around.head, level)?;
-    let filter = reading(alloc, fresh, marks, iterator, filter)?;
-    let filter = conjunction(alloc, test, filter)?;
-    let body = inner_reading(alloc, fresh, marks, iterator, body)?;
-    Ok(Stmt::Foreach {
-        key: around.key,
-        place: around.place,
-        head: Head {
-            domain,
-            ..around.head
-        },
-        filter,
-        body: Box::new(alloc, body)?,
-    })
+    read_copies(fresh, marks, head.iterator, filter)?;
+    read_inner(fresh, marks, head.iterator, body)?;
+    let test = is_on(alloc, fresh, *head, level)?;
+    conjoin(alloc, test, filter)?;
+    head.domain = domain;
+    Ok(())
 }
 
-// An inner loop without ranges of levels.
+// Changes an inner loop into one without ranges of levels.
 fn inner_loop(
     alloc: Global,
     fresh: Fresh,
-    marks: &[bool],
-    around: Loop,
-    filter: Expr,
-    body: Stmt,
-) -> Result<Stmt, NoMemory>
-    ensures { IfOk result (λ r. stmt_of r ≡ Searches.inner_loop fresh marks.now around.key around.place around.head (expr_of filter) (stmt_of body) around.head.domain) }
+    marks: &Marks,
+    head: &mut Head,
+    filter: &mut Expr,
+    body: &mut Stmt,
+) -> Result<(), NoMemory>
+    ensures { OnOk result ((key : Key) (place : Place) → Program.Foreach key place head.new (expr_of filter.new) (stmt_of body.new) ≡ Searches.inner_loop fresh marks.now key place head.old (expr_of filter.old) (stmt_of body.old) head.old.domain) }
 {
-    match around.head.domain {
-        Domain::UpNbrs => ranged(
-            alloc,
-            fresh,
-            marks,
-            around,
-            filter,
-            body,
-            Domain::InNbrs,
-            fresh.up,
-        ),
-        Domain::DownNbrs => ranged(
-            alloc,
-            fresh,
-            marks,
-            around,
-            filter,
-            body,
-            Domain::OutNbrs,
-            fresh.down,
-        ),
-        Domain::Nodes | Domain::OutNbrs | Domain::InNbrs => Ok(Stmt::Foreach {
-            key: around.key,
-            place: around.place,
-            head: around.head,
-            filter,
-            body: Box::new(alloc, body)?,
-        }),
+    match head.domain {
+        Domain::UpNbrs => {
+            ranged(
+                alloc,
+                fresh,
+                marks,
+                head,
+                filter,
+                body,
+                Domain::InNbrs,
+                fresh.up,
+            )
+        }
+        Domain::DownNbrs => {
+            ranged(
+                alloc,
+                fresh,
+                marks,
+                head,
+                filter,
+                body,
+                Domain::OutNbrs,
+                fresh.down,
+            )
+        }
+        Domain::Nodes | Domain::OutNbrs | Domain::InNbrs => Ok(()),
     }
 }
 
-// The body of a part without ranges of levels.
+// Changes a block of a part into one without ranges of levels.
+#[cycle(levels)]
+fn levels_among(
+    alloc: Global,
+    fresh: Fresh,
+    marks: &Marks,
+    stmts: &mut Vec<Stmt>,
+) -> Result<(), NoMemory>
+    ensures { OnOk result (sequence (map stmt_of stmts.new.items) ≡ Searches.by_levels fresh marks.now (sequence (map stmt_of stmts.old.items))) }
+{
+    for stmt in stmts.iter_mut() {
+        by_levels(alloc, fresh, marks, stmt)?;
+    }
+    Ok(())
+}
+
+// Changes the body of a part into one without ranges of levels.
+#[cycle(levels)]
 pub(crate) fn by_levels(
     alloc: Global,
     fresh: Fresh,
-    marks: &[bool],
-    s: Stmt,
-) -> Result<Stmt, NoMemory>
-    ensures { IfOk result (λ r. stmt_of r ≡ Searches.by_levels fresh marks.now (stmt_of s)) }
+    marks: &Marks,
+    s: &mut Stmt,
+) -> Result<(), NoMemory>
+    ensures { OnOk result (stmt_of s.new ≡ Searches.by_levels fresh marks.now (stmt_of s.old)) }
 {
     match s {
-        Stmt::Block(stmts) => {
-            let mut out = Vec::new(alloc);
-            for stmt in stmts {
-                let changed = by_levels(alloc, fresh, marks, stmt)?;
-                out.push(changed)?;
-            }
-            Ok(Stmt::Block(out))
-        }
-        Stmt::If { key, test, yes, no } => {
-            let changed = by_levels(alloc, fresh, marks, Box::into_inner(yes))?;
-            let yes = Box::new(alloc, changed)?;
-            let changed = by_levels(alloc, fresh, marks, Box::into_inner(no))?;
-            let no = Box::new(alloc, changed)?;
-            Ok(Stmt::If { key, test, yes, no })
+        Stmt::Block(stmts) => levels_among(alloc, fresh, marks, stmts),
+        Stmt::If { yes, no, .. } => {
+            by_levels(alloc, fresh, marks, yes)?;
+            by_levels(alloc, fresh, marks, no)
         }
         Stmt::Foreach {
-            key,
-            place,
             head,
             filter,
             body,
-        } => {
-            let around = Loop { key, place, head };
-            inner_loop(alloc, fresh, marks, around, filter, Box::into_inner(body))
-        }
-        other => Ok(other),
+            ..
+        } => inner_loop(alloc, fresh, marks, head, filter, body),
+        Stmt::Declare { .. }
+        | Stmt::DeclareEdge { .. }
+        | Stmt::Assign { .. }
+        | Stmt::Defer { .. }
+        | Stmt::Reduce { .. }
+        | Stmt::Group { .. }
+        | Stmt::For { .. }
+        | Stmt::While { .. }
+        | Stmt::Do { .. }
+        | Stmt::InBfs { .. }
+        | Stmt::InBfsBoth { .. }
+        | Stmt::Return { .. } => Ok(()),
     }
 }

@@ -6,4 +6,4 @@ use Rattle.gm_bfs.proofs.marks.+reading.Given as goal
 
 -- what is left of the block, after what was marked, gives what the block does
 abbrev pub invariant-mark_inner_among-loop-stmt : goal.invariant-mark_inner_among-loop-stmt
-invariant-mark_inner_among-loop-stmt l = mark_inner l.changed l.iterator' (sequence (map stmt_of (drop l.stmt-index l.stmts.items))) l.marks.items ≡ mark_inner l.fn.changed l.fn.iterator (sequence (map stmt_of l.stmts.items)) l.initial.marks.items
+invariant-mark_inner_among-loop-stmt l = mark_inner l.changed l.iterator' (sequence (map stmt_of (drop l.stmt-index l.stmts.items))) l.marks ≡ mark_inner l.fn.changed l.fn.iterator (sequence (map stmt_of l.stmts.items)) l.initial.marks

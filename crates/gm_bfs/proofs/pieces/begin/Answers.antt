@@ -1,0 +1,9 @@
+use Rattle.std.proofs.Common.{ap, ◌∙◌, map}
+use Rattle.gm_ast.specs.Program.{sequence}
+use Rattle.gm_ast.specs.Tree.{stmt_of}
+use Rattle.gm_bfs.proofs.Added.{added-4, from-none}
+use Rattle.gm_bfs.proofs.pieces.begin.Goals as goal
+
+pub returns : goal.returns
+returns c = c.block.ensures ∙ ap sequence (from-none (map stmt_of c.new-stmts.result.items) _ _ (ap (map stmt_of) c.new-stmts.ensures.items) (added-4 (map stmt_of c.new-stmts.result.items) (map stmt_of c.add.new.stmts.items) (map stmt_of c.add-2.new.stmts.items) (map stmt_of c.add-3.new.stmts.items) (map stmt_of c.add-4.new.stmts.items) _ _ _ _ _ _ _ _
+    c.in_ok-add.ensures c.find_root.ensures c.in_ok-add-2.ensures c.in_ok-first_levels.ensures c.in_ok-add-3.ensures c.set_first.ensures c.in_ok-add-4.ensures c.set_more.ensures))
