@@ -3,10 +3,21 @@
 ghost use Rattle.std.specs.Prelude.{◌≡◌, IfOk};
 ghost use Rattle.gm_ast.specs.Tree.{expr_of};
 
+use crate::places::beside;
 use gm_ast::tree::Expr;
 use std::alloc::{AllocError, Global};
 
+// A copy of an expression in a box.
+#[cycle(copying)]
+fn copy_boxed(alloc: Global, e: &Box<Expr>) -> Result<Box<Expr>, AllocError>
+    ensures { IfOk result (λ r. expr_of r.value ≡ expr_of e.now.value) }
+{
+    let part = copy(alloc, e)?;
+    Ok(Box::new(alloc, part)?)
+}
+
 /// A copy of an expression, in time and memory linear in it.
+#[cycle(copying)]
 pub(crate) fn copy(alloc: Global, e: &Expr) -> Result<Expr, AllocError>
     ensures { IfOk result (λ r. expr_of r ≡ expr_of e.now) }
 {
@@ -50,8 +61,7 @@ pub(crate) fn copy(alloc: Global, e: &Expr) -> Result<Expr, AllocError>
             place: *place,
         }),
         Expr::Unary { op, place, inner } => {
-            let part = copy(alloc, inner)?;
-            let inner = Box::new(alloc, part)?;
+            let inner = copy_boxed(alloc, inner)?;
             Ok(Expr::Unary {
                 op: *op,
                 place: *place,
@@ -64,10 +74,8 @@ pub(crate) fn copy(alloc: Global, e: &Expr) -> Result<Expr, AllocError>
             left,
             right,
         } => {
-            let part = copy(alloc, left)?;
-            let left = Box::new(alloc, part)?;
-            let part = copy(alloc, right)?;
-            let right = Box::new(alloc, part)?;
+            let left = copy_boxed(alloc, left)?;
+            let (left, right) = beside(left, copy_boxed(alloc, right))?;
             Ok(Expr::Binary {
                 op: *op,
                 place: *place,
@@ -76,26 +84,19 @@ pub(crate) fn copy(alloc: Global, e: &Expr) -> Result<Expr, AllocError>
             })
         }
         Expr::Both(left, right) => {
-            let part = copy(alloc, left)?;
-            let left = Box::new(alloc, part)?;
-            let part = copy(alloc, right)?;
-            let right = Box::new(alloc, part)?;
+            let left = copy_boxed(alloc, left)?;
+            let (left, right) = beside(left, copy_boxed(alloc, right))?;
             Ok(Expr::Both(left, right))
         }
         Expr::Either(left, right) => {
-            let part = copy(alloc, left)?;
-            let left = Box::new(alloc, part)?;
-            let part = copy(alloc, right)?;
-            let right = Box::new(alloc, part)?;
+            let left = copy_boxed(alloc, left)?;
+            let (left, right) = beside(left, copy_boxed(alloc, right))?;
             Ok(Expr::Either(left, right))
         }
         Expr::Choose(test, yes, no) => {
-            let part = copy(alloc, test)?;
-            let test = Box::new(alloc, part)?;
-            let part = copy(alloc, yes)?;
-            let yes = Box::new(alloc, part)?;
-            let part = copy(alloc, no)?;
-            let no = Box::new(alloc, part)?;
+            let test = copy_boxed(alloc, test)?;
+            let (test, yes) = beside(test, copy_boxed(alloc, yes))?;
+            let ((test, yes), no) = beside((test, yes), copy_boxed(alloc, no))?;
             Ok(Expr::Choose(test, yes, no))
         }
         Expr::Fold {
@@ -104,10 +105,8 @@ pub(crate) fn copy(alloc: Global, e: &Expr) -> Result<Expr, AllocError>
             filter,
             body,
         } => {
-            let part = copy(alloc, filter)?;
-            let filter = Box::new(alloc, part)?;
-            let part = copy(alloc, body)?;
-            let body = Box::new(alloc, part)?;
+            let filter = copy_boxed(alloc, filter)?;
+            let (filter, body) = beside(filter, copy_boxed(alloc, body))?;
             Ok(Expr::Fold {
                 fold: *fold,
                 head: *head,

@@ -15,3 +15,4 @@ mod copies;
 pub mod laws;
 mod own;
 pub mod pieces;
+mod places;

@@ -5,7 +5,7 @@
 //! condition and under the other side of it, beside the filter of the loop. One walk over the body finds the pieces, in
 //! time linear in it times the depth of its Ifs, but for the masks, which are copied for each piece.
 
-ghost use Rattle.std.specs.Prelude.{◌≡◌, ◌∷◌, [], ◌++◌, ◌||◌, true, false, IfOk, box_value, map};
+ghost use Rattle.std.specs.Prelude.{◌≡◌, ◌∷◌, [], ◌++◌, ◌||◌, true, false, IfOk, OnOk, map};
 ghost use Rattle.gm_value.specs.declared.operations.Op1.TheVariants.{Not};
 ghost use Rattle.gm_ast.specs.Program as Program;
 ghost use Rattle.gm_ast.specs.Program.{sequence};
@@ -21,6 +21,7 @@ ghost use Rattle.gm_cut.specs.Walks.{adds_in, branch_pieces, cut_pieces, is_bloc
 
 use crate::copies::copy;
 use crate::own::{adds_beyond, is_own, joins};
+use crate::places::{beside, both_boxed, finish, put, taken, taken_value, with_boxed, with_pushed};
 use gm_ast::forms::Work;
 use gm_ast::tree::{Expr, Head, Key, Stmt, Tree};
 use gm_base::{NoMemory, Place};
@@ -36,9 +37,17 @@ pub fn cut_bodies(alloc: Global, program: Work) -> Result<Work, NoMemory>
     ensures cut { IfOk result (λ r. (kind : Kind) → Ready2 (program_of program) → can_be_parted kind (program_of program) ≡ true → IsCutBy kind (program_of r)) }
     ensures ready { IfOk result (λ r. Ready2 (program_of program) → can_be_parted has_a_way (program_of program) ≡ true → Ready3 (program_of r)) }
 {
-    let tree = program.into_tree();
-    let body = cut_phase(alloc, tree.body)?;
-    Ok(Work::new(Tree { body, ..tree }))
+    let mut tree = program.into_tree();
+    let outcome = cut_tree(alloc, &mut tree);
+    finish(tree, outcome)
+}
+
+// The same of a tree.
+fn cut_tree(alloc: Global, tree: &mut Tree) -> Result<(), NoMemory>
+    ensures { OnOk result (program_of tree.new ≡ in_pieces (program_of tree.old)) }
+{
+    cut_phase(alloc, &mut tree.body)?;
+    Ok(())
 }
 
 // What the loops of all pieces of a body have.
@@ -71,12 +80,11 @@ fn begin(alloc: Global, loops: Vec<Stmt>) -> Walk
     }
 }
 
-// The loop of a piece.
-fn loop_of(alloc: Global, site: Site, mask: &Expr, body: Stmt) -> Result<Stmt, AllocError>
-    ensures { IfOk result (λ r. stmt_of r ≡ Program.Foreach site.key site.place site.head (expr_of mask.now) (stmt_of body)) }
+// The loop of a body.
+fn whole_loop(alloc: Global, site: Site, filter: Expr, body: Stmt) -> Result<Stmt, AllocError>
+    ensures { IfOk result (λ r. stmt_of r ≡ Program.Foreach site.key site.place site.head (expr_of filter) (stmt_of body)) }
 {
-    let filter = copy(alloc, mask)?;
-    let body = Box::new(alloc, body)?;
+    let (filter, body) = with_boxed(alloc, filter, body)?;
     Ok(Stmt::Foreach {
         key: site.key,
         place: site.place,
@@ -86,6 +94,14 @@ fn loop_of(alloc: Global, site: Site, mask: &Expr, body: Stmt) -> Result<Stmt, A
     })
 }
 
+// The loop of a piece.
+fn loop_of(alloc: Global, site: Site, mask: &Expr, body: Stmt) -> Result<Stmt, AllocError>
+    ensures { IfOk result (λ r. stmt_of r ≡ Program.Foreach site.key site.place site.head (expr_of mask.now) (stmt_of body)) }
+{
+    let (body, filter) = beside(body, copy(alloc, mask))?;
+    whole_loop(alloc, site, filter, body)
+}
+
 // One more own statement in the run.
 fn join(site: Site, stmt: Stmt, walk: Walk) -> Result<Walk, AllocError>
     ensures loops { IfOk result (λ r. r.loops ≡ walk.loops) }
@@ -93,13 +109,8 @@ fn join(site: Site, stmt: Stmt, walk: Walk) -> Result<Walk, AllocError>
     ensures adds { IfOk result (λ r. r.adds ≡ walk.adds || Own.adds_beyond site.head.iterator (stmt_of stmt)) }
 {
     let adds = walk.adds || adds_beyond(site.head.iterator, &stmt);
-    let mut run = walk.run;
-    run.push(stmt)?;
-    Ok(Walk {
-        loops: walk.loops,
-        run,
-        adds,
-    })
+    let (loops, run) = with_pushed(walk.loops, walk.run, stmt)?;
+    Ok(Walk { loops, run, adds })
 }
 
 // The walk behind the loop of its run, if that has statements.
@@ -108,12 +119,13 @@ fn close(alloc: Global, site: Site, mask: &Expr, walk: Walk) -> Result<Walk, All
     ensures run { IfOk result (λ r. r.run.items ≡ []) }
     ensures adds { IfOk result (λ r. r.adds ≡ false) }
 {
-    if walk.run.is_empty() {
-        return Ok(begin(alloc, walk.loops));
+    let Walk { loops, run, adds } = walk;
+    if run.is_empty() {
+        drop(run);
+        return Ok(begin(alloc, loops));
     }
-    let piece = loop_of(alloc, site, mask, Stmt::Block(walk.run))?;
-    let mut loops = walk.loops;
-    loops.push(piece)?;
+    let (loops, piece) = beside(loops, loop_of(alloc, site, mask, Stmt::Block(run)))?;
+    let (_adds, loops) = with_pushed(adds, loops, piece)?;
     Ok(begin(alloc, loops))
 }
 
@@ -131,13 +143,31 @@ fn negated(alloc: Global, place: Place, test: &Expr) -> Result<Expr, AllocError>
 }
 
 // A condition beside a mask.
-fn beside(alloc: Global, mask: &Expr, test: Expr) -> Result<Expr, AllocError>
+fn under(alloc: Global, mask: &Expr, test: Expr) -> Result<Expr, AllocError>
     ensures { IfOk result (λ r. expr_of r ≡ Program.Both (expr_of mask.now) (expr_of test)) }
 {
-    let part = copy(alloc, mask)?;
-    let left = Box::new(alloc, part)?;
-    let right = Box::new(alloc, test)?;
+    let (test, mask) = beside(test, copy(alloc, mask))?;
+    let (left, right) = both_boxed(alloc, mask, test)?;
     Ok(Expr::Both(left, right))
+}
+
+// The loops of the pieces of a branch, under a filter.
+#[cycle(walking)]
+fn cut_under(
+    alloc: Global,
+    site: Site,
+    s: Stmt,
+    filter: &Expr,
+    walk: Walk,
+) -> Result<Walk, AllocError>
+    requires run { walk.run.items ≡ [] }
+    requires adds { walk.adds ≡ false }
+    ensures loops { IfOk result (λ r. map stmt_of r.loops.items ≡ map stmt_of walk.loops.items ++ loops_of site.key site.place site.head (branch_pieces site.head.iterator site.place (expr_of filter.now) (stmt_of s))) }
+    ensures run { IfOk result (λ r. r.run.items ≡ []) }
+    ensures adds { IfOk result (λ r. r.adds ≡ false) }
+{
+    let behind = take(alloc, site, s, filter, walk)?;
+    close(alloc, site, filter, behind)
 }
 
 // The loops of the pieces of a branch, under a side of its condition.
@@ -156,9 +186,18 @@ fn cut_branch(
     ensures run { IfOk result (λ r. r.run.items ≡ []) }
     ensures adds { IfOk result (λ r. r.adds ≡ false) }
 {
-    let filter = beside(alloc, mask, test)?;
-    let behind = take(alloc, site, s, &filter, walk)?;
-    close(alloc, site, &filter, behind)
+    match under(alloc, mask, test) {
+        Ok(filter) => {
+            let outcome = cut_under(alloc, site, s, &filter, walk);
+            drop(filter);
+            outcome
+        }
+        Err(error) => {
+            drop(s);
+            drop(walk);
+            Err(error)
+        }
+    }
 }
 
 // The loops of the pieces of a statement that is not own.
@@ -193,10 +232,13 @@ fn push_loop(
     ensures run { IfOk result (λ r. r.run ≡ walk.run) }
     ensures adds { IfOk result (λ r. r.adds ≡ walk.adds) }
 {
-    let piece = loop_of(alloc, site, mask, body)?;
-    let mut loops = walk.loops;
-    loops.push(piece)?;
-    Ok(Walk { loops, ..walk })
+    let (walk, piece) = beside(walk, loop_of(alloc, site, mask, body))?;
+    let (run, loops) = with_pushed(walk.run, walk.loops, piece)?;
+    Ok(Walk {
+        loops,
+        run,
+        adds: walk.adds,
+    })
 }
 
 // A statement that is no block behind what the walk has come to.
@@ -211,11 +253,18 @@ fn take_one(alloc: Global, site: Site, s: Stmt, mask: &Expr, walk: Walk) -> Resu
     if joins(site.head.iterator, walk.adds, &s) {
         return join(site, s, walk);
     }
-    let closed = close(alloc, site, mask, walk)?;
-    if is_own(site.head.iterator, &s) {
-        return join(site, s, closed);
+    match close(alloc, site, mask, walk) {
+        Ok(closed) => {
+            if is_own(site.head.iterator, &s) {
+                return join(site, s, closed);
+            }
+            cut(alloc, site, s, mask, closed)
+        }
+        Err(error) => {
+            drop(s);
+            Err(error)
+        }
     }
-    cut(alloc, site, s, mask, closed)
 }
 
 // The statements of a block behind what the walk has come to.
@@ -254,112 +303,94 @@ fn take(alloc: Global, site: Site, s: Stmt, mask: &Expr, walk: Walk) -> Result<W
 }
 
 // The loops of the pieces of a body.
+fn all_pieces(alloc: Global, site: Site, mask: &Expr, body: Stmt) -> Result<Vec<Stmt>, AllocError>
+    ensures { IfOk result (λ r. map stmt_of r.items ≡ loops_of site.key site.place site.head (branch_pieces site.head.iterator site.place (expr_of mask.now) (stmt_of body))) }
+{
+    let walk = begin(alloc, Vec::new(alloc));
+    let behind = take(alloc, site, body, mask, walk)?;
+    let closed = close(alloc, site, mask, behind)?;
+    let Walk { loops, run, .. } = closed;
+    drop(run);
+    Ok(loops)
+}
+
+// The same in a block.
 fn part(alloc: Global, site: Site, mask: Expr, body: Stmt) -> Result<Stmt, AllocError>
     ensures { IfOk result (λ r. stmt_of r ≡ sequence (loops_of site.key site.place site.head (branch_pieces site.head.iterator site.place (expr_of mask) (stmt_of body)))) }
 {
-    let walk = begin(alloc, Vec::new(alloc));
-    let behind = take(alloc, site, body, &mask, walk)?;
-    let closed = close(alloc, site, &mask, behind)?;
-    Ok(Stmt::Block(closed.loops))
+    let outcome = all_pieces(alloc, site, &mask, body);
+    let (mask, loops) = beside(mask, outcome)?;
+    drop(mask);
+    Ok(Stmt::Block(loops))
 }
 
-// The loop of a whole body.
-fn whole_loop(site: Site, filter: Expr, body: Box<Stmt>) -> Stmt
-    ensures { stmt_of result ≡ Program.Foreach site.key site.place site.head (expr_of filter) (stmt_of (box_value body)) }
+// A loop over nodes, in pieces if it is not of own statements. Its filter and its body are taken out.
+fn part_loop(
+    alloc: Global,
+    site: Site,
+    filter: &mut Expr,
+    body: &mut Stmt,
+) -> Result<Stmt, AllocError>
+    ensures { IfOk result (λ r. stmt_of r ≡ parted_loop site.key site.place site.head (expr_of filter.old) (stmt_of body.old)) }
 {
-    Stmt::Foreach {
-        key: site.key,
-        place: site.place,
-        head: site.head,
-        filter,
-        body,
-    }
-}
-
-// A loop over nodes, in pieces if it is not of own statements.
-fn part_loop(alloc: Global, site: Site, filter: Expr, body: Box<Stmt>) -> Result<Stmt, AllocError>
-    ensures { IfOk result (λ r. stmt_of r ≡ parted_loop site.key site.place site.head (expr_of filter) (stmt_of (box_value body))) }
-{
+    let filter = taken_value(filter);
+    let body = taken(alloc, body);
     if is_own(site.head.iterator, &body) {
-        return Ok(whole_loop(site, filter, body));
+        return whole_loop(alloc, site, filter, body);
     }
-    part(alloc, site, filter, Box::into_inner(body))
+    part(alloc, site, filter, body)
 }
 
-// The sequential phase with each of its loops so.
-fn cut_phase(alloc: Global, s: Stmt) -> Result<Stmt, AllocError>
-    ensures { IfOk result (λ r. stmt_of r ≡ each_loop parted_loop (stmt_of s)) }
+// Each loop of a block of the sequential phase comes in pieces so.
+#[cycle(cutting)]
+fn cut_block(alloc: Global, stmts: &mut Vec<Stmt>) -> Result<(), AllocError>
+    ensures { OnOk result (sequence (map stmt_of stmts.new.items) ≡ each_loop parted_loop (sequence (map stmt_of stmts.old.items))) }
+{
+    for i in 0..stmts.len() {
+        cut_phase(alloc, &mut stmts[i])?;
+    }
+    Ok(())
+}
+
+// The same of a sequential phase in a box.
+#[cycle(cutting)]
+fn cut_part(alloc: Global, s: &mut Box<Stmt>) -> Result<(), AllocError>
+    ensures { OnOk result (stmt_of s.new.value ≡ each_loop parted_loop (stmt_of s.old.value)) }
+{
+    cut_phase(alloc, s)?;
+    Ok(())
+}
+
+// The same of a sequential phase.
+#[cycle(cutting)]
+fn cut_phase(alloc: Global, s: &mut Stmt) -> Result<(), AllocError>
+    ensures { OnOk result (stmt_of s.new ≡ each_loop parted_loop (stmt_of s.old)) }
 {
     match s {
-        Stmt::Block(stmts) => {
-            let mut out = Vec::new(alloc);
-            for stmt in stmts {
-                let changed = cut_phase(alloc, stmt)?;
-                out.push(changed)?;
-            }
-            Ok(Stmt::Block(out))
-        }
+        Stmt::Block(stmts) => cut_block(alloc, stmts),
         Stmt::Foreach {
             key,
             place,
             head,
             filter,
             body,
-        } => part_loop(alloc, Site { key, place, head }, filter, body),
-        Stmt::For {
-            key,
-            place,
-            head,
-            filter,
-            body,
         } => {
-            let changed = cut_phase(alloc, Box::into_inner(body))?;
-            let body = Box::new(alloc, changed)?;
-            Ok(Stmt::For {
-                key,
-                place,
-                head,
-                filter,
-                body,
-            })
+            let site = Site {
+                key: *key,
+                place: *place,
+                head: *head,
+            };
+            let new = part_loop(alloc, site, filter, body)?;
+            put(s, new);
+            Ok(())
         }
-        Stmt::If { key, test, yes, no } => {
-            let changed = cut_phase(alloc, Box::into_inner(yes))?;
-            let yes = Box::new(alloc, changed)?;
-            let changed = cut_phase(alloc, Box::into_inner(no))?;
-            let no = Box::new(alloc, changed)?;
-            Ok(Stmt::If { key, test, yes, no })
+        Stmt::For { body, .. } => cut_part(alloc, body),
+        Stmt::If { yes, no, .. } => {
+            cut_part(alloc, yes)?;
+            cut_part(alloc, no)
         }
-        Stmt::While {
-            key,
-            place,
-            test,
-            body,
-        } => {
-            let changed = cut_phase(alloc, Box::into_inner(body))?;
-            let body = Box::new(alloc, changed)?;
-            Ok(Stmt::While {
-                key,
-                place,
-                test,
-                body,
-            })
-        }
-        Stmt::Do {
-            key,
-            place,
-            body,
-            test,
-        } => {
-            let changed = cut_phase(alloc, Box::into_inner(body))?;
-            let body = Box::new(alloc, changed)?;
-            Ok(Stmt::Do {
-                key,
-                place,
-                body,
-                test,
-            })
-        }
-        other => Ok(other),
+        Stmt::While { body, .. } => cut_part(alloc, body),
+        Stmt::Do { body, .. } => cut_part(alloc, body),
+        _ => Ok(()),
     }
 }

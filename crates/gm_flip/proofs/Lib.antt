@@ -1,5 +1,6 @@
 pub mod Basics
 pub mod Trees
+pub mod Partly
 pub mod Turns
 pub mod Reductions
 pub mod Sane

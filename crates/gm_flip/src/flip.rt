@@ -1,13 +1,15 @@
 //! Loops that pull, turned into the loops of their other ends.
 
-ghost use Rattle.std.specs.Prelude.{◌≡◌, IfOk, box_value, true};
+ghost use Rattle.std.specs.Prelude.{◌≡◌, IfOk, OnOk, map};
 ghost use Rattle.gm_ast.specs.Program as Program;
+ghost use Rattle.gm_ast.specs.Program.{sequence};
 ghost use Rattle.gm_ast.specs.Tree.{expr_of, program_of, stmt_of};
 ghost use Rattle.gm_forms.specs.Flip as Flip;
 ghost use Rattle.gm_forms.specs.Passes.{Pass};
 ghost use Rattle.gm_forms.specs.Ready.{Ready3, Ready4};
 ghost use Rattle.gm_flip.specs.Flipped as Flipped;
 
+use crate::places::{beside, both_boxed, finish, put, taken, taken_value, with_boxed};
 use crate::pulling::pulls;
 use gm_ast::forms::Work;
 use gm_ast::tree::{Domain, Expr, Head, Key, Stage, Stmt, Tree};
@@ -21,9 +23,17 @@ pub fn flip(alloc: Global, program: Work) -> Result<Work, NoMemory>
     ensures made { IfOk result (λ r. program_of r ≡ Flipped.without_pulls (program_of program)) }
     ensures passes { IfOk result (λ r. Pass Ready3 Ready4 (program_of program) (program_of r)) }
 {
-    let tree = program.into_tree();
-    let body = flip_phase(alloc, tree.body)?;
-    Ok(Work::new(Tree { body, ..tree }))
+    let mut tree = program.into_tree();
+    let outcome = flip_tree(alloc, &mut tree);
+    finish(tree, outcome)
+}
+
+// The same of a tree.
+fn flip_tree(alloc: Global, tree: &mut Tree) -> Result<(), NoMemory>
+    ensures { OnOk result (program_of tree.new ≡ Flipped.without_pulls (program_of tree.old)) }
+{
+    flip_phase(alloc, &mut tree.body)?;
+    Ok(())
 }
 
 // The same edges, from their other ends.
@@ -86,10 +96,10 @@ fn join(alloc: Global, mask: Expr, filter: Expr) -> Result<Expr, AllocError>
     ensures { IfOk result (λ r. expr_of r ≡ Flipped.joined (expr_of mask) (expr_of filter)) }
 {
     if is_always(&mask) {
+        drop(mask);
         return Ok(filter);
     }
-    let mask = Box::new(alloc, mask)?;
-    let filter = Box::new(alloc, filter)?;
+    let (mask, filter) = both_boxed(alloc, mask, filter)?;
     Ok(Expr::Both(mask, filter))
 }
 
@@ -104,7 +114,7 @@ fn loop_of(
 ) -> Result<Stmt, AllocError>
     ensures { IfOk result (λ r. stmt_of r ≡ Program.Foreach key place head (expr_of filter) (stmt_of body)) }
 {
-    let body = Box::new(alloc, body)?;
+    let (filter, body) = with_boxed(alloc, filter, body)?;
     Ok(Stmt::Foreach {
         key,
         place,
@@ -134,7 +144,7 @@ fn turn(
             filter,
             body,
         } => {
-            let filter = join(alloc, mask, filter)?;
+            let (body, filter) = beside(body, join(alloc, mask, filter))?;
             let pushing = Stmt::Foreach {
                 key: inner_key,
                 place: inner_place,
@@ -164,104 +174,71 @@ fn turn(
     }
 }
 
-// A loop over all nodes, turned where it pulls.
+// A loop over all nodes, turned where it pulls. Its filter and its body are taken out.
 fn flip_loop(
     alloc: Global,
     key: Key,
     place: Place,
     head: Head,
-    filter: Expr,
-    body: Box<Stmt>,
+    filter: &mut Expr,
+    body: &mut Stmt,
 ) -> Result<Stmt, AllocError>
-    ensures { IfOk result (λ r. stmt_of r ≡ Flipped.flipped_loop key place head (expr_of filter) (stmt_of (box_value body))) }
+    ensures { IfOk result (λ r. stmt_of r ≡ Flipped.flipped_loop key place head (expr_of filter.old) (stmt_of body.old)) }
 {
+    let filter = taken_value(filter);
+    let body = taken(alloc, body);
     if pulls(head.iterator, &body) {
-        turn(alloc, key, place, head, filter, Box::into_inner(body))
+        turn(alloc, key, place, head, filter, body)
     } else {
-        Ok(Stmt::Foreach {
-            key,
-            place,
-            head,
-            filter,
-            body,
-        })
+        loop_of(alloc, key, place, head, filter, body)
     }
 }
 
-// The sequential phase with each of its loops turned where it pulls.
-fn flip_phase(alloc: Global, s: Stmt) -> Result<Stmt, AllocError>
-    ensures { IfOk result (λ r. stmt_of r ≡ Flipped.flipped (stmt_of s)) }
+// Each loop of a block of the sequential phase is turned where it pulls.
+#[cycle(flipping)]
+fn flip_block(alloc: Global, stmts: &mut Vec<Stmt>) -> Result<(), AllocError>
+    ensures { OnOk result (sequence (map stmt_of stmts.new.items) ≡ Flipped.flipped (sequence (map stmt_of stmts.old.items))) }
+{
+    for i in 0..stmts.len() {
+        flip_phase(alloc, &mut stmts[i])?;
+    }
+    Ok(())
+}
+
+// The same of a sequential phase in a box.
+#[cycle(flipping)]
+fn flip_part(alloc: Global, s: &mut Box<Stmt>) -> Result<(), AllocError>
+    ensures { OnOk result (stmt_of s.new.value ≡ Flipped.flipped (stmt_of s.old.value)) }
+{
+    flip_phase(alloc, s)?;
+    Ok(())
+}
+
+// The same of a sequential phase.
+#[cycle(flipping)]
+fn flip_phase(alloc: Global, s: &mut Stmt) -> Result<(), AllocError>
+    ensures { OnOk result (stmt_of s.new ≡ Flipped.flipped (stmt_of s.old)) }
 {
     match s {
-        Stmt::Block(stmts) => {
-            let mut out = Vec::new(alloc);
-            for stmt in stmts {
-                let changed = flip_phase(alloc, stmt)?;
-                out.push(changed)?;
-            }
-            Ok(Stmt::Block(out))
-        }
+        Stmt::Block(stmts) => flip_block(alloc, stmts),
         Stmt::Foreach {
             key,
             place,
             head,
             filter,
             body,
-        } => flip_loop(alloc, key, place, head, filter, body),
-        Stmt::For {
-            key,
-            place,
-            head,
-            filter,
-            body,
         } => {
-            let changed = flip_phase(alloc, Box::into_inner(body))?;
-            let body = Box::new(alloc, changed)?;
-            Ok(Stmt::For {
-                key,
-                place,
-                head,
-                filter,
-                body,
-            })
+            let new = flip_loop(alloc, *key, *place, *head, filter, body)?;
+            put(s, new);
+            Ok(())
         }
-        Stmt::If { key, test, yes, no } => {
-            let changed = flip_phase(alloc, Box::into_inner(yes))?;
-            let yes = Box::new(alloc, changed)?;
-            let changed = flip_phase(alloc, Box::into_inner(no))?;
-            let no = Box::new(alloc, changed)?;
-            Ok(Stmt::If { key, test, yes, no })
+        Stmt::For { body, .. } => flip_part(alloc, body),
+        Stmt::If { yes, no, .. } => {
+            flip_part(alloc, yes)?;
+            flip_part(alloc, no)
         }
-        Stmt::While {
-            key,
-            place,
-            test,
-            body,
-        } => {
-            let changed = flip_phase(alloc, Box::into_inner(body))?;
-            let body = Box::new(alloc, changed)?;
-            Ok(Stmt::While {
-                key,
-                place,
-                test,
-                body,
-            })
-        }
-        Stmt::Do {
-            key,
-            place,
-            body,
-            test,
-        } => {
-            let changed = flip_phase(alloc, Box::into_inner(body))?;
-            let body = Box::new(alloc, changed)?;
-            Ok(Stmt::Do {
-                key,
-                place,
-                body,
-                test,
-            })
-        }
-        other => Ok(other),
+        Stmt::While { body, .. } => flip_part(alloc, body),
+        Stmt::Do { body, .. } => flip_part(alloc, body),
+        _ => Ok(()),
     }
 }

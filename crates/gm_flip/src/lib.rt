@@ -7,9 +7,10 @@
 //!
 //! The pass is a function on trees in `specs/` (`without_pulls`), the code that gives what this function gives, and a
 //! law: the result means the same for every graph, all arguments and every bound, keeps what every pass keeps
-//! (`IsSane`), and has the next form. The tree is rebuilt by value, and no part is copied, so time and memory are
+//! (`IsSane`), and has the next form. The tree is changed in place, and no part is copied, so time and memory are
 //! linear in it.
 #![tactic(auto)]
 
 pub mod flip;
+mod places;
 mod pulling;

@@ -9,7 +9,7 @@ use Rattle.gm_ast.specs.Tree.{expr_of, stmt_of}
 use Rattle.gm_dissect.proofs.Trees.{stmt_of-Block, nothing_left, ok-then}
 use Rattle.gm_cut.specs.Own.{adds_beyond}
 use Rattle.gm_cut.specs.Taken.{Taken, run_piece}
-use Rattle.gm_cut.specs.Walks.{adds_in, cut_pieces, loops_of, walked}
+use Rattle.gm_cut.specs.Walks.{adds_in, branch_pieces, cut_pieces, loops_of, walked}
 use Rattle.gm_cut.proofs.Walks.{adds_more, joined-walk, alone-walk, cut-walk, loops_behind, step_loops, step_run, both_branches, branch_end, block_piece, ok-both}
 use Rattle.gm_cut.proofs.pieces.+walking.Goals as goal
 
@@ -47,19 +47,31 @@ cut-returns-in-Block-clause-loops t c =
     ok-then c.push_loop.result c.push_loop.ensures.loops (λ r e.
     e ∙ ap (λ s. xs ++ (Foreach k at h mask s ∷ [])) block ∙ ap (λ ps. xs ++ loops_of k at h ps) (block_piece n at mask items) ∙ ap (λ s. xs ++ loops_of k at h (cut_pieces n at mask s)) (sym whole))
 
-pub cut_branch-returns-clause-loops : goal.cut_branch-returns-clause-loops
-cut_branch-returns-clause-loops t c =
+pub cut_under-returns-clause-loops : goal.cut_under-returns-clause-loops
+cut_under-returns-clause-loops t c =
     let site = c.args.site in
     ok-then c.close.result c.close.ensures.loops (λ r e.
-    branch_end site.key site.place site.head (expr_of c.in_ok-filter.filter) _ (stmt_of c.args.s) (map stmt_of c.args.walk.run.items) (map stmt_of c.in_ok-behind.behind.run.items)
+    branch_end site.key site.place site.head (expr_of c.args.filter.now) (expr_of c.args.filter.now) (stmt_of c.args.s) (map stmt_of c.args.walk.run.items) (map stmt_of c.in_ok-behind.behind.run.items)
     (map stmt_of c.args.walk.loops.items) (map stmt_of c.in_ok-behind.behind.loops.items) (map stmt_of r.loops.items)
-    c.in_ok-filter.ensures (ap (map stmt_of) c.requires.run) c.in_ok-behind.ensures.loops c.in_ok-behind.ensures.run e)
+    refl (ap (map stmt_of) c.requires.run) c.in_ok-behind.ensures.loops c.in_ok-behind.ensures.run e)
 
-pub cut_branch-returns-clause-run : goal.cut_branch-returns-clause-run
-cut_branch-returns-clause-run t c = c.close.ensures.run
+pub cut_under-returns-clause-run : goal.cut_under-returns-clause-run
+cut_under-returns-clause-run t c = c.close.ensures.run
 
-pub cut_branch-returns-clause-adds : goal.cut_branch-returns-clause-adds
-cut_branch-returns-clause-adds t c = c.close.ensures.adds
+pub cut_under-returns-clause-adds : goal.cut_under-returns-clause-adds
+cut_under-returns-clause-adds t c = c.close.ensures.adds
+
+pub cut_branch-returns-in-Ok-clause-loops : goal.cut_branch-returns-in-Ok-clause-loops
+cut_branch-returns-in-Ok-clause-loops t c =
+    let site = c.args.site in
+    let xs = map stmt_of c.args.walk.loops.items in
+    ok-then c.cut_under-outcome.result c.cut_under-outcome.ensures.loops (λ r e. e ∙ ap (λ f. xs ++ loops_of site.key site.place site.head (branch_pieces site.head.iterator site.place f (stmt_of c.args.s))) c.in-Ok.ensures)
+
+pub cut_branch-returns-in-Ok-clause-run : goal.cut_branch-returns-in-Ok-clause-run
+cut_branch-returns-in-Ok-clause-run t c = c.cut_under-outcome.ensures.run
+
+pub cut_branch-returns-in-Ok-clause-adds : goal.cut_branch-returns-in-Ok-clause-adds
+cut_branch-returns-in-Ok-clause-adds t c = c.cut_under-outcome.ensures.adds
 
 pub take-returns-in-Block-clause-loops : goal.take-returns-in-Block-clause-loops
 take-returns-in-Block-clause-loops t c =
@@ -185,7 +197,7 @@ take_one-returns-then-is_own-clause-loops t c =
     let s = stmt_of c.args.s in
     let xs = map stmt_of c.args.walk.loops.items in
     let step = alone-walk n at mask run s c.args.walk.adds c.requires.single c.requires.adds (sym c.if-joins.false ∙ c.joins.ensures) (sym c.if-is_own.true ∙ c.is_own.ensures) in
-    ok-then c.join-then-is_own.result c.join-then-is_own.ensures.loops (λ r e. ap (λ (l : Vec S.Stmt). map stmt_of l.items) e ∙ c.in_ok-closed.ensures.loops ∙ ap (λ (w : Taken). xs ++ loops_of k at h w.pieces) step)
+    ok-then c.join-then-is_own.result c.join-then-is_own.ensures.loops (λ r e. ap (λ (l : Vec S.Stmt). map stmt_of l.items) e ∙ c.in-Ok.ensures.loops ∙ ap (λ (w : Taken). xs ++ loops_of k at h w.pieces) step)
 
 pub take_one-returns-then-is_own-clause-run : goal.take_one-returns-then-is_own-clause-run
 take_one-returns-then-is_own-clause-run t c =
@@ -195,17 +207,17 @@ take_one-returns-then-is_own-clause-run t c =
     let run = map stmt_of c.args.walk.run.items in
     let s = stmt_of c.args.s in
     let step = alone-walk n at mask run s c.args.walk.adds c.requires.single c.requires.adds (sym c.if-joins.false ∙ c.joins.ensures) (sym c.if-is_own.true ∙ c.is_own.ensures) in
-    ok-then c.join-then-is_own.result c.join-then-is_own.ensures.run (λ r e. e ∙ ap (λ l. map stmt_of l ++ (s ∷ [])) c.in_ok-closed.ensures.run ∙ ap (λ (w : Taken). w.run) step)
+    ok-then c.join-then-is_own.result c.join-then-is_own.ensures.run (λ r e. e ∙ ap (λ l. map stmt_of l ++ (s ∷ [])) c.in-Ok.ensures.run ∙ ap (λ (w : Taken). w.run) step)
 
 pub take_one-returns-then-is_own-clause-adds : goal.take_one-returns-then-is_own-clause-adds
 take_one-returns-then-is_own-clause-adds t c =
     let n = c.args.site.head.iterator in
     let s = stmt_of c.args.s in
     ok-both c.join-then-is_own.result c.join-then-is_own.ensures.adds c.join-then-is_own.ensures.run (λ r a e.
-    a ∙ ap (λ b. b || adds_beyond n s) c.in_ok-closed.ensures.adds ∙ sym (adds_more n [] s) ∙ ap (adds_in n) (sym (e ∙ ap (λ l. map stmt_of l ++ (s ∷ [])) c.in_ok-closed.ensures.run)))
+    a ∙ ap (λ b. b || adds_beyond n s) c.in-Ok.ensures.adds ∙ sym (adds_more n [] s) ∙ ap (adds_in n) (sym (e ∙ ap (λ l. map stmt_of l ++ (s ∷ [])) c.in-Ok.ensures.run)))
 
-pub take_one-returns-clause-loops : goal.take_one-returns-clause-loops
-take_one-returns-clause-loops t c =
+pub take_one-returns-else-is_own-clause-loops : goal.take_one-returns-else-is_own-clause-loops
+take_one-returns-else-is_own-clause-loops t c =
     let k = c.args.site.key in
     let at = c.args.site.place in
     let h = c.args.site.head in
@@ -216,10 +228,10 @@ take_one-returns-clause-loops t c =
     let xs = map stmt_of c.args.walk.loops.items in
     let step = cut-walk n at mask run s c.args.walk.adds c.requires.single c.requires.adds (sym c.if-joins.false ∙ c.joins.ensures) (sym c.if-is_own.false ∙ c.is_own.ensures) in
     let more = cut_pieces n at mask s in
-    ok-then c.cut.result c.cut.ensures.loops (λ r e. e ∙ ap (λ l. l ++ loops_of k at h more) c.in_ok-closed.ensures.loops ∙ loops_behind k at h xs (run_piece mask run) more ∙ ap (λ (w : Taken). xs ++ loops_of k at h w.pieces) step)
+    ok-then c.cut.result c.cut.ensures.loops (λ r e. e ∙ ap (λ l. l ++ loops_of k at h more) c.in-Ok.ensures.loops ∙ loops_behind k at h xs (run_piece mask run) more ∙ ap (λ (w : Taken). xs ++ loops_of k at h w.pieces) step)
 
-pub take_one-returns-clause-run : goal.take_one-returns-clause-run
-take_one-returns-clause-run t c =
+pub take_one-returns-else-is_own-clause-run : goal.take_one-returns-else-is_own-clause-run
+take_one-returns-else-is_own-clause-run t c =
     let at = c.args.site.place in
     let n = c.args.site.head.iterator in
     let mask = expr_of c.args.mask.now in
@@ -228,7 +240,7 @@ take_one-returns-clause-run t c =
     let step = cut-walk n at mask run s c.args.walk.adds c.requires.single c.requires.adds (sym c.if-joins.false ∙ c.joins.ensures) (sym c.if-is_own.false ∙ c.is_own.ensures) in
     ok-then c.cut.result c.cut.ensures.run (λ r e. ap (map stmt_of) e ∙ ap (λ (w : Taken). w.run) step)
 
-pub take_one-returns-clause-adds : goal.take_one-returns-clause-adds
-take_one-returns-clause-adds t c =
+pub take_one-returns-else-is_own-clause-adds : goal.take_one-returns-else-is_own-clause-adds
+take_one-returns-else-is_own-clause-adds t c =
     let n = c.args.site.head.iterator in
     ok-both c.cut.result c.cut.ensures.adds c.cut.ensures.run (λ r a e. a ∙ ap (λ l. adds_in n (map stmt_of l)) (sym e))
