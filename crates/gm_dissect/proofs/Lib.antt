@@ -3,6 +3,8 @@ pub mod Phases
 pub mod DeferredLoops
 pub mod DeferredLaws
 pub mod Trees
+pub mod Partly
+pub mod InPlace
 pub mod Longer
 pub mod Undeferred
 pub mod Setting

@@ -1,6 +1,6 @@
 -- The syntax of a block.
-use Rattle.std.proofs.Common.{◌≡◌, ◌+◌, ◌<◌, List, [], ◌∷◌, ◌++◌, length, ℕ, zero, suc, refl, ap, ◌∙◌, map, drop, rules, arith, Option, Result, Ok, Err}
-use Rattle.std.specs.Prelude.{IfOk}
+use Rattle.std.proofs.Common.{◌≡◌, ◌+◌, ◌<◌, List, [], ◌∷◌, ◌++◌, length, ℕ, zero, suc, refl, sym, subst, true, true≢false, ap, ◌∙◌, map, drop, rules, arith, Option, Result, Ok, Err}
+use Rattle.std.specs.Prelude.{IfOk, OnOk, is_ok}
 use Rattle.std.specs.Global.{Vec}
 use Rattle.gm_ast.specs.declared.tree.Declaration.{Declaration}
 use Rattle.gm_ast.specs.declared.tree.Stmt as S
@@ -25,13 +25,17 @@ pub each_loop-sequence : {A : Type 0} (f : Key → Place → Head → Expr → S
 each_loop-sequence f g [] = refl
 each_loop-sequence f g (x ∷ xs) = ap (Then (each_loop f (g x))) (each_loop-sequence f g xs)
 
-pub undeferred-sequence : {A : Type 0} (p q : ℕ) (g : A → Stmt) (xs : List A) → undeferred p q (sequence (map g xs)) ≡ sequence (map (λ x. undeferred p q (g x)) xs)
-undeferred-sequence p q g [] = refl
-undeferred-sequence p q g (x ∷ xs) = ap (Then (undeferred p q (g x))) (undeferred-sequence p q g xs)
+pub each_loop-block : (f : Key → Place → Head → Expr → Stmt → Stmt) (xs : List Stmt) → each_loop f (sequence xs) ≡ sequence (map (each_loop f) xs)
+each_loop-block f [] = refl
+each_loop-block f (x ∷ xs) = ap (Then (each_loop f x)) (each_loop-block f xs)
 
-pub with_saved-sequence : {A : Type 0} (local : Key → Option ℕ) (at : Place) (g : A → Stmt) (xs : List A) → with_saved local at (sequence (map g xs)) ≡ sequence (map (λ x. with_saved local at (g x)) xs)
-with_saved-sequence local at g [] = refl
-with_saved-sequence local at g (x ∷ xs) = ap (Then (with_saved local at (g x))) (with_saved-sequence local at g xs)
+pub undeferred-block : (p q : ℕ) (xs : List Stmt) → undeferred p q (sequence xs) ≡ sequence (map (undeferred p q) xs)
+undeferred-block p q [] = refl
+undeferred-block p q (x ∷ xs) = ap (Then (undeferred p q x)) (undeferred-block p q xs)
+
+pub with_saved-block : (local : Key → Option ℕ) (at : Place) (xs : List Stmt) → with_saved local at (sequence xs) ≡ sequence (map (with_saved local at) xs)
+with_saved-block local at [] = refl
+with_saved-block local at (x ∷ xs) = ap (Then (with_saved local at x)) (with_saved-block local at xs)
 
 -- one more local for the numbers that are left
 drop-local : (ys : List ℕ) (i : ℕ) → i < length ys → flag_local ∷ flag_locals (drop (suc i) ys) ≡ flag_locals (drop i ys)
@@ -52,3 +56,9 @@ next-local xs ys i h =
 pub ok-then : {A E : Type 0} {P Q : A → Type 0} (r : Result A E) → IfOk r P → ((x : A) → P x → Q x) → IfOk r Q
 ok-then (Ok x) h f = f x h
 ok-then (Err e) h f = tt
+
+-- what holds of a tree that was changed holds of the program that it becomes
+pub finished : {A B E F : Type 0} (r : Result A E) (d : Result B F) (x : A) (P : A → Type 0) → IfOk r (λ y. y ≡ x) → IfOk r (λ y. is_ok d ≡ true) → OnOk d (P x) → IfOk r P
+finished (Ok y) (Ok b) x P e k p = subst P (sym e) p
+finished (Ok y) (Err f) x P e k p = absurd (true≢false (sym k))
+finished (Err f) d x P e k p = tt

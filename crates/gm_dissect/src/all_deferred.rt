@@ -7,9 +7,10 @@ ghost use Rattle.gm_forms.specs.Meanings.{SameMeaning};
 ghost use Rattle.gm_forms.specs.Ready.{Ready2};
 ghost use Rattle.gm_dissect.specs.AllDeferred.{deferred_in, deferred_of, has_no_deferred, property_in, some_defers, without_deferred, without_each};
 
-use crate::deferred::{deferred_to_out, defers};
+use crate::deferred::{defers, move_out};
+use crate::places::finish;
 use gm_ast::forms::Work;
-use gm_ast::tree::{Stmt, Target};
+use gm_ast::tree::{Stmt, Target, Tree};
 use gm_base::NoMemory;
 use std::alloc::{AllocError, Global};
 
@@ -22,31 +23,38 @@ pub fn deferred_out(alloc: Global, program: Work) -> Result<Work, NoMemory>
     ensures ready { IfOk result (λ r. Ready2 (program_of program) → Ready2 (program_of r)) }
     ensures none { IfOk result (λ r. has_no_deferred (program_of r) ≡ true) }
 {
+    let mut tree = program.into_tree();
+    let outcome = move_all_out(alloc, &mut tree);
+    finish(tree, outcome)
+}
+
+// The same of a tree.
+fn move_all_out(alloc: Global, tree: &mut Tree) -> Result<(), NoMemory>
+    ensures { OnOk result (program_of tree.new ≡ without_deferred (program_of tree.old)) }
+{
     let mut properties = Vec::new(alloc);
-    gather(&program.tree().body, &mut properties)?;
-    each_out(alloc, properties, program)
+    gather(&tree.body, &mut properties)?;
+    each_out(alloc, properties, tree)
 }
 
-// The program without the writes deferred to one property after another.
-fn each_out(alloc: Global, properties: Vec<u32>, program: Work) -> Result<Work, NoMemory>
-    ensures { IfOk result (λ r. program_of r ≡ without_each properties.items (program_of program)) }
+// The tree without the writes deferred to one property after another.
+fn each_out(alloc: Global, properties: Vec<u32>, tree: &mut Tree) -> Result<(), NoMemory>
+    ensures { OnOk result (program_of tree.new ≡ without_each properties.items (program_of tree.old)) }
 {
-    let mut program = program;
     for property in properties {
-        program = step_out(alloc, property, program)?;
+        step_out(alloc, property, tree)?;
     }
-    Ok(program)
+    Ok(())
 }
 
-// The program without the writes deferred to a property, where there is one.
-fn step_out(alloc: Global, property: u32, program: Work) -> Result<Work, NoMemory>
-    ensures { IfOk result (λ r. program_of r ≡ without_each (property ∷ []) (program_of program)) }
+// The tree without the writes deferred to a property, where there is one.
+fn step_out(alloc: Global, property: u32, tree: &mut Tree) -> Result<(), NoMemory>
+    ensures { OnOk result (program_of tree.new ≡ without_each (property ∷ []) (program_of tree.old)) }
 {
-    if some_defers(&program.tree().body, property) {
-        deferred_to_out(alloc, program, property)
-    } else {
-        Ok(program)
+    if !some_defers(&tree.body, property) {
+        return Ok(());
     }
+    move_out(alloc, property, tree)
 }
 
 // Adds the property that a target is, if it is one.
@@ -77,31 +85,13 @@ fn gather_body(body: &Stmt, properties: &mut Vec<u32>) -> Result<(), AllocError>
     ensures { OnOk result (properties.new.items ≡ properties.old.items ++ deferred_of (stmt_of body.now)) }
 {
     match body {
-        Stmt::Block(stmts) => {
-            gather_block(stmts, properties)?;
-            Ok(())
-        }
-        Stmt::Defer { target, .. } => {
-            gather_target(*target, properties)?;
-            Ok(())
-        }
+        Stmt::Block(stmts) => gather_block(stmts, properties),
+        Stmt::Defer { target, .. } => gather_target(*target, properties),
         Stmt::If { yes, no, .. } => {
             gather_body(yes, properties)?;
-            gather_body(no, properties)?;
-            Ok(())
+            gather_body(no, properties)
         }
-        Stmt::Declare { .. }
-        | Stmt::DeclareEdge { .. }
-        | Stmt::Assign { .. }
-        | Stmt::Reduce { .. }
-        | Stmt::Group { .. }
-        | Stmt::Foreach { .. }
-        | Stmt::For { .. }
-        | Stmt::While { .. }
-        | Stmt::Do { .. }
-        | Stmt::InBfs { .. }
-        | Stmt::InBfsBoth { .. }
-        | Stmt::Return { .. } => Ok(()),
+        _ => Ok(()),
     }
 }
 
@@ -122,40 +112,16 @@ fn gather(s: &Stmt, properties: &mut Vec<u32>) -> Result<(), AllocError>
     ensures { OnOk result (properties.new.items ≡ properties.old.items ++ deferred_in (stmt_of s.now)) }
 {
     match s {
-        Stmt::Block(stmts) => {
-            gather_all(stmts, properties)?;
-            Ok(())
-        }
-        Stmt::Foreach { body, .. } => {
-            gather_body(body, properties)?;
-            Ok(())
-        }
+        Stmt::Block(stmts) => gather_all(stmts, properties),
+        Stmt::Foreach { body, .. } => gather_body(body, properties),
         Stmt::If { yes, no, .. } => {
             gather(yes, properties)?;
-            gather(no, properties)?;
-            Ok(())
+            gather(no, properties)
         }
-        Stmt::For { body, .. } => {
-            gather(body, properties)?;
-            Ok(())
-        }
-        Stmt::While { body, .. } => {
-            gather(body, properties)?;
-            Ok(())
-        }
-        Stmt::Do { body, .. } => {
-            gather(body, properties)?;
-            Ok(())
-        }
-        Stmt::Declare { .. }
-        | Stmt::DeclareEdge { .. }
-        | Stmt::Assign { .. }
-        | Stmt::Defer { .. }
-        | Stmt::Reduce { .. }
-        | Stmt::Group { .. }
-        | Stmt::InBfs { .. }
-        | Stmt::InBfsBoth { .. }
-        | Stmt::Return { .. } => Ok(()),
+        Stmt::For { body, .. } => gather(body, properties),
+        Stmt::While { body, .. } => gather(body, properties),
+        Stmt::Do { body, .. } => gather(body, properties),
+        _ => Ok(()),
     }
 }
 
@@ -184,14 +150,6 @@ fn some_defers(s: &Stmt, property: u32) -> bool
         Stmt::For { body, .. } => some_defers(body, property),
         Stmt::While { body, .. } => some_defers(body, property),
         Stmt::Do { body, .. } => some_defers(body, property),
-        Stmt::Declare { .. }
-        | Stmt::DeclareEdge { .. }
-        | Stmt::Assign { .. }
-        | Stmt::Defer { .. }
-        | Stmt::Reduce { .. }
-        | Stmt::Group { .. }
-        | Stmt::InBfs { .. }
-        | Stmt::InBfsBoth { .. }
-        | Stmt::Return { .. } => false,
+        _ => false,
     }
 }

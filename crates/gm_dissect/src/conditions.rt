@@ -4,7 +4,7 @@
 //! cut, and each asks the condition again. So the condition is first saved in a local, once and where it is evaluated:
 //! `If (c) s` is `Bool x = c; If (x) s`.
 
-ghost use Rattle.std.specs.Prelude.{◌≡◌, ◌+◌, ◌<◌, ◌^◌, ◌∷◌, [], ◌++◌, true, IfOk, OnOk, Some, None, length, map};
+ghost use Rattle.std.specs.Prelude.{◌≡◌, ◌+◌, ◌<◌, ◌^◌, ◌∷◌, [], ◌++◌, true, IfOk, OnOk, length, map, option_map};
 ghost use Rattle.std.specs.List.{list_any};
 ghost use Rattle.gm_ast.specs.Program.{sequence};
 ghost use Rattle.gm_ast.specs.Program as Program;
@@ -14,12 +14,15 @@ ghost use Rattle.gm_forms.specs.Ready.{Ready2};
 ghost use Rattle.gm_dissect.specs.Conditions as Conditions;
 ghost use Rattle.gm_dissect.specs.Conditions.{flag_local, flag_locals, has_saved_conditions, holds_cut, numbers_in, numbers_of, saved_first, saved_loop, with_saved, with_saved_conditions};
 ghost use Rattle.gm_dissect.specs.Loops.{each_loop};
+ghost use Rattle.gm_dissect.specs.Places.{after};
 
+use crate::places::{finish, put, taken};
 use gm_ast::forms::Work;
-use gm_ast::tree::{Declaration, Expr, Head, Key, Sort, Stmt, Target, Tree, Variable};
+use gm_ast::tree::{Declaration, Expr, Key, Sort, Stmt, Target, Tree, Variable};
 use gm_base::{Items, NoMemory, Place};
 use gm_value::VType;
 use std::alloc::{AllocError, Global};
+use std::mem;
 
 /// Saves the condition of each If of a loop's body that holds an inner loop, or a reduction through another node
 /// variable, in a local. The locals stand behind the program's variables. A program that is ready for cutting means the
@@ -30,26 +33,38 @@ pub fn save_conditions(alloc: Global, program: Work) -> Result<Work, NoMemory>
     ensures ready { IfOk result (λ r. Ready2 (program_of program) → Ready2 (program_of r)) }
     ensures saved { IfOk result (λ r. has_saved_conditions (program_of r) ≡ true) }
 {
-    let tree = program.into_tree();
+    let mut tree = program.into_tree();
+    let outcome = save_all(alloc, &mut tree);
+    finish(tree, outcome)
+}
+
+// The same of a tree.
+fn save_all(alloc: Global, tree: &mut Tree) -> Result<(), NoMemory>
+    ensures { OnOk result (program_of tree.new ≡ with_saved_conditions (program_of tree.old)) }
+{
     let mut numbers = Vec::new(alloc);
     find(&tree.body, &mut numbers)?;
-    let Ok(first) = u32::try_from(tree.declarations.len()) else {
+    let first = first_local(&tree.declarations, &numbers)?;
+    declare(alloc, &numbers, &mut tree.declarations)?;
+    save(alloc, first, &numbers, &mut tree.body)?;
+    Ok(())
+}
+
+// The first of the locals, where the table has room for all.
+fn first_local(declarations: &Vec<Declaration>, numbers: &Vec<u32>) -> Result<u32, NoMemory>
+    ensures first { IfOk result (λ n. n ≡ length declarations.now.items) }
+    ensures fits { IfOk result (λ n. n + length numbers.now.items < 2 ^ 32) }
+{
+    let Ok(first) = u32::try_from(declarations.len()) else {
         return Err(NoMemory);
     };
     let Ok(count) = u32::try_from(numbers.len()) else {
         return Err(NoMemory);
     };
-    if first.checked_add(count).is_none() {
-        return Err(NoMemory);
+    match first.checked_add(count) {
+        Some(_) => Ok(first),
+        None => Err(NoMemory),
     }
-    let mut declarations = tree.declarations;
-    declare(alloc, &numbers, &mut declarations)?;
-    let body = save(alloc, first, &numbers, tree.body)?;
-    Ok(Work::new(Tree {
-        declarations,
-        body,
-        ..tree
-    }))
 }
 
 // Whether a target is a property through a variable other than the loop's iterator.
@@ -92,17 +107,7 @@ fn holds_cut(outer: u32, body: &Stmt) -> bool
         Stmt::Reduce { targets, .. } => any_random(outer, targets),
         Stmt::If { yes, no, .. } => holds_cut(outer, yes) || holds_cut(outer, no),
         Stmt::Foreach { .. } => true,
-        Stmt::Declare { .. }
-        | Stmt::DeclareEdge { .. }
-        | Stmt::Assign { .. }
-        | Stmt::Defer { .. }
-        | Stmt::Group { .. }
-        | Stmt::For { .. }
-        | Stmt::While { .. }
-        | Stmt::Do { .. }
-        | Stmt::InBfs { .. }
-        | Stmt::InBfsBoth { .. }
-        | Stmt::Return { .. } => false,
+        _ => false,
     }
 }
 
@@ -139,29 +144,13 @@ fn list_body(outer: u32, body: &Stmt, numbers: &mut Vec<u32>) -> Result<(), Allo
     ensures { OnOk result (numbers.new.items ≡ numbers.old.items ++ numbers_of outer (stmt_of body.now)) }
 {
     match body {
-        Stmt::Block(stmts) => {
-            list_block(outer, stmts, numbers)?;
-            Ok(())
-        }
+        Stmt::Block(stmts) => list_block(outer, stmts, numbers),
         Stmt::If { key, yes, no, .. } => {
             list_if(outer, *key, yes, no, numbers)?;
             list_body(outer, yes, numbers)?;
-            list_body(outer, no, numbers)?;
-            Ok(())
+            list_body(outer, no, numbers)
         }
-        Stmt::Declare { .. }
-        | Stmt::DeclareEdge { .. }
-        | Stmt::Assign { .. }
-        | Stmt::Defer { .. }
-        | Stmt::Reduce { .. }
-        | Stmt::Group { .. }
-        | Stmt::Foreach { .. }
-        | Stmt::For { .. }
-        | Stmt::While { .. }
-        | Stmt::Do { .. }
-        | Stmt::InBfs { .. }
-        | Stmt::InBfsBoth { .. }
-        | Stmt::Return { .. } => Ok(()),
+        _ => Ok(()),
     }
 }
 
@@ -182,40 +171,16 @@ fn find(s: &Stmt, numbers: &mut Vec<u32>) -> Result<(), AllocError>
     ensures { OnOk result (numbers.new.items ≡ numbers.old.items ++ numbers_in (stmt_of s.now)) }
 {
     match s {
-        Stmt::Block(stmts) => {
-            find_all(stmts, numbers)?;
-            Ok(())
-        }
-        Stmt::Foreach { head, body, .. } => {
-            list_body(head.iterator, body, numbers)?;
-            Ok(())
-        }
+        Stmt::Block(stmts) => find_all(stmts, numbers),
+        Stmt::Foreach { head, body, .. } => list_body(head.iterator, body, numbers),
         Stmt::If { yes, no, .. } => {
             find(yes, numbers)?;
-            find(no, numbers)?;
-            Ok(())
+            find(no, numbers)
         }
-        Stmt::For { body, .. } => {
-            find(body, numbers)?;
-            Ok(())
-        }
-        Stmt::While { body, .. } => {
-            find(body, numbers)?;
-            Ok(())
-        }
-        Stmt::Do { body, .. } => {
-            find(body, numbers)?;
-            Ok(())
-        }
-        Stmt::Declare { .. }
-        | Stmt::DeclareEdge { .. }
-        | Stmt::Assign { .. }
-        | Stmt::Defer { .. }
-        | Stmt::Reduce { .. }
-        | Stmt::Group { .. }
-        | Stmt::InBfs { .. }
-        | Stmt::InBfsBoth { .. }
-        | Stmt::Return { .. } => Ok(()),
+        Stmt::For { body, .. } => find(body, numbers),
+        Stmt::While { body, .. } => find(body, numbers),
+        Stmt::Do { body, .. } => find(body, numbers),
+        _ => Ok(()),
     }
 }
 
@@ -262,196 +227,152 @@ fn local_of(first: u32, numbers: &Vec<u32>, key: Key) -> Option<u32>
     None
 }
 
-// An If.
-fn if_of(alloc: Global, key: Key, test: Expr, yes: Stmt, no: Stmt) -> Result<Stmt, AllocError>
-    ensures { IfOk result (λ r. stmt_of r ≡ Program.If key (expr_of test) (stmt_of yes) (stmt_of no)) }
-{
-    let yes = Box::new(alloc, yes)?;
-    let no = Box::new(alloc, no)?;
-    Ok(Stmt::If { key, test, yes, no })
-}
-
 // A block of two statements.
 fn two(alloc: Global, a: Stmt, b: Stmt) -> Result<Stmt, AllocError>
     ensures { IfOk result (λ r. stmt_of r ≡ sequence (stmt_of a ∷ stmt_of b ∷ [])) }
 {
-    let mut out = Vec::new(alloc);
-    out.push(a)?;
-    out.push(b)?;
-    Ok(Stmt::Block(out))
+    let stmts = vec![in alloc; a, b]?;
+    Ok(Stmt::Block(stmts))
 }
 
-// A local that is declared with a value.
-fn declared(key: Key, variable: u32, value: Expr) -> Stmt
-    ensures { stmt_of result ≡ Program.Declare key variable (Some (expr_of value)) }
+// Puts a statement behind another, in a block, if there is that.
+fn put_after(alloc: Global, first: Option<Stmt>, s: &mut Stmt) -> Result<(), AllocError>
+    ensures { OnOk result (stmt_of s.new ≡ after (option_map stmt_of first) (stmt_of s.old)) }
 {
-    Stmt::Declare {
-        key,
-        variable,
-        value: Some(value),
+    match first {
+        None => Ok(()),
+        Some(first) => {
+            let second = taken(alloc, s);
+            let both = two(alloc, first, second)?;
+            put(s, both);
+            Ok(())
+        }
     }
 }
 
-// An If whose condition is saved where its statement has a local.
-fn save_if(
-    alloc: Global,
-    local: Option<u32>,
-    place: Place,
-    key: Key,
-    test: Expr,
-    yes: Stmt,
-    no: Stmt,
-) -> Result<Stmt, AllocError>
-    ensures { IfOk result (λ r. stmt_of r ≡ saved_first local place key (expr_of test) (stmt_of yes) (stmt_of no)) }
+// Saves a condition in a local, which is asked in its place, if there is one.
+fn save_test(local: Option<u32>, place: Place, key: Key, test: &mut Expr) -> Option<Stmt>
+    ensures { (a b : Program.Stmt) → after (option_map stmt_of result) (Program.If key (expr_of test.new) a b) ≡ saved_first local place key (expr_of test.old) a b }
 {
     let Some(variable) = local else {
-        return if_of(alloc, key, test, yes, no);
+        return None;
     };
-    let first = declared(key, variable, test);
-    let asked = Expr::Var { variable, place };
-    let second = if_of(alloc, key, asked, yes, no)?;
-    two(alloc, first, second)
+    let condition = mem::replace(test, Expr::Var { variable, place });
+    Some(Stmt::Declare {
+        key,
+        variable,
+        value: Some(condition),
+    })
 }
 
-// A body with the conditions of its Ifs that have locals saved there.
+// The conditions of the Ifs of a body's block that have locals are saved there.
+#[cycle(saving)]
+fn save_block(
+    alloc: Global,
+    first: u32,
+    numbers: &Vec<u32>,
+    place: Place,
+    stmts: &mut Vec<Stmt>,
+) -> Result<(), AllocError>
+    requires { first + length numbers.now.items < 2 ^ 32 }
+    ensures { OnOk result (sequence (map stmt_of stmts.new.items) ≡ with_saved (Conditions.local_of first numbers.now.items) place (sequence (map stmt_of stmts.old.items))) }
+{
+    for i in 0..stmts.len() {
+        save_body(alloc, first, numbers, place, &mut stmts[i])?;
+    }
+    Ok(())
+}
+
+// The same of a body in a box.
+#[cycle(saving)]
+fn save_inner(
+    alloc: Global,
+    first: u32,
+    numbers: &Vec<u32>,
+    place: Place,
+    s: &mut Box<Stmt>,
+) -> Result<(), AllocError>
+    requires { first + length numbers.now.items < 2 ^ 32 }
+    ensures { OnOk result (stmt_of s.new.value ≡ with_saved (Conditions.local_of first numbers.now.items) place (stmt_of s.old.value)) }
+{
+    save_body(alloc, first, numbers, place, s)?;
+    Ok(())
+}
+
+// The same of a body.
+#[cycle(saving)]
 fn save_body(
     alloc: Global,
     first: u32,
     numbers: &Vec<u32>,
     place: Place,
-    s: Stmt,
-) -> Result<Stmt, AllocError>
+    s: &mut Stmt,
+) -> Result<(), AllocError>
     requires { first + length numbers.now.items < 2 ^ 32 }
-    ensures { IfOk result (λ r. stmt_of r ≡ with_saved (Conditions.local_of first numbers.now.items) place (stmt_of s)) }
+    ensures { OnOk result (stmt_of s.new ≡ with_saved (Conditions.local_of first numbers.now.items) place (stmt_of s.old)) }
 {
     match s {
-        Stmt::Block(stmts) => {
-            let mut out = Vec::new(alloc);
-            for stmt in stmts {
-                let changed = save_body(alloc, first, numbers, place, stmt)?;
-                out.push(changed)?;
-            }
-            Ok(Stmt::Block(out))
-        }
+        Stmt::Block(stmts) => save_block(alloc, first, numbers, place, stmts),
         Stmt::If { key, test, yes, no } => {
-            let yes = save_body(alloc, first, numbers, place, Box::into_inner(yes))?;
-            let no = save_body(alloc, first, numbers, place, Box::into_inner(no))?;
-            let local = local_of(first, numbers, key);
-            save_if(alloc, local, place, key, test, yes, no)
+            save_inner(alloc, first, numbers, place, yes)?;
+            save_inner(alloc, first, numbers, place, no)?;
+            let local = local_of(first, numbers, *key);
+            let saved = save_test(local, place, *key, test);
+            put_after(alloc, saved, s)?;
+            Ok(())
         }
-        other => Ok(other),
+        _ => Ok(()),
     }
 }
 
-// A loop with the conditions of its body so.
-fn save_loop(
+// The conditions of the loops' bodies in a block of a sequential phase are saved so.
+#[cycle(loops)]
+fn save_phases(
     alloc: Global,
     first: u32,
     numbers: &Vec<u32>,
-    key: Key,
-    place: Place,
-    head: Head,
-    filter: Expr,
-    body: Stmt,
-) -> Result<Stmt, AllocError>
+    stmts: &mut Vec<Stmt>,
+) -> Result<(), AllocError>
     requires { first + length numbers.now.items < 2 ^ 32 }
-    ensures { IfOk result (λ r. stmt_of r ≡ saved_loop (Conditions.local_of first numbers.now.items) key place head (expr_of filter) (stmt_of body)) }
+    ensures { OnOk result (sequence (map stmt_of stmts.new.items) ≡ each_loop (saved_loop (Conditions.local_of first numbers.now.items)) (sequence (map stmt_of stmts.old.items))) }
 {
-    let changed = save_body(alloc, first, numbers, place, body)?;
-    let body = Box::new(alloc, changed)?;
-    Ok(Stmt::Foreach {
-        key,
-        place,
-        head,
-        filter,
-        body,
-    })
+    for i in 0..stmts.len() {
+        save(alloc, first, numbers, &mut stmts[i])?;
+    }
+    Ok(())
 }
 
-// A sequential phase with each loop so.
-fn save(alloc: Global, first: u32, numbers: &Vec<u32>, s: Stmt) -> Result<Stmt, AllocError>
+// The same of a sequential phase in a box.
+#[cycle(loops)]
+fn save_part(
+    alloc: Global,
+    first: u32,
+    numbers: &Vec<u32>,
+    s: &mut Box<Stmt>,
+) -> Result<(), AllocError>
     requires { first + length numbers.now.items < 2 ^ 32 }
-    ensures { IfOk result (λ r. stmt_of r ≡ each_loop (saved_loop (Conditions.local_of first numbers.now.items)) (stmt_of s)) }
+    ensures { OnOk result (stmt_of s.new.value ≡ each_loop (saved_loop (Conditions.local_of first numbers.now.items)) (stmt_of s.old.value)) }
+{
+    save(alloc, first, numbers, s)?;
+    Ok(())
+}
+
+// The same of a sequential phase.
+#[cycle(loops)]
+fn save(alloc: Global, first: u32, numbers: &Vec<u32>, s: &mut Stmt) -> Result<(), AllocError>
+    requires { first + length numbers.now.items < 2 ^ 32 }
+    ensures { OnOk result (stmt_of s.new ≡ each_loop (saved_loop (Conditions.local_of first numbers.now.items)) (stmt_of s.old)) }
 {
     match s {
-        Stmt::Block(stmts) => {
-            let mut out = Vec::new(alloc);
-            for stmt in stmts {
-                let changed = save(alloc, first, numbers, stmt)?;
-                out.push(changed)?;
-            }
-            Ok(Stmt::Block(out))
+        Stmt::Block(stmts) => save_phases(alloc, first, numbers, stmts),
+        Stmt::Foreach { place, body, .. } => save_inner(alloc, first, numbers, *place, body),
+        Stmt::For { body, .. } => save_part(alloc, first, numbers, body),
+        Stmt::If { yes, no, .. } => {
+            save_part(alloc, first, numbers, yes)?;
+            save_part(alloc, first, numbers, no)
         }
-        Stmt::Foreach {
-            key,
-            place,
-            head,
-            filter,
-            body,
-        } => save_loop(
-            alloc,
-            first,
-            numbers,
-            key,
-            place,
-            head,
-            filter,
-            Box::into_inner(body),
-        ),
-        Stmt::For {
-            key,
-            place,
-            head,
-            filter,
-            body,
-        } => {
-            let changed = save(alloc, first, numbers, Box::into_inner(body))?;
-            let body = Box::new(alloc, changed)?;
-            Ok(Stmt::For {
-                key,
-                place,
-                head,
-                filter,
-                body,
-            })
-        }
-        Stmt::If { key, test, yes, no } => {
-            let changed = save(alloc, first, numbers, Box::into_inner(yes))?;
-            let yes = Box::new(alloc, changed)?;
-            let changed = save(alloc, first, numbers, Box::into_inner(no))?;
-            let no = Box::new(alloc, changed)?;
-            Ok(Stmt::If { key, test, yes, no })
-        }
-        Stmt::While {
-            key,
-            place,
-            test,
-            body,
-        } => {
-            let changed = save(alloc, first, numbers, Box::into_inner(body))?;
-            let body = Box::new(alloc, changed)?;
-            Ok(Stmt::While {
-                key,
-                place,
-                test,
-                body,
-            })
-        }
-        Stmt::Do {
-            key,
-            place,
-            body,
-            test,
-        } => {
-            let changed = save(alloc, first, numbers, Box::into_inner(body))?;
-            let body = Box::new(alloc, changed)?;
-            Ok(Stmt::Do {
-                key,
-                place,
-                body,
-                test,
-            })
-        }
-        other => Ok(other),
+        Stmt::While { body, .. } => save_part(alloc, first, numbers, body),
+        Stmt::Do { body, .. } => save_part(alloc, first, numbers, body),
+        _ => Ok(()),
     }
 }

@@ -4,7 +4,7 @@
 //! copies the property to a fresh one at every node, one does what the loop does but writes to the copy at once, and one
 //! copies it back.
 
-ghost use Rattle.std.specs.Prelude.{◌≡◌, ◌∷◌, [], IfOk, length, map};
+ghost use Rattle.std.specs.Prelude.{◌≡◌, ◌∷◌, [], if◌then◌else◌, IfOk, OnOk, map};
 ghost use Rattle.gm_ast.specs.Program as Program;
 ghost use Rattle.gm_ast.specs.Program.{sequence};
 ghost use Rattle.gm_ast.specs.Tree.{expr_of, program_of, stmt_of};
@@ -12,11 +12,11 @@ ghost use Rattle.gm_forms.specs.Meanings.{SameMeaning};
 ghost use Rattle.gm_forms.specs.Ready.{Ready2};
 ghost use Rattle.gm_loop_laws.specs.Deferring as Deferring;
 ghost use Rattle.gm_loop_laws.specs.Deferring.{undeferred};
-ghost use Rattle.gm_semantics.specs.Statements.{variable_at};
 ghost use Rattle.gm_dissect.specs.Deferred as Deferred;
 ghost use Rattle.gm_dissect.specs.Deferred.{copied, copy_of, defers, undeferred_loop, without_deferred_to};
 ghost use Rattle.gm_dissect.specs.Loops.{each_loop};
 
+use crate::places::{finish, put, taken, taken_value};
 use gm_ast::forms::Work;
 use gm_ast::tree::{Declaration, Expr, Head, Key, Sort, Stage, Stmt, Target, Tree, Variable};
 use gm_base::{Items, NoMemory, Place};
@@ -30,19 +30,22 @@ pub fn deferred_to_out(alloc: Global, program: Work, property: u32) -> Result<Wo
     ensures same { IfOk result (λ r. Ready2 (program_of program) → SameMeaning (program_of program) (program_of r)) }
     ensures ready { IfOk result (λ r. Ready2 (program_of program) → Ready2 (program_of r)) }
 {
-    let tree = program.into_tree();
+    let mut tree = program.into_tree();
+    let outcome = move_out(alloc, property, &mut tree);
+    finish(tree, outcome)
+}
+
+// The same of a tree.
+pub(crate) fn move_out(alloc: Global, property: u32, tree: &mut Tree) -> Result<(), NoMemory>
+    ensures { OnOk result (program_of tree.new ≡ without_deferred_to property (program_of tree.old)) }
+{
     let Ok(copy) = u32::try_from(tree.declarations.len()) else {
         return Err(NoMemory);
     };
-    let mut declarations = tree.declarations;
-    let declared = copy_of(alloc, &declarations, property);
-    declarations.push(declared)?;
-    let body = undefer(alloc, Move { property, copy }, tree.body)?;
-    Ok(Work::new(Tree {
-        declarations,
-        body,
-        ..tree
-    }))
+    let declared = copy_of(alloc, &tree.declarations, property);
+    tree.declarations.push(declared)?;
+    undefer(alloc, Move { property, copy }, &mut tree.body)?;
+    Ok(())
 }
 
 // A property, and the fresh one that is written in its place.
@@ -105,43 +108,44 @@ pub(crate) fn defers(body: &Stmt, property: u32) -> bool
         Stmt::Block(stmts) => defers_among(stmts, property),
         Stmt::Defer { target, .. } => is_property(property, *target),
         Stmt::If { yes, no, .. } => defers(yes, property) || defers(no, property),
-        Stmt::Declare { .. }
-        | Stmt::DeclareEdge { .. }
-        | Stmt::Assign { .. }
-        | Stmt::Reduce { .. }
-        | Stmt::Group { .. }
-        | Stmt::Foreach { .. }
-        | Stmt::For { .. }
-        | Stmt::While { .. }
-        | Stmt::Do { .. }
-        | Stmt::InBfs { .. }
-        | Stmt::InBfsBoth { .. }
-        | Stmt::Return { .. } => false,
+        _ => false,
     }
 }
 
-// The body with each deferred write to the property as a write at once to its copy.
-fn undefer_body(alloc: Global, moved: Move, s: Stmt) -> Result<Stmt, AllocError>
-    ensures { IfOk result (λ r. stmt_of r ≡ undeferred moved.property moved.copy (stmt_of s)) }
+// The deferred writes to the property in a block become writes at once to its copy.
+#[cycle(undeferring)]
+fn undefer_block(moved: Move, stmts: &mut Vec<Stmt>)
+    ensures { sequence (map stmt_of stmts.new.items) ≡ undeferred moved.property moved.copy (sequence (map stmt_of stmts.old.items)) }
+{
+    for i in 0..stmts.len() {
+        undefer_body(moved, &mut stmts[i]);
+    }
+}
+
+// The same of a body in a box.
+#[cycle(undeferring)]
+fn undefer_inner(moved: Move, s: &mut Box<Stmt>)
+    ensures { stmt_of s.new.value ≡ undeferred moved.property moved.copy (stmt_of s.old.value) }
+{
+    undefer_body(moved, s);
+}
+
+// The same of a body.
+#[cycle(undeferring)]
+fn undefer_body(moved: Move, s: &mut Stmt)
+    ensures { stmt_of s.new ≡ undeferred moved.property moved.copy (stmt_of s.old) }
 {
     match s {
-        Stmt::Block(stmts) => {
-            let mut out = Vec::new(alloc);
-            for stmt in stmts {
-                let changed = undefer_body(alloc, moved, stmt)?;
-                out.push(changed)?;
-            }
-            Ok(Stmt::Block(out))
+        Stmt::Block(stmts) => undefer_block(moved, stmts),
+        Stmt::Defer { key, target, value } => {
+            let new = undeferred_to(moved, *key, *target, taken_value(value));
+            put(s, new);
         }
-        Stmt::Defer { key, target, value } => Ok(undeferred_to(moved, key, target, value)),
-        Stmt::If { key, test, yes, no } => {
-            let changed = undefer_body(alloc, moved, Box::into_inner(yes))?;
-            let yes = Box::new(alloc, changed)?;
-            let changed = undefer_body(alloc, moved, Box::into_inner(no))?;
-            let no = Box::new(alloc, changed)?;
-            Ok(Stmt::If { key, test, yes, no })
+        Stmt::If { yes, no, .. } => {
+            undefer_inner(moved, yes);
+            undefer_inner(moved, no);
         }
-        other => Ok(other),
+        _ => {}
     }
 }
 
@@ -212,138 +216,92 @@ fn copying(
 fn three(alloc: Global, a: Stmt, b: Stmt, c: Stmt) -> Result<Stmt, AllocError>
     ensures { IfOk result (λ r. stmt_of r ≡ sequence (stmt_of a ∷ stmt_of b ∷ stmt_of c ∷ [])) }
 {
-    let mut out = Vec::new(alloc);
-    out.push(a)?;
-    out.push(b)?;
-    out.push(c)?;
-    Ok(Stmt::Block(out))
+    let stmts = vec![in alloc; a, b, c]?;
+    Ok(Stmt::Block(stmts))
 }
 
-// A loop.
-fn loop_of(
+// Puts a loop that moves its writes between one that copies the property and one that copies it back.
+fn put_between(
     alloc: Global,
-    key: Key,
-    place: Place,
-    head: Head,
-    filter: Expr,
-    body: Stmt,
-) -> Result<Stmt, AllocError>
-    ensures { IfOk result (λ r. stmt_of r ≡ Program.Foreach key place head (expr_of filter) (stmt_of body)) }
-{
-    let body = Box::new(alloc, body)?;
-    Ok(Stmt::Foreach {
-        key,
-        place,
-        head,
-        filter,
-        body,
-    })
-}
-
-// A loop that defers writes to the property as three; any other as it is.
-fn undefer_loop(
-    alloc: Global,
+    moves: bool,
     moved: Move,
-    key: Key,
     place: Place,
     head: Head,
-    filter: Expr,
-    body: Stmt,
-) -> Result<Stmt, AllocError>
-    ensures { IfOk result (λ r. stmt_of r ≡ undeferred_loop moved.property moved.copy key place head (expr_of filter) (stmt_of body)) }
+    s: &mut Stmt,
+) -> Result<(), AllocError>
+    ensures { OnOk result (stmt_of s.new ≡ (if moves then sequence (copied moved.copy moved.property place head ∷ stmt_of s.old ∷ copied moved.property moved.copy place head ∷ []) else stmt_of s.old)) }
 {
-    if !defers(&body, moved.property) {
-        return loop_of(alloc, key, place, head, filter, body);
+    if !moves {
+        return Ok(());
     }
     let first = copying(alloc, moved.copy, moved.property, place, head)?;
-    let changed = undefer_body(alloc, moved, body)?;
-    let middle = loop_of(alloc, key, place, head, filter, changed)?;
-    let last = copying(alloc, moved.property, moved.copy, place, head)?;
-    three(alloc, first, middle, last)
+    let Ok(last) = copying(alloc, moved.property, moved.copy, place, head) else {
+        drop(first);
+        return Err(AllocError);
+    };
+    let middle = taken(alloc, s);
+    let all = three(alloc, first, middle, last)?;
+    put(s, all);
+    Ok(())
 }
 
-// The sequential phase with each loop so.
-fn undefer(alloc: Global, moved: Move, s: Stmt) -> Result<Stmt, AllocError>
-    ensures { IfOk result (λ r. stmt_of r ≡ each_loop (undeferred_loop moved.property moved.copy) (stmt_of s)) }
+// The body of a loop that defers writes to the property writes at once to its copy. Any other stays. Whether it does.
+fn undefer_where(moved: Move, body: &mut Box<Stmt>) -> bool
+    ensures moves { result ≡ defers moved.property (stmt_of body.old.value) }
+    ensures changed { stmt_of body.new.value ≡ (if defers moved.property (stmt_of body.old.value) then undeferred moved.property moved.copy (stmt_of body.old.value) else stmt_of body.old.value) }
+{
+    if !defers(body, moved.property) {
+        return false;
+    }
+    undefer_inner(moved, body);
+    true
+}
+
+// The loops of a block that defer writes to the property become three each.
+#[cycle(moving)]
+fn undefer_phases(alloc: Global, moved: Move, stmts: &mut Vec<Stmt>) -> Result<(), AllocError>
+    ensures { OnOk result (sequence (map stmt_of stmts.new.items) ≡ each_loop (undeferred_loop moved.property moved.copy) (sequence (map stmt_of stmts.old.items))) }
+{
+    for i in 0..stmts.len() {
+        undefer(alloc, moved, &mut stmts[i])?;
+    }
+    Ok(())
+}
+
+// The same of a sequential phase in a box.
+#[cycle(moving)]
+fn undefer_part(alloc: Global, moved: Move, s: &mut Box<Stmt>) -> Result<(), AllocError>
+    ensures { OnOk result (stmt_of s.new.value ≡ each_loop (undeferred_loop moved.property moved.copy) (stmt_of s.old.value)) }
+{
+    undefer(alloc, moved, s)?;
+    Ok(())
+}
+
+// The same of a sequential phase.
+#[cycle(moving)]
+fn undefer(alloc: Global, moved: Move, s: &mut Stmt) -> Result<(), AllocError>
+    ensures { OnOk result (stmt_of s.new ≡ each_loop (undeferred_loop moved.property moved.copy) (stmt_of s.old)) }
 {
     match s {
-        Stmt::Block(stmts) => {
-            let mut out = Vec::new(alloc);
-            for stmt in stmts {
-                let changed = undefer(alloc, moved, stmt)?;
-                out.push(changed)?;
-            }
-            Ok(Stmt::Block(out))
-        }
+        Stmt::Block(stmts) => undefer_phases(alloc, moved, stmts),
         Stmt::Foreach {
-            key,
+            key: _key,
             place,
             head,
-            filter,
-            body,
-        } => undefer_loop(
-            alloc,
-            moved,
-            key,
-            place,
-            head,
-            filter,
-            Box::into_inner(body),
-        ),
-        Stmt::For {
-            key,
-            place,
-            head,
-            filter,
+            filter: _filter,
             body,
         } => {
-            let changed = undefer(alloc, moved, Box::into_inner(body))?;
-            let body = Box::new(alloc, changed)?;
-            Ok(Stmt::For {
-                key,
-                place,
-                head,
-                filter,
-                body,
-            })
+            let moves = undefer_where(moved, body);
+            put_between(alloc, moves, moved, *place, *head, s)?;
+            Ok(())
         }
-        Stmt::If { key, test, yes, no } => {
-            let changed = undefer(alloc, moved, Box::into_inner(yes))?;
-            let yes = Box::new(alloc, changed)?;
-            let changed = undefer(alloc, moved, Box::into_inner(no))?;
-            let no = Box::new(alloc, changed)?;
-            Ok(Stmt::If { key, test, yes, no })
+        Stmt::For { body, .. } => undefer_part(alloc, moved, body),
+        Stmt::If { yes, no, .. } => {
+            undefer_part(alloc, moved, yes)?;
+            undefer_part(alloc, moved, no)
         }
-        Stmt::While {
-            key,
-            place,
-            test,
-            body,
-        } => {
-            let changed = undefer(alloc, moved, Box::into_inner(body))?;
-            let body = Box::new(alloc, changed)?;
-            Ok(Stmt::While {
-                key,
-                place,
-                test,
-                body,
-            })
-        }
-        Stmt::Do {
-            key,
-            place,
-            body,
-            test,
-        } => {
-            let changed = undefer(alloc, moved, Box::into_inner(body))?;
-            let body = Box::new(alloc, changed)?;
-            Ok(Stmt::Do {
-                key,
-                place,
-                body,
-                test,
-            })
-        }
-        other => Ok(other),
+        Stmt::While { body, .. } => undefer_part(alloc, moved, body),
+        Stmt::Do { body, .. } => undefer_part(alloc, moved, body),
+        _ => Ok(()),
     }
 }

@@ -6,5 +6,5 @@ use Rattle.gm_dissect.proofs.all_deferred.each_out.Given as goal
 
 -- the properties that are left lead to the same program
 abbrev pub invariant-loop-property : goal.invariant-loop-property
-invariant-loop-property l = (without_each (into_iter_items l.property-iterator) (program_of l.program) ≡ without_each (into_iter_items l.initial.property-iterator) (program_of l.initial.program))
+invariant-loop-property l = (without_each (into_iter_items l.property-iterator) (program_of l.tree) ≡ without_each (into_iter_items l.initial.property-iterator) (program_of l.initial.tree))
     × (into_iter_len l.property-iterator ≡ length (into_iter_items l.property-iterator))

@@ -1,22 +1,34 @@
-use Rattle.std.proofs.Common.{◌≡◌, true, rules, sym, subst}
+use Rattle.std.proofs.Common.{◌≡◌, true, sym, subst}
+use Rattle.std.specs.Prelude.{IfOk, OnOk}
 use Rattle.gm_ast.specs.Tree.{program_of}
 use Rattle.gm_forms.specs.Meanings.{SameMeaning}
 use Rattle.gm_forms.specs.Ready.{Ready2}
 use Rattle.gm_dissect.specs.Conditions.{has_saved_conditions, with_saved_conditions}
 use Rattle.gm_dissect.proofs.SavedConditions.{ready-saved, same-saved, saved-conditions}
+use Rattle.gm_dissect.proofs.Trees.{finished, ok-then}
 use Rattle.gm_dissect.proofs.conditions.save_conditions.Goals as goal
 
+pub returns-clause-made : goal.returns-clause-made
+returns-clause-made c =
+    let p = program_of c.args.program in
+    let tree = c.save_all-outcome.new.tree in
+    let changed : OnOk c.save_all-outcome.result (program_of tree ≡ with_saved_conditions p) = subst (λ t. OnOk c.save_all-outcome.result (program_of tree ≡ with_saved_conditions (program_of t))) c.into_tree-tree.ensures c.save_all-outcome.ensures in
+    finished c.finish.result c.save_all-outcome.result tree (λ t. program_of t ≡ with_saved_conditions p) c.finish.ensures.tree c.finish.ensures.changed changed
+
 pub returns-clause-same : goal.returns-clause-same
-returns-clause-same c ready =
-    let made : program_of c.new.result ≡ with_saved_conditions (program_of c.args.program) = search rules in
-    subst (SameMeaning (program_of c.args.program)) (sym made) (same-saved (program_of c.args.program) ready)
+returns-clause-same c =
+    let p = program_of c.args.program in
+    let made : IfOk c.finish.result (λ r. program_of r ≡ with_saved_conditions p) = returns-clause-made c in
+    ok-then c.finish.result made (λ r same ready. subst (SameMeaning p) (sym same) (same-saved p ready))
 
 pub returns-clause-ready : goal.returns-clause-ready
-returns-clause-ready c ready =
-    let made : program_of c.new.result ≡ with_saved_conditions (program_of c.args.program) = search rules in
-    subst Ready2 (sym made) (ready-saved (program_of c.args.program) ready)
+returns-clause-ready c =
+    let p = program_of c.args.program in
+    let made : IfOk c.finish.result (λ r. program_of r ≡ with_saved_conditions p) = returns-clause-made c in
+    ok-then c.finish.result made (λ r same ready. subst Ready2 (sym same) (ready-saved p ready))
 
 pub returns-clause-saved : goal.returns-clause-saved
 returns-clause-saved c =
-    let made : program_of c.new.result ≡ with_saved_conditions (program_of c.args.program) = search rules in
-    subst (λ p. has_saved_conditions p ≡ true) (sym made) (saved-conditions (program_of c.args.program))
+    let p = program_of c.args.program in
+    let made : IfOk c.finish.result (λ r. program_of r ≡ with_saved_conditions p) = returns-clause-made c in
+    ok-then c.finish.result made (λ r same. subst (λ q. has_saved_conditions q ≡ true) (sym same) (saved-conditions p))

@@ -1,18 +1,29 @@
-use Rattle.std.proofs.Common.{◌≡◌, rules, sym, subst}
+use Rattle.std.proofs.Common.{◌≡◌, sym, subst}
+use Rattle.std.specs.Prelude.{IfOk, OnOk}
 use Rattle.gm_ast.specs.Tree.{program_of}
 use Rattle.gm_forms.specs.Meanings.{SameMeaning}
-use Rattle.gm_dissect.specs.Deferred.{without_deferred_to}
 use Rattle.gm_forms.specs.Ready.{Ready2}
+use Rattle.gm_dissect.specs.Deferred.{without_deferred_to}
 use Rattle.gm_dissect.proofs.DeferredKept.{ready-without_deferred}
 use Rattle.gm_dissect.proofs.DeferredLaws.{same-without_deferred}
+use Rattle.gm_dissect.proofs.Trees.{finished, ok-then}
 use Rattle.gm_dissect.proofs.deferred.deferred_to_out.Goals as goal
 
+pub returns-clause-made : goal.returns-clause-made
+returns-clause-made c =
+    let p = program_of c.args.program in
+    let tree = c.move_out-outcome.new.tree in
+    let changed : OnOk c.move_out-outcome.result (program_of tree ≡ without_deferred_to c.args.property p) = subst (λ t. OnOk c.move_out-outcome.result (program_of tree ≡ without_deferred_to c.args.property (program_of t))) c.into_tree-tree.ensures c.move_out-outcome.ensures in
+    finished c.finish.result c.move_out-outcome.result tree (λ t. program_of t ≡ without_deferred_to c.args.property p) c.finish.ensures.tree c.finish.ensures.changed changed
+
 pub returns-clause-same : goal.returns-clause-same
-returns-clause-same c ready =
-    let made : program_of c.new.result ≡ without_deferred_to c.args.property (program_of c.args.program) = search rules in
-    subst (SameMeaning (program_of c.args.program)) (sym made) (same-without_deferred c.args.property (program_of c.args.program) ready)
+returns-clause-same c =
+    let p = program_of c.args.program in
+    let made : IfOk c.finish.result (λ r. program_of r ≡ without_deferred_to c.args.property p) = returns-clause-made c in
+    ok-then c.finish.result made (λ r same ready. subst (SameMeaning p) (sym same) (same-without_deferred c.args.property p ready))
 
 pub returns-clause-ready : goal.returns-clause-ready
-returns-clause-ready c ready =
-    let made : program_of c.new.result ≡ without_deferred_to c.args.property (program_of c.args.program) = search rules in
-    subst Ready2 (sym made) (ready-without_deferred c.args.property (program_of c.args.program) ready)
+returns-clause-ready c =
+    let p = program_of c.args.program in
+    let made : IfOk c.finish.result (λ r. program_of r ≡ without_deferred_to c.args.property p) = returns-clause-made c in
+    ok-then c.finish.result made (λ r same ready. subst Ready2 (sym same) (ready-without_deferred c.args.property p ready))
