@@ -46,6 +46,7 @@ use Rattle.gm_locals.specs.Groups.{may_move_within, may_keep, keeps_locals, loca
 use Rattle.gm_locals.proofs.TargetKinds.{kinds, kinds-first, kinds-stay, kinds-alike}
 use Rattle.gm_locals.proofs.SharesBeside.{shares_with, shares-beside, shares-again, shares-beside-moved}
 use Rattle.gm_locals.proofs.Staying.{reads-below, names-below-moved}
+use Rattle.gm_locals.proofs.UpTo.{reads-up-to, names-up-to}
 
 -- a scalar is no property
 no-property : (v : Variable) → sort_eq Sorts.Scalar v.sort ≡ true → has_role v NodeValue ≡ true → ⊥
@@ -63,7 +64,7 @@ no-property v = by v.sort
 scalar-told : (v : Variable) → sort_eq Sorts.Scalar v.sort ≡ true → has_role v Told ≡ true
 scalar-told v h = ap (λ b. b || (sort_eq Sorts.Iterator v.sort || sort_eq Sorts.Graph v.sort)) h
 
-longer-length : (xs ys : List Declaration) → length xs ≤ length (xs ++ ys)
+pub longer-length : (xs ys : List Declaration) → length xs ≤ length (xs ++ ys)
 longer-length [] ys = omega arith
 longer-length (x ∷ xs) ys = let h = longer-length xs ys in omega (arith, h)
 
@@ -75,7 +76,7 @@ module _ (ds dt : List Declaration) where
   Added q (x ∷ xs) = (q < length dt) × ((variable_at dt q ≡ (copy_of ds x).variable) × Added (suc q) xs)
 
 -- those that are added behind a table do
-added-behind : (ds before : List Declaration) (xs : List ℕ) → Added ds (before ++ map (copy_of ds) xs) (length before) xs
+pub added-behind : (ds before : List Declaration) (xs : List ℕ) → Added ds (before ++ map (copy_of ds) xs) (length before) xs
 added-behind ds before [] = tt
 added-behind ds before (x ∷ xs) =
     let c = copy_of ds x in
@@ -203,17 +204,8 @@ module _ (ds dt : List Declaration) (same : (x : ℕ) → x < length ds → vari
       sound-then dt res (set_to q x at hd) (sequence (rest ∷ [])) (first-sound q x xs test body stands all.0 added)
       (sound-then dt res rest Skip (locals-sound xs (suc q) asks does (stands-still q x xs test body stands all.0 added) all.1 added.1.1) (sound-skip dt res))
 
--- the loops that keep the locals keep what they should
-module _ (ds : List Declaration) (xs : List ℕ) (res : Option VType) where
-  abbrev dt : List Declaration
-  dt = ds ++ map (copy_of ds) xs
-
-  same : (y : ℕ) → y < length ds → variable_at dt y ≡ variable_at ds y
-  same y h = variable-longer ds (map (copy_of ds) xs) y h
-
-  pub more : length ds ≤ length dt
-  more = longer-length ds (map (copy_of ds) xs)
-
+-- a loop that keeps locals keeps what it should, in a longer table that has their properties
+module _ (ds dt : List Declaration) (same : (x : ℕ) → x < length ds → variable_at dt x ≡ variable_at ds x) (more : length ds ≤ length dt) (res : Option VType) where
   module _ (key : Key) (at : Place) (hd : Head) (test : Expr) (body : Stmt) (sound : Sound ds res (Foreach key at hd test body)) where
     abbrev it : ℕ
     it = hd.iterator
@@ -222,7 +214,7 @@ module _ (ds : List Declaration) (xs : List ℕ) (res : Option VType) where
     below = names-below ds (Foreach key at hd test body) sound.named
 
     -- the loop as it is
-    longer-loop : Sound dt res (Foreach key at hd test body)
+    pub longer-loop : Sound dt res (Foreach key at hd test body)
     longer-loop = record {
       named = all-suit ds dt same more (uses_of (Foreach key at hd test body)) sound.named;
       typed = typed-same ds dt same more res (Foreach key at hd test body) below ∙ sound.typed;
@@ -245,60 +237,73 @@ module _ (ds : List Declaration) (xs : List ℕ) (res : Option VType) where
         let s = all-append (suits ds) (uses_in test) (uses_of body) r.1 in
         declared-local ds it x body g.1 s.1 d
 
-    abbrev May : List ℕ → Type 0
-    May ys = list_all (may_keep ds xs it test body) ys ≡ true
+    module _ (xs : List ℕ) where
+      abbrev May : List ℕ → Type 0
+      May ys = list_all (may_keep ds xs it test body) ys ≡ true
 
-    abbrev AllGoing : List ℕ → Type 0
-    AllGoing ys = AllGo ds dt same more res key at hd range head-named ys
+      abbrev AllGoing : List ℕ → Type 0
+      AllGoing ys = AllGo ds dt same more res key at hd range head-named ys
 
-    all-go : (ys : List ℕ) → May ys → AllGoing ys
-    all-go [] m = tt
-    all-go (x ∷ ys) m =
-        let r = both-true (may_keep ds xs it test body x) (list_all (may_keep ds xs it test body) ys) m in
-        let a = both-true (sort_eq Sorts.Scalar (variable_at ds x).sort) (declares x body && (names_plainly x test && may_move_within xs x it body)) r.0 in
-        let b = both-true (declares x body) (names_plainly x test && may_move_within xs x it body) a.1 in
-        let is = local-of x b.0 in
-        (record { below = is.0; deep = ap (λ (v : Variable). nat_eq v.depth 1) (same x is.0) ∙ is.1.0; scalar = ap (λ (v : Variable). sort_eq Sorts.Scalar v.sort) (same x is.0) ∙ a.0 }, all-go ys r.1)
+      all-go : (ys : List ℕ) → May ys → AllGoing ys
+      all-go [] m = tt
+      all-go (x ∷ ys) m =
+          let r = both-true (may_keep ds xs it test body x) (list_all (may_keep ds xs it test body) ys) m in
+          let a = both-true (sort_eq Sorts.Scalar (variable_at ds x).sort) (declares x body && (names_plainly x test && may_move_within xs x it body)) r.0 in
+          let b = both-true (declares x body) (names_plainly x test && may_move_within xs x it body) a.1 in
+          let is = local-of x b.0 in
+          (record { below = is.0; deep = ap (λ (v : Variable). nat_eq v.depth 1) (same x is.0) ∙ is.1.0; scalar = ap (λ (v : Variable). sort_eq Sorts.Scalar v.sort) (same x is.0) ∙ a.0 }, all-go ys r.1)
 
-    within-all : (ys : List ℕ) → May ys → (x : ℕ) → IsIn x ys → may_move_within xs x it body ≡ true
-    within-all [] m x i = absurd i
-    within-all (y ∷ ys) m x i =
-        let r = both-true (may_keep ds xs it test body y) (list_all (may_keep ds xs it test body) ys) m in
-        let a = both-true (sort_eq Sorts.Scalar (variable_at ds y).sort) (declares y body && (names_plainly y test && may_move_within xs y it body)) r.0 in
-        let b = both-true (declares y body) (names_plainly y test && may_move_within xs y it body) a.1 in
-        let c = both-true (names_plainly y test) (may_move_within xs y it body) b.1 in
-        ⊎_elim (λ (e : x ≡ y). subst (λ z. may_move_within xs z it body ≡ true) (sym e) c.1) (λ j. within-all ys r.1 x j) i
+      within-all : (ys : List ℕ) → May ys → (x : ℕ) → IsIn x ys → may_move_within xs x it body ≡ true
+      within-all [] m x i = absurd i
+      within-all (y ∷ ys) m x i =
+          let r = both-true (may_keep ds xs it test body y) (list_all (may_keep ds xs it test body) ys) m in
+          let a = both-true (sort_eq Sorts.Scalar (variable_at ds y).sort) (declares y body && (names_plainly y test && may_move_within xs y it body)) r.0 in
+          let b = both-true (declares y body) (names_plainly y test && may_move_within xs y it body) a.1 in
+          let c = both-true (names_plainly y test) (may_move_within xs y it body) b.1 in
+          ⊎_elim (λ (e : x ≡ y). subst (λ z. may_move_within xs z it body ≡ true) (sym e) c.1) (λ j. within-all ys r.1 x j) i
 
-    stands-first : May xs → Stands ds dt same more res key at hd range head-named (length ds) xs test body
-    stands-first may =
-        let u = all-append (suits dt) (uses_in test) (uses_of body) (all-append (suits dt) (uses_of_head hd) (uses_in test ++ uses_of body) longer-loop.named).1 in
-        let w = both-true (has_type dt V.Flag test) (is_typed_in dt res body) longer-loop.typed in
-        let f = both-true (is_nodes hd.domain) (is_flat_loop dt false it test body) longer-loop.form in
-        let g = both-true (is_flat (it ∷ []) false test) (is_outer_body dt false it body) f.1 in
-        let s = shares-beside dt it test body longer-loop.share in
-        record {
-          iterates = below.0;
-          reads = below.2;
-          names = below.3;
-          told = u.0;
-          named = u.1;
-          flag = w.0;
-          typed = w.1;
-          order = longer-loop.order;
-          share = s.1;
-          flat = g.0;
-          form = g.1;
-          kind = kinds-first xs it body (within-all xs may) s.0;
-        }
+      stands-first : (q : ℕ) → length ds ≤ q → May xs → Stands ds dt same more res key at hd range head-named q xs test body
+      stands-first q least may =
+          let u = all-append (suits dt) (uses_in test) (uses_of body) (all-append (suits dt) (uses_of_head hd) (uses_in test ++ uses_of body) longer-loop.named).1 in
+          let w = both-true (has_type dt V.Flag test) (is_typed_in dt res body) longer-loop.typed in
+          let f = both-true (is_nodes hd.domain) (is_flat_loop dt false it test body) longer-loop.form in
+          let g = both-true (is_flat (it ∷ []) false test) (is_outer_body dt false it body) f.1 in
+          let s = shares-beside dt it test body longer-loop.share in
+          record {
+            iterates = let a = below.0 in omega (arith, a, least);
+            reads = reads-up-to (length ds) q least test below.2;
+            names = names-up-to (length ds) q least body below.3;
+            told = u.0;
+            named = u.1;
+            flag = w.0;
+            typed = w.1;
+            order = longer-loop.order;
+            share = s.1;
+            flat = g.0;
+            form = g.1;
+            kind = kinds-first xs it body (within-all xs may) s.0;
+          }
 
-    kept-sound : Sound dt res (kept_loop ds xs (length ds) key at hd test body)
-    kept-sound = by (keeps_locals ds xs it test body) refl
-      where
-        by : (b : Bool) → keeps_locals ds xs it test body ≡ b → Sound dt res (cond b (locals_loop ds xs (length ds) key at hd test body) (Foreach key at hd test body))
-        by true e =
-            let may = (both-true (holds_cut it body) (list_all (may_keep ds xs it test body) xs) e).1 in
-            locals-sound ds dt same more res key at hd range head-named xs (length ds) test body (stands-first may) (all-go xs may) (added-behind ds ds xs)
-        by false e = longer-loop
+      -- locals that may all be kept together, in properties from a number on
+      pub together-sound : (q : ℕ) → length ds ≤ q → May xs → Added ds dt q xs → Sound dt res (locals_loop ds xs q key at hd test body)
+      together-sound q least may added = locals-sound ds dt same more res key at hd range head-named xs q test body (stands-first q least may) (all-go xs may) added
+
+-- the loops that keep some locals keep what they should
+module _ (ds : List Declaration) (xs : List ℕ) (res : Option VType) where
+  abbrev dt : List Declaration
+  dt = ds ++ map (copy_of ds) xs
+
+  same : (y : ℕ) → y < length ds → variable_at dt y ≡ variable_at ds y
+  same y h = variable-longer ds (map (copy_of ds) xs) y h
+
+  pub more : length ds ≤ length dt
+  more = longer-length ds (map (copy_of ds) xs)
 
   pub group-sound : (key : Key) (at : Place) (hd : Head) (test : Expr) (body : Stmt) → Sound ds res (Foreach key at hd test body) → Sound dt res (kept_loop ds xs (length ds) key at hd test body)
-  group-sound key at hd test body sound = kept-sound key at hd test body sound
+  group-sound key at hd test body sound = by (keeps_locals ds xs hd.iterator test body) refl
+    where
+      by : (b : Bool) → keeps_locals ds xs hd.iterator test body ≡ b → Sound dt res (cond b (locals_loop ds xs (length ds) key at hd test body) (Foreach key at hd test body))
+      by true e =
+          let may = (both-true (holds_cut hd.iterator body) (list_all (may_keep ds xs hd.iterator test body) xs) e).1 in
+          together-sound ds dt same more res key at hd test body sound xs (length ds) (omega arith) may (added-behind ds ds xs)
+      by false e = longer-loop ds dt same more res key at hd test body sound

@@ -48,23 +48,24 @@ use Rattle.gm_locals.specs.Beside.{is_mine, may_move_beside}
 use Rattle.gm_locals.specs.Groups.{is_among, may_move_within, may_keep, keeps_locals, locals_loop, kept_loop}
 use Rattle.gm_locals.proofs.MovesBeside.{locals-move-beside}
 use Rattle.gm_locals.proofs.Staying.{reads-below, names-below-moved, plain-stays, beside-stays}
+use Rattle.gm_locals.proofs.UpTo.{reads-up-to, names-up-to}
 
 -- what agrees below a number agrees below a lesser one
-agree-down : (k : ℕ) (s t : Store) → Agree (suc k) s t → Agree k s t
-agree-down k s t a = record { scalar = λ x l. a.scalar x (omega (arith, l)); node = λ p y l. a.node p y (omega (arith, l)); edge = λ p e l. a.edge p e (omega (arith, l)) }
+agree-down : (j k : ℕ) → j ≤ k → (s t : Store) → Agree k s t → Agree j s t
+agree-down j k m s t a = record { scalar = λ x l. a.scalar x (omega (arith, l, m)); node = λ p y l. a.node p y (omega (arith, l, m)); edge = λ p e l. a.edge p e (omega (arith, l, m)) }
 
-alike-down : (k : ℕ) (a b : Result Store Fault) → AlikeStores (suc k) a b → AlikeStores k a b
-alike-down k (Ok s) (Ok t) h = agree-down k s t h
-alike-down k (Ok s) (Err f) h = absurd h
-alike-down k (Err f) (Ok t) h = absurd h
-alike-down k (Err f) (Err g) h = h
+alike-down : (j k : ℕ) → j ≤ k → (a b : Result Store Fault) → AlikeStores k a b → AlikeStores j a b
+alike-down j k m (Ok s) (Ok t) h = agree-down j k m s t h
+alike-down j k m (Ok s) (Err f) h = absurd h
+alike-down j k m (Err f) (Ok t) h = absurd h
+alike-down j k m (Err f) (Err g) h = h
 
 -- the same change before two that are the same from any store
-same-behind : (k : ℕ) (f g h : Change) → SameChange (suc k) g h → (t : Store) → AlikeStores k (in_turn f g t) (in_turn f h t)
-same-behind k f g h same t = by (f t)
+same-behind : (j k : ℕ) → j ≤ k → (f g h : Change) → SameChange k g h → (t : Store) → AlikeStores j (in_turn f g t) (in_turn f h t)
+same-behind j k m f g h same t = by (f t)
   where
-    by : (r : Result Store Fault) → AlikeStores k (then_with r g) (then_with r h)
-    by (Ok w) = alike-down k (g w) (h w) (same w w (agree-refl (suc k) w))
+    by : (r : Result Store Fault) → AlikeStores j (then_with r g) (then_with r h)
+    by (Ok w) = alike-down j k m (g w) (h w) (same w w (agree-refl k w))
     by (Err e) = refl
 
 -- locals of a loop's body that are reduced with one another are reduced with the iteration's own
@@ -151,7 +152,7 @@ module _ (ds : List Declaration) (run : Run) (same : (x : ℕ) → x < length ds
     names : NamesBelow q body
     quiet : (p : ℕ) → q ≤ p → pushes body n p ≡ false
 
-  module _ (q x : ℕ) (test : Expr) (body : Stmt) (fits : Fits q test body) (known : Movable q test body x) where
+  module _ (j q x : ℕ) (least : j ≤ q) (test : Expr) (body : Stmt) (fits : Fits j test body) (known : Movable j test body x) where
     abbrev asked : Expr
     asked = moved_in x q n at (first_of x) test
 
@@ -161,12 +162,15 @@ module _ (ds : List Declaration) (run : Run) (same : (x : ℕ) → x < length ds
     pushes-same : pushes inside n ≡ pushes body n
     pushes-same = fun_ext (λ p. moved-pushes x q n p at (first_of x) body)
 
-    law : SameChange q (alone test body) (in_turn (looped (over body) first_key always (into q x)) (looped (over body) key asked inside))
+    past : n < q
+    past = let a = fits.iterates in omega (arith, a, least)
+
+    law : SameChange j (alone test body) (in_turn (looped (over body) first_key always (into q x)) (looped (over body) key asked inside))
     law =
         let loop = over body in
-        subst (λ f. SameChange q (alone test body) (in_turn f (looped loop key asked inside))) (sym (locals-any loop first_key second_key key x q at known.apart))
-        (subst (λ (t : VType). SameChange q (alone test body) (in_turn (looped loop key always (Assign key (T.Property n q at) (Var x at))) (looped loop key (moved_in x q n at (zero_of t) test) (moved x q n at (zero_of t) body)))) known.typed
-        (locals-move-beside q loop x q key at test body known.below fits.iterates known.apart (omega arith) known.deep (fits.quiet q (omega arith)) fits.reads fits.names known.plain known.moves))
+        subst (λ f. SameChange j (alone test body) (in_turn f (looped loop key asked inside))) (sym (locals-any loop first_key second_key key x q at known.apart))
+        (subst (λ (t : VType). SameChange j (alone test body) (in_turn (looped loop key always (Assign key (T.Property n q at) (Var x at))) (looped loop key (moved_in x q n at (zero_of t) test) (moved x q n at (zero_of t) body)))) known.typed
+        (locals-move-beside j loop x q key at test body known.below fits.iterates known.apart least known.deep (fits.quiet q least) fits.reads fits.names known.plain known.moves))
 
     into-same : looped (over body) first_key always (into q x) ≡ setting q x
     into-same = fun_ext (λ s. own-loop (over body) (pushes (into q x) n) first_key always (into q x) refl s)
@@ -174,34 +178,34 @@ module _ (ds : List Declaration) (run : Run) (same : (x : ℕ) → x < length ds
     within-same : looped (over body) key asked inside ≡ alone asked inside
     within-same = ap (λ (f : ℕ → Bool). looped (record (over body) { pushed = f }) key asked inside) (sym pushes-same)
 
-    step : SameChange q (alone test body) (in_turn (setting q x) (alone asked inside))
+    step : SameChange j (alone test body) (in_turn (setting q x) (alone asked inside))
     step =
-        subst (λ f. SameChange q (alone test body) (in_turn f (alone asked inside))) into-same
-        (subst (λ f. SameChange q (alone test body) (in_turn (looped (over body) first_key always (into q x)) f)) within-same law)
+        subst (λ f. SameChange j (alone test body) (in_turn f (alone asked inside))) into-same
+        (subst (λ f. SameChange j (alone test body) (in_turn (looped (over body) first_key always (into q x)) f)) within-same law)
 
     -- what is known of the rest stays
     fits-still : Fits (suc q) asked inside
     fits-still = record {
-      iterates = let a = fits.iterates in omega (arith, a);
-      reads = reads-below x q n at (first_of x) fits.iterates test fits.reads;
-      names = names-below-moved x q n at (first_of x) fits.iterates body fits.names;
-      quiet = λ p l. ap (λ f. f p) pushes-same ∙ fits.quiet p (omega (arith, l));
+      iterates = let a = past in omega (arith, a);
+      reads = reads-below x q n at (first_of x) past test (reads-up-to j q least test fits.reads);
+      names = names-below-moved x q n at (first_of x) past body (names-up-to j q least body fits.names);
+      quiet = λ p l. ap (λ f. f p) pushes-same ∙ fits.quiet p (omega (arith, l, least));
     }
 
-    movable-still : (y : ℕ) → Movable q test body y → Movable (suc q) asked inside y
+    movable-still : (y : ℕ) → Movable j test body y → Movable (suc q) asked inside y
     movable-still y m =
         let other : nat_eq n y ≡ false = ne_eqb n y (λ e. m.apart (sym e)) in
         record {
-          below = let a = m.below in omega (arith, a);
+          below = let a = m.below in omega (arith, a, least);
           apart = m.apart;
           deep = m.deep;
           typed = m.typed;
-          plain = plain-stays x q n at (first_of x) fits.iterates y other test m.plain;
+          plain = plain-stays x q n at (first_of x) past y other test m.plain;
           moves = subst (λ (f : ℕ → Bool). may_move_beside (record (over body) { pushed = f }) y inside ≡ true) (sym pushes-same)
-              (beside-stays x q n at (first_of x) fits.iterates y other (over body) refl (fits.quiet q (omega arith)) body m.moves);
+              (beside-stays x q n at (first_of x) past y other (over body) refl (fits.quiet q least) body m.moves);
         }
 
-    all-movable-still : (ys : List ℕ) → AllMovable q test body ys → AllMovable (suc q) asked inside ys
+    all-movable-still : (ys : List ℕ) → AllMovable j test body ys → AllMovable (suc q) asked inside ys
     all-movable-still [] m = tt
     all-movable-still (y ∷ ys) m = (movable-still y m.0, all-movable-still ys m.1)
 
@@ -210,13 +214,16 @@ module _ (ds : List Declaration) (run : Run) (same : (x : ℕ) → x < length ds
   changes [] q test body = alone test body
   changes (x ∷ xs) q test body = in_turn (setting q x) (changes xs (suc q) (moved_in x q n at (first_of x) test) (moved x q n at (first_of x) body))
 
-  changes-same : (xs : List ℕ) (q : ℕ) (test : Expr) (body : Stmt) → Fits q test body → AllMovable q test body xs → SameChange q (alone test body) (changes xs q test body)
-  changes-same [] q test body fits known s t agree = loop-same q (over body) key test body fits.reads fits.names s t agree
-  changes-same (x ∷ xs) q test body fits known s t agree =
-      let behind = changes xs (suc q) (asked q x test body fits known.0) (inside q x test body fits known.0) in
-      let rest = changes-same xs (suc q) (asked q x test body fits known.0) (inside q x test body fits known.0) (fits-still q x test body fits known.0) (all-movable-still q x test body fits known.0 xs known.1) in
-      alike-trans q (alone test body s) (in_turn (setting q x) (alone (asked q x test body fits known.0) (inside q x test body fits known.0)) t) (in_turn (setting q x) behind t)
-      (step q x test body fits known.0 s t agree) (same-behind q (setting q x) (alone (asked q x test body fits known.0) (inside q x test body fits known.0)) behind rest t)
+  changes-same : (xs : List ℕ) (j q : ℕ) → j ≤ q → (test : Expr) (body : Stmt) → Fits j test body → AllMovable j test body xs → SameChange j (alone test body) (changes xs q test body)
+  changes-same [] j q least test body fits known s t agree = loop-same j (over body) key test body fits.reads fits.names s t agree
+  changes-same (x ∷ xs) j q least test body fits known s t agree =
+      let asks = asked j q x least test body fits known.0 in
+      let does = inside j q x least test body fits known.0 in
+      let behind = changes xs (suc q) asks does in
+      let up : j ≤ suc q = omega (arith, least) in
+      let rest = changes-same xs (suc q) (suc q) (omega arith) asks does (fits-still j q x least test body fits known.0) (all-movable-still j q x least test body fits known.0 xs known.1) in
+      alike-trans j (alone test body s) (in_turn (setting q x) (alone asks does) t) (in_turn (setting q x) behind t)
+      (step j q x least test body fits known.0 s t agree) (same-behind j (suc q) up (setting q x) (alone asks does) behind rest t)
 
   -- the statements do these changes
   changes-do : (xs : List ℕ) (q : ℕ) (test : Expr) (body : Stmt) (v : State) → with_value (changes xs q test body v.store) (with_store v) ≡ sequential (locals_loop ds xs q key at h test body) run v
@@ -228,11 +235,11 @@ module _ (ds : List Declaration) (run : Run) (same : (x : ℕ) → x < length ds
       turns-do (setting q x) (changes xs (suc q) asks does) (sequential (sequence (rest ∷ [])) run) v
       (λ w. last-do run (record v { store = w }) (changes xs (suc q) asks does w) ∙ ap (λ c. then_do c (sequential Skip run)) (changes-do xs (suc q) asks does (record v { store = w })))
 
-  locals-alike : (xs : List ℕ) (q : ℕ) (test : Expr) (body : Stmt) → Fits q test body → AllMovable q test body xs → (u v : State) → AlikeStates q u v →
-      AlikeCourses q (sequential (Foreach key at h test body) run u) (sequential (locals_loop ds xs q key at h test body) run v)
-  locals-alike xs q test body fits known u v alike =
-      subst (AlikeCourses q (sequential (Foreach key at h test body) run u)) (changes-do xs q test body v)
-      (courses-alike q u v (alone test body u.store) (changes xs q test body v.store) (changes-same xs q test body fits known u.store v.store alike.store) alike.turns)
+  locals-alike : (xs : List ℕ) (j q : ℕ) → j ≤ q → (test : Expr) (body : Stmt) → Fits j test body → AllMovable j test body xs → (u v : State) → AlikeStates j u v →
+      AlikeCourses j (sequential (Foreach key at h test body) run u) (sequential (locals_loop ds xs q key at h test body) run v)
+  locals-alike xs j q least test body fits known u v alike =
+      subst (AlikeCourses j (sequential (Foreach key at h test body) run u)) (changes-do xs q test body v)
+      (courses-alike j u v (alone test body u.store) (changes xs q test body v.store) (changes-same xs j q least test body fits known u.store v.store alike.store) alike.turns)
 
   -- from what the loop is known to be, and the test
   module _ (test : Expr) (body : Stmt) (known : KnownLoop ds key at h test body) where
@@ -296,6 +303,11 @@ module _ (ds : List Declaration) (run : Run) (same : (x : ℕ) → x < length ds
             movable-first all ys r.1,
           )
 
+    -- locals that may all be kept together, in properties from a number on
+    pub together-alike : (xs : List ℕ) (q : ℕ) → k ≤ q → May xs xs → (u v : State) → AlikeStates k u v →
+        AlikeCourses k (sequential (Foreach key at h test body) run u) (sequential (locals_loop ds xs q key at h test body) run v)
+    together-alike xs q least may u v alike = locals-alike xs k q least test body fits-first (movable-first xs may xs may) u v alike
+
     pub kept-alike : (xs : List ℕ) (u v : State) → AlikeStates k u v → AlikeCourses k (sequential (Foreach key at h test body) run u) (sequential (kept_loop ds xs k key at h test body) run v)
     kept-alike xs u v alike = by (keeps_locals ds xs n test body) refl
       where
@@ -303,7 +315,7 @@ module _ (ds : List Declaration) (run : Run) (same : (x : ℕ) → x < length ds
             AlikeCourses k (sequential (Foreach key at h test body) run u) (sequential (cond b (locals_loop ds xs k key at h test body) (Foreach key at h test body)) run v)
         by true e =
             let may = (both-true (holds_cut n body) (list_all (may_keep ds xs n test body) xs) e).1 in
-            locals-alike xs k test body fits-first (movable-first xs may xs may) u v alike
+            together-alike xs k (omega arith) may u v alike
         by false e = sequential-alike k (Foreach key at h test body) run u v below alike
 
 -- the loops that keep the locals are written so

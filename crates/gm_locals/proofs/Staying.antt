@@ -17,7 +17,7 @@ use Rattle.gm_dissect.proofs.DeferredLoops.{either-true}
 use Rattle.gm_locals.specs.Beside.{is_mine, may_move_beside}
 
 -- what is below a number is below the next
-read-up : (k : ℕ) (e : Expr) → ReadsBelow k e → ReadsBelow (suc k) e
+pub read-up : (k : ℕ) (e : Expr) → ReadsBelow k e → ReadsBelow (suc k) e
 read-up k (Const v) h = tt
 read-up k (Var x at) h = omega (arith, h)
 read-up k (Property x p at) h = (let a = h.0 in omega (arith, a), let a = h.1 in omega (arith, a))
@@ -45,7 +45,7 @@ target-up : (k : ℕ) (t : Target) → TargetBelow k t → TargetBelow (suc k) t
 target-up k (T.Scalar x at) h = omega (arith, h)
 target-up k (T.Property x p at) h = (let a = h.0 in omega (arith, a), let a = h.1 in omega (arith, a))
 
-names-up : (k : ℕ) (s : Stmt) → NamesBelow k s → NamesBelow (suc k) s
+pub names-up : (k : ℕ) (s : Stmt) → NamesBelow k s → NamesBelow (suc k) s
 names-up k Skip h = tt
 names-up k (Then a b) h = (names-up k a h.0, names-up k b h.1)
 names-up k (Declare key x e) h = (let a = h.0 in omega (arith, a), may-read-up k e h.1)
