@@ -1,0 +1,23 @@
+pub mod Reductions
+pub mod Separable
+pub mod Lasting
+pub mod InnerLoops
+pub mod Pieces
+pub mod Runs
+pub mod Programs
+pub mod FilterLoops
+pub mod FilterKept
+pub mod Loops
+pub mod FilterLaws
+pub mod NoLocals
+pub mod WithoutLocals
+pub mod MovedParts
+pub mod MovedNames
+pub mod MovedPrograms
+pub mod SavedParts
+pub mod SavedNames
+pub mod SavedPrograms
+pub mod FilterFacts
+pub mod DeferredFacts
+pub mod Prepared
+mod Samples

@@ -1,0 +1,65 @@
+-- A program means the same, and is ready, when it is prepared, and its bodies may go to pieces then.
+use Rattle.std.proofs.Common.{◌≡◌, true}
+use Rattle.gm_ast.specs.Program.{Program}
+use Rattle.gm_forms.specs.Meanings.{SameMeaning}
+use Rattle.gm_forms.specs.Ready.{Ready2, Ready3}
+use Rattle.gm_forms.proofs.Meanings.{same-trans}
+use Rattle.gm_dissect.specs.AllDeferred.{without_deferred}
+use Rattle.gm_dissect.specs.Conditions.{with_saved_conditions}
+use Rattle.gm_dissect.proofs.AllDeferred as Deferred
+use Rattle.gm_dissect.proofs.LocalLaws.{all-same, all-ready}
+use Rattle.gm_dissect.proofs.SavedConditions as Conditions
+use Rattle.gm_cut.specs.Parts.{goes_any_way, in_pieces, IsCutBy}
+use Rattle.gm_cut.specs.Slices.{can_be_sliced}
+use Rattle.gm_cut.proofs.PartLaws.{same-parted, ready-parted}
+use Rattle.gm_cut.proofs.SlicesLaws.{same-sliced, ready-sliced}
+use Rattle.gm_parting.specs.Filters.{with_saved_filters}
+use Rattle.gm_parting.specs.Passes.{prepared, dissected, MayBePrepared}
+use Rattle.gm_parting.specs.Prepared.{IsPrepared}
+use Rattle.gm_parting.proofs.DeferredFacts.{facts-stay}
+use Rattle.gm_parting.proofs.FilterFacts.{numbered-stay, sums-stay, movable-stay, tuples-stay, iterators-stay}
+use Rattle.gm_parting.proofs.FilterLaws as Filters
+use Rattle.gm_parting.proofs.Programs.{programs-parted}
+use Rattle.gm_parting.proofs.SavedPrograms.{all-prepared}
+
+pub prepared-ready : (p : Program) → Ready2 p → Ready2 (prepared p)
+prepared-ready p r =
+    let a = without_deferred p in
+    let b = with_saved_filters a in
+    let c = with_saved_conditions b in
+    all-ready c (Conditions.ready-saved b (Filters.ready-saved a (Deferred.ready-all p r)))
+
+pub prepared-same : (p : Program) → Ready2 p → SameMeaning p (prepared p)
+prepared-same p r =
+    let a = without_deferred p in
+    let b = with_saved_filters a in
+    let c = with_saved_conditions b in
+    let ra = Deferred.ready-all p r in
+    let rb = Filters.ready-saved a ra in
+    let rc = Conditions.ready-saved b rb in
+    same-trans p a (prepared p) (Deferred.same-all p r)
+    (same-trans a b (prepared p) (Filters.same-saved a ra (Deferred.none-deferred p)) (same-trans b c (prepared p) (Conditions.same-saved b rb) (all-same c rc)))
+
+pub is-prepared : (p : Program) → Ready2 p → MayBePrepared p → IsPrepared (prepared p)
+is-prepared p r f =
+    let a = without_deferred p in
+    let b = with_saved_filters a in
+    let ra = Deferred.ready-all p r in
+    let rb = Filters.ready-saved a ra in
+    let g = facts-stay p r f in
+    all-prepared b rb (Filters.none-saved a ra (Deferred.none-deferred p)) (Filters.filters-saved a ra) (numbered-stay a ra g.numbered) (movable-stay a ra g.locals) (sums-stay a ra g.sums) (tuples-stay a ra g.tuples) (iterators-stay a ra g.iterators)
+
+pub pieces-same : (p : Program) → Ready2 p → MayBePrepared p → SameMeaning p (in_pieces (prepared p))
+pieces-same p r f =
+    let s = prepared-ready p r in
+    same-trans p (prepared p) (in_pieces (prepared p)) (prepared-same p r) (same-parted goes_any_way (prepared p) s (programs-parted (prepared p) s (is-prepared p r f)))
+
+pub pieces-cut : (p : Program) → Ready2 p → MayBePrepared p → IsCutBy goes_any_way (in_pieces (prepared p))
+pieces-cut p r f = let s = prepared-ready p r in ready-parted goes_any_way (prepared p) s (programs-parted (prepared p) s (is-prepared p r f))
+
+-- inner loops go to slices where they may
+pub slices-same : (p : Program) → Ready2 p → MayBePrepared p → can_be_sliced (in_pieces (prepared p)) ≡ true → SameMeaning p (dissected p)
+slices-same p r f h = let q = in_pieces (prepared p) in same-trans p q (dissected p) (pieces-same p r f) (same-sliced q (pieces-cut p r f) h)
+
+pub slices-ready : (p : Program) → Ready2 p → MayBePrepared p → can_be_sliced (in_pieces (prepared p)) ≡ true → Ready3 (dissected p)
+slices-ready p r f h = ready-sliced (in_pieces (prepared p)) (pieces-cut p r f) h
