@@ -1,4 +1,4 @@
--- The statements that a tree stands for have no expression of more than 512 levels, where those of the tree have none of more than 256.
+-- The statements that a tree stands for have no expression of more than 257 levels, where those of the tree have none of more than 256.
 use Rattle.std.proofs.Common.{◌≡◌, ◌≤◌, ◌+◌, ℕ, suc, true, false, List, [], ◌∷◌, map, refl, subst, arith, Option, Some, None}
 use Rattle.std.specs.Prelude.{◌&&◌, is_none, Ok}
 use Rattle.std.specs.Cmp.Derive.{both_true}
@@ -28,21 +28,21 @@ use Rattle.gm_ast.specs.Kinds.{Part, fitted}
 use Rattle.gm_ast.specs.Typing.{typed, start_of, ranged, head_with}
 use Rattle.gm_ast.specs.Statements.{type_broken, sort_of, vtype_of, variable_of, declared_all, following, goal, fits_goal, at_iterator, total_at, reduces, first_wanted, fits_each, all_answers, combined, one_of, incremented, goals_together, typed_all, reduced, plain_declarations, declarations_as, edge_declared, edge_owner, declared_value, declared_typed, declared_with, names_graph, group_target, in_group, grouped, assigned, deferred, assignment, returned, rooted, graph_searched, search_of, loops_of, loop_of, test, searched, checked}
 use Rattle.gm_ast.specs.Procedures.{env_of_body, all_parameters, head_broken, parts_of, elaborated}
-use Rattle.gm_depth.specs.Depths.{depth, is_within, are_within, all_within, is_shallow}
+use Rattle.gm_depth.specs.Depths.{depth, is_within, are_within, all_within, is_shallow_text}
 use Rattle.gm_depth.specs.Trees.{tree_depth, is_tree_within, are_trees_within, trees_within, is_shallow_tree}
 use Rattle.gm_depth.proofs.Parts.{IfPart, anything, if-weaker, if-by, if-both, if-good, if-then, if-with, if-judged}
 use Rattle.gm_depth.proofs.Typing.{LowPart, Low, fitted-more, condition-low, typed-low}
 
--- an expression, and a statement, with no more than 512 levels
+-- an expression, and a statement, with no more than 257 levels
 abbrev Fine : Expr → Type 0
-Fine e = is_within 512 e ≡ true
+Fine e = is_within 257 e ≡ true
 
 abbrev FineStmt : Stmt → Type 0
-FineStmt s = all_within 512 s ≡ true
+FineStmt s = all_within 257 s ≡ true
 
 -- a part with fewer
 abbrev FinePart : Part → Type 0
-FinePart p = suc (depth p.core) ≤ 512
+FinePart p = suc (depth p.core) ≤ 257
 
 abbrev Few : SurfaceExpr → Type 0
 Few e = is_tree_within 256 e ≡ true
@@ -57,10 +57,10 @@ typed-fine e env few =
 test-fine : (e : SurfaceExpr) (env : Env) → Few e → IfPart Fine (test e env).part
 test-fine e env few =
     let low : tree_depth e ≤ 256 = leb-true (tree_depth e) 256 few in
-    if-weaker (Low (tree_depth e)) Fine (test e env).part (λ c h. le-leb (depth c) 512 (omega arith)) (condition-low (tree_depth e) (start_of e) (typed e) env (typed-low e env))
+    if-weaker (Low (tree_depth e)) Fine (test e env).part (λ c h. le-leb (depth c) 257 (omega arith)) (condition-low (tree_depth e) (start_of e) (typed e) env (typed-low e env))
 
 fitted-fine : (t : VType) (rule : Rule) (at : Place) (p : Part) → FinePart p → IfPart Fine (ok_of (fitted t rule at p))
-fitted-fine t rule at p h = if-weaker (λ e. depth e ≤ suc (depth p.core)) Fine (ok_of (fitted t rule at p)) (λ e g. le-leb (depth e) 512 (omega arith)) (fitted-more t rule at p)
+fitted-fine t rule at p h = if-weaker (λ e. depth e ≤ suc (depth p.core)) Fine (ok_of (fitted t rule at p)) (λ e g. le-leb (depth e) 257 (omega arith)) (fitted-more t rule at p)
 
 fits_goal-fine : (wanted : Option VType) (rule : Rule) (at : Place) (p : Part) → FinePart p → IfPart Fine (ok_of (fits_goal wanted rule at p))
 fits_goal-fine None rule at p h = tt
@@ -79,17 +79,17 @@ typed_all-fine (e ∷ es) env few =
     if-by (λ (p : Part × List Part). FinePart p.0 × EachFine p.1) EachFine (both (typed e) (typed_all es) env).part (λ p. Ok (p.0 ∷ p.1))
     (if-both FinePart EachFine (typed e env).part (typed_all es (later env (typed e env))).part (typed-fine e env h.0) (typed_all-fine es (later env (typed e env)) h.1)) (λ p g. g)
 
-all-fine : (at : Place) (gs : List Goal) (ps : List Part) → EachFine ps → IfPart (λ es. are_within 512 es ≡ true) (ok_of (all_answers (fits_each at gs ps)))
+all-fine : (at : Place) (gs : List Goal) (ps : List Part) → EachFine ps → IfPart (λ es. are_within 257 es ≡ true) (ok_of (all_answers (fits_each at gs ps)))
 all-fine at [] [] h = refl
 all-fine at [] (p ∷ ps) h = tt
 all-fine at (g ∷ gs) [] h = tt
 all-fine at (g ∷ gs) (p ∷ ps) h =
-    if-with Fine (λ es. are_within 512 es ≡ true) (λ es. are_within 512 es ≡ true) (λ x xs. x ∷ xs) (fits_goal g.wanted T9 at p) (all_answers (fits_each at gs ps))
+    if-with Fine (λ es. are_within 257 es ≡ true) (λ es. are_within 257 es ≡ true) (λ x xs. x ∷ xs) (fits_goal g.wanted T9 at p) (all_answers (fits_each at gs ps))
     (fits_goal-fine g.wanted T9 at p h.0) (all-fine at gs ps h.1) (λ x xs f k. both_true f k)
 
 combined-fine : (k : Key) (at : Place) (r : Reduce) (ps : List Goal × List Part) → EachFine ps.1 → IfPart FineStmt (ok_of (combined k at r ps))
 combined-fine k at r ps h =
-    if-with (λ u. Unit {0}) (λ es. are_within 512 es ≡ true) FineStmt (λ u es. P.Combine k (total_at k at) r (map (λ g. g.target) ps.0) es)
+    if-with (λ u. Unit {0}) (λ es. are_within 257 es ≡ true) FineStmt (λ u es. P.Combine k (total_at k at) r (map (λ g. g.target) ps.0) es)
     (refused_unless (reduces r (first_wanted ps.0)) T11 at (tt {0})) (all_answers (fits_each at ps.0 ps.1))
     (anything (ok_of (refused_unless (reduces r (first_wanted ps.0)) T11 at (tt {0})))) (all-fine at ps.0 ps.1 h) (λ u es a f. f)
 
@@ -178,7 +178,7 @@ loop-fine Loops.For k at h e s f g = both_true f g
 -- ---- statements
 
 -- what stands around a numbered statement
-abbrev inner : Env → Env
+abbrev pub inner : Env → Env
 inner env = record env { number = env.number + 1; key = operators_of env.number }
 
 abbrev FineBody : Expr × Stmt → Type 0
@@ -282,14 +282,14 @@ checked-fine (Return at (Some e)) env few =
 
 -- ---- a procedure
 
-elaborated-fine : (p : SurfaceProcedure) → is_shallow_tree p ≡ true → IfPart (λ q. is_shallow q ≡ true) (elaborated p).part
+elaborated-fine : (p : SurfaceProcedure) → is_shallow_tree p ≡ true → IfPart (λ q. is_shallow_text q ≡ true) (elaborated p).part
 elaborated-fine p few =
     let env1 = later (env_of_body p) (noted (tt {0}) (head_broken p)) in
     let body = numbered (checked p.body) (env_of_body p) in
-    if-by (λ (q : (Unit {0} × Unit {0}) × (Unit {0} × Stmt)). Unit {0} × (Unit {0} × FineStmt q.1.1)) (λ q. is_shallow q ≡ true) (parts_of p).part _
+    if-by (λ (q : (Unit {0} × Unit {0}) × (Unit {0} × Stmt)). Unit {0} × (Unit {0} × FineStmt q.1.1)) (λ q. is_shallow_text q ≡ true) (parts_of p).part _
     (if-both (λ u. Unit {0}) (λ (q : Unit {0} × Stmt). Unit {0} × FineStmt q.1) (all_parameters p).part (beside (noted (tt {0}) (head_broken p)) body).part (anything (all_parameters p).part)
     (if-both (λ u. Unit {0}) FineStmt (Some (tt {0})) body.part tt (checked-fine p.body (inner (env_of_body p)) few)))
     (λ q g. g.1.1)
 
-pub program-fine : (tree : SurfaceProcedure) (p : Program) → is_shallow_tree tree ≡ true → (elaborated tree).part ≡ Some p → is_shallow p ≡ true
-program-fine tree p few e = subst (IfPart (λ (q : Program). is_shallow q ≡ true)) e (elaborated-fine tree few)
+pub program-fine : (tree : SurfaceProcedure) (p : Program) → is_shallow_tree tree ≡ true → (elaborated tree).part ≡ Some p → is_shallow_text p ≡ true
+program-fine tree p few e = subst (IfPart (λ (q : Program). is_shallow_text q ≡ true)) e (elaborated-fine tree few)

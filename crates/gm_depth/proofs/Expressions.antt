@@ -7,7 +7,7 @@ use Rattle.gm_token.specs.declared.words.Word.{Word}
 use Rattle.gm_token.specs.declared.words.Word.TheVariants as words
 use Rattle.gm_token.specs.Tokens.{Token}
 use Rattle.gm_ast.specs.declared.surface.Range.{Range}
-use Rattle.gm_ast.specs.Surface.{SurfaceName, SurfaceHead, SurfaceExpr}
+use Rattle.gm_ast.specs.Surface.{SurfaceName, SurfaceHead, SurfaceExpr, Always, Number, Truth, Nil, Greatest, Least, Named, Member, Method, Paren, Prefixed, Infixed, Choose, Reduction}
 use Rattle.gm_parse.specs.declared.around.Around.{Around}
 use Rattle.gm_parse.specs.declared.levels.Level.{Level}
 use Rattle.gm_parse.specs.declared.levels.Level.TheVariants as levels
@@ -229,6 +229,26 @@ number-one (ReadsNumber.number f) = refl
 range-three : {us vs : List Token} {g : SurfaceName} {r : Range} → ReadsRange us g r vs → length us ≡ 3 + length vs
 range-three (ReadsRange.range n d r) = omega (arith, name-one n, word-one d, meant-one r)
 
+level-one : (e : SurfaceExpr) → 1 ≤ tree_depth e
+level-one Always = omega arith
+level-one (Number at n) = omega arith
+level-one (Truth at b) = omega arith
+level-one (Nil at) = omega arith
+level-one (Greatest at) = omega arith
+level-one (Least at) = omega arith
+level-one (Named x) = omega arith
+level-one (Member x p) = omega arith
+level-one (Method x m) = omega arith
+level-one (Paren at e) = omega arith
+level-one (Prefixed at op e) = omega arith
+level-one (Infixed at op a b) = omega arith
+level-one (Choose at c a b) = omega arith
+level-one (Reduction at word h filter body close) = omega arith
+
+-- an expression that is read has a level
+one-read : {q : Part} {us vs : List Token} {e : SurfaceExpr} → ReadsTree q us e vs → 1 ≤ tree_depth e
+one-read {e} r = level-one e
+
 mutual
   pub tree-tokens : {q : Part} {us vs : List Token} {e : SurfaceExpr} → ReadsTree q us e vs → tree_depth e + length vs ≤ length us
   tree-tokens (ReadsTree.number r) = omega (arith, number-one r)
@@ -250,8 +270,8 @@ mutual
   tree-tokens (ReadsTree.plus w i) = omega (arith, word-one w, word-one i)
   tree-tokens (ReadsTree.cast l t c r) = omega (arith, word-one l, meant-one t, word-one c, tree-tokens r)
   tree-tokens (ReadsTree.operand l r) = tree-tokens r
-  tree-tokens (ReadsTree.row l n a o b) = omega (arith, tree-tokens a, meant-one o, tree-tokens b)
-  tree-tokens (ReadsTree.comparison a o b) = omega (arith, tree-tokens a, meant-one o, tree-tokens b)
+  tree-tokens (ReadsTree.row l n a o b) = omega (arith, tree-tokens a, meant-one o, tree-tokens b, one-read a, one-read b)
+  tree-tokens (ReadsTree.comparison a o b) = omega (arith, tree-tokens a, meant-one o, tree-tokens b, one-read a, one-read b)
   tree-tokens (ReadsTree.no_choice r) = tree-tokens r
   tree-tokens (ReadsTree.choice c q a k b) = omega (arith, tree-tokens c, word-one q, tree-tokens a, word-one k, tree-tokens b)
 

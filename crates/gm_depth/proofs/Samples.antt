@@ -1,19 +1,24 @@
--- Depths of expressions, and a program's expression that has one level more than that of its text.
+-- Depths of expressions, how many levels typing gives to those of a text, and Ifs within one another.
 use Rattle.std.specs.Prelude.{◌≡◌, ℕ, zero, suc, true, false, [], ◌∷◌, Option, Some, None, refl, codes}
 use Rattle.gm_base.specs.declared.places.Place.{Place}
+use Rattle.gm_base.specs.declared.rules.Rule.TheVariants.{T9}
 use Rattle.gm_value.specs.declared.values.VType.TheVariants as V
 use Rattle.gm_value.specs.declared.operations.Op1.TheVariants.{Not, ToI64}
 use Rattle.gm_value.specs.declared.operations.Op2.TheVariants.{Add}
+use Rattle.gm_ast.specs.declared.kinds.Kind.TheVariants.{Of}
+use Rattle.gm_ast.specs.declared.tree.Domain.TheVariants.{Nodes}
 use Rattle.gm_ast.specs.declared.tree.Key.{Key}
 use Rattle.gm_ast.specs.declared.tree.Sort.TheVariants as Sorts
 use Rattle.gm_ast.specs.declared.tree.Stage.TheVariants.{Operator}
 use Rattle.gm_ast.specs.declared.surface.Infix.TheVariants.{Op}
 use Rattle.gm_ast.specs.Surface.{SurfaceExpr, Named, Infixed, Paren}
-use Rattle.gm_ast.specs.Program.{always, Expr, Var, Unary, Binary, Stmt, Skip, Then, If, While, Return, Program}
+use Rattle.gm_ast.specs.Program.{always, Expr, Var, Unary, Binary, Stmt, Skip, Then, Foreach, If, While, Return, Program}
 use Rattle.gm_ast.specs.Names.{Env}
-use Rattle.gm_ast.specs.Kinds.{Part}
+use Rattle.gm_ast.specs.Kinds.{Part, fitted}
+use Rattle.gm_ast.specs.Judged.{ok_of}
 use Rattle.gm_ast.specs.Typing.{typed}
-use Rattle.gm_depth.specs.Depths.{depth, is_within, is_shallow}
+use Rattle.gm_depth.specs.Depths.{depth, is_within, is_shallow_text, is_shallow}
+use Rattle.gm_depth.specs.Nesting.{nesting}
 use Rattle.gm_depth.specs.Trees.{tree_depth}
 
 abbrev at : Place
@@ -46,6 +51,12 @@ shallow = refl
 not_shallow : is_shallow (procedure (branch (nested 512))) ≡ false
 not_shallow = refl
 
+text : is_shallow_text (procedure (branch (nested 256))) ≡ true
+text = refl
+
+no_text : is_shallow_text (procedure (branch (nested 257))) ≡ false
+no_text = refl
+
 -- an Int i and a Long l
 abbrev around : Env
 around = record {
@@ -71,7 +82,7 @@ core_of (Some p) = Some p.core
 mixed_core : core_of (typed mixed around).part ≡ Some (Binary Add at (Unary ToI64 at (Var 0 at)) (Var 1 at))
 mixed_core = refl
 
-mixed_depths : tree_depth mixed ∷ (depth (Binary Add at (Unary ToI64 at (Var 0 at)) (Var 1 at)) ∷ []) ≡ 3 ∷ (3 ∷ [])
+mixed_depths : tree_depth mixed ∷ (depth (Binary Add at (Unary ToI64 at (Var 0 at)) (Var 1 at)) ∷ []) ≡ 4 ∷ (3 ∷ [])
 mixed_depths = refl
 
 -- i + l
@@ -81,5 +92,23 @@ plain = Infixed at (Op Add) (Named (record { text = codes "i"; place = at })) (N
 plain_core : core_of (typed plain around).part ≡ Some (Binary Add at (Unary ToI64 at (Var 0 at)) (Var 1 at))
 plain_core = refl
 
-plain_depth : tree_depth plain ≡ 2
-plain_depth = refl
+plain_depths : tree_depth plain ∷ (depth (Binary Add at (Unary ToI64 at (Var 0 at)) (Var 1 at)) ∷ []) ≡ 3 ∷ (3 ∷ [])
+plain_depths = refl
+
+-- i where a Long is wanted has a level more than what it is typed as
+fitted_core : ok_of (fitted V.I64 T9 at (record { kind = Of V.I32; core = Var 0 at; large = [] })) ≡ Some (Unary ToI64 at (Var 0 at))
+fitted_core = refl
+
+-- Foreach (..) { If (..) { If (..) { } } }: two Ifs within one another, which stand in a parallel loop
+abbrev two_ifs : Stmt
+two_ifs = If key always (Then (If key always Skip Skip) Skip) Skip
+
+abbrev over_nodes : Stmt → Stmt
+over_nodes body = Foreach key at (record { iterator = 1; domain = Nodes; owner = 0; place = at }) always body
+
+nested_ifs : nesting (If key always (over_nodes two_ifs) Skip) ≡ 2
+nested_ifs = refl
+
+-- those of inner loops do not count
+inner_ifs : nesting (over_nodes (If key always (over_nodes two_ifs) Skip)) ≡ 1
+inner_ifs = refl

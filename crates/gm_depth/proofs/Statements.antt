@@ -45,10 +45,10 @@ each-more P [] y h k = (k, tt)
 each-more P (z ∷ ys) y h k = (h.0, each-more P ys y h.1 k)
 
 -- the first of two parts holds
-first-of : {x y : Rule} {a : Around} {us vs ws : List Token} {P : Type 0} {R : ℕ → Type 0} → Derived x a us vs (λ j. P) → Derived y a vs ws R → Derived (x ▸ y) a us ws (λ j. P)
+pub first-of : {x y : Rule} {a : Around} {us vs ws : List Token} {P : Type 0} {R : ℕ → Type 0} → Derived x a us vs (λ j. P) → Derived y a vs ws R → Derived (x ▸ y) a us ws (λ j. P)
 first-of h k = weaker (λ j g. g.0) (also h k)
 
-lessen : {x : Rule} {a : Around} {us vs : List Token} {P R : Type 0} → (P → R) → Onwards x a us vs P → Onwards x a us vs R
+pub lessen : {x : Rule} {a : Around} {us vs : List Token} {P R : Type 0} → (P → R) → Onwards x a us vs P → Onwards x a us vs R
 lessen f h = record {
   fewer = h.fewer;
   leads = λ i j e p ms d. let l = h.leads i j e p ms d in record { marks = l.marks; derives = l.derives; calm = λ c. let r = l.calm c in (f r.0, r.1) };
@@ -81,15 +81,15 @@ whole {n} {us} {vs} {e} r = record {
 entry : {n : ℕ} {us vs : List Token} {e : SurfaceExpr} → ReadsTree G.Sum us e vs → Derived an_entry (flat n) us vs (λ j. Few e)
 entry {n} {us} {vs} {e} r = weaker (λ j h. few e us vs (tree-tokens r) h) (outermost (λ s. (tree r).led n s))
 
-condition : {n : ℕ} {us vs : List Token} {e : SurfaceExpr} → ReadsCondition us e vs → Derived (Of G.Condition) (flat n) us vs (λ j. Few e)
+pub condition : {n : ℕ} {us vs : List Token} {e : SurfaceExpr} → ReadsCondition us e vs → Derived (Of G.Condition) (flat n) us vs (λ j. Few e)
 unfolding rule
 condition (ReadsCondition.condition l r c) = part (over (word l) (first-of (whole r) (word c)))
 
-filter : {n : ℕ} {us vs : List Token} {e : SurfaceExpr} → ReadsFilter us e vs → Derived (Maybe (Of G.Condition)) (flat n) us vs (λ j. Few e)
+pub filter : {n : ℕ} {us vs : List Token} {e : SurfaceExpr} → ReadsFilter us e vs → Derived (Maybe (Of G.Condition)) (flat n) us vs (λ j. Few e)
 filter ReadsFilter.absent = weaker (λ j h. refl) absent
 filter (ReadsFilter.present r) = present (condition r)
 
-head : {n : ℕ} {us vs : List Token} {h : SurfaceHead} {f : SurfaceExpr} → ReadsHead us h f vs → Derived (Of G.Head) (flat n) us vs (λ j. Few f)
+pub head : {n : ℕ} {us vs : List Token} {h : SurfaceHead} {f : SurfaceExpr} → ReadsHead us h f vs → Derived (Of G.Head) (flat n) us vs (λ j. Few f)
 unfolding rule
 head (ReadsHead.head l x c g r f) = part (over (word l) (over (name x) (over (word c) (over (range g) (over (word r) (filter f))))))
 
@@ -186,14 +186,14 @@ module _ {a : Around} where
         let h = entries r in
         over (word l) (weaker (λ j t. h.all t.0 t.1.0 t.1.1) (also h.first (over h.mark (also h.second (first-of (many h.rest) (word g))))))
 
-search : {n : ℕ} {us vs : List Token} {x g r : SurfaceName} {f : SurfaceExpr} → ReadsSearch us x g r f vs → Derived (Of G.SearchHead) (flat n) us vs (λ j. Few f)
+pub search : {n : ℕ} {us vs : List Token} {x g r : SurfaceName} {f : SurfaceExpr} → ReadsSearch us x g r f vs → Derived (Of G.SearchHead) (flat n) us vs (λ j. Few f)
 unfolding rule
 search (ReadsSearch.front l x c g d n f r q t) = part (over (word l) (over (name x) (over (word c) (over (name g) (over (word d) (over (word n) (over (from f) (over (name r) (over (word q) (filter t))))))))))
 
 -- ---- statements
 
 -- what stands in a statement
-statement : {n : ℕ} {us vs : List Token} {x : Rule} {P : Type 0} → Derived x (flat (suc n)) us vs (λ j. P) → Derived (Within InStatement x) (flat n) us vs (λ j. P)
+pub statement : {n : ℕ} {us vs : List Token} {x : Rule} {P : Type 0} → Derived x (flat (suc n)) us vs (λ j. P) → Derived (Within InStatement x) (flat n) us vs (λ j. P)
 statement h = record {
   fewer = h.fewer;
   leads = λ i j e p ms d. let l = h.leads i j e p ms d in record { marks = l.marks; derives = Derives.within l.derives; calm = l.calm };
@@ -247,16 +247,16 @@ module _ {a : Around} where
   groups {vs} (ReadsGroups.one r) = record { mid = vs; first = group r; rest = begun }
   groups (ReadsGroups.more r c g) = several-more (groups r) (over (word c) (group g))
 
-  parameters : {us vs : List Token} {gs : List SurfaceGroup} → ReadsParameters us gs vs → Derived (Maybe (Of G.Parameters)) a us vs (λ j. Unit {0})
+  pub parameters : {us vs : List Token} {gs : List SurfaceGroup} → ReadsParameters us gs vs → Derived (Maybe (Of G.Parameters)) a us vs (λ j. Unit {0})
   unfolding rule
   parameters ReadsParameters.absent = absent
   parameters (ReadsParameters.present r) = let gs = groups r in present (part (over gs.first (many gs.rest)))
 
-  outputs : {us vs : List Token} {gs : List SurfaceGroup} → ReadsOutputs us gs vs → Derived (Maybe (the words.Semicolon ▸ Maybe (Of G.Parameters))) a us vs (λ j. Unit {0})
+  pub outputs : {us vs : List Token} {gs : List SurfaceGroup} → ReadsOutputs us gs vs → Derived (Maybe (the words.Semicolon ▸ Maybe (Of G.Parameters))) a us vs (λ j. Unit {0})
   outputs ReadsOutputs.absent = absent
   outputs (ReadsOutputs.present w r) = present (over (word w) (parameters r))
 
-  result : {us vs : List Token} {t : Option SurfaceType} → ReadsResult us t vs → Derived (Maybe (the words.Colon ▸ Of G.TypeName)) a us vs (λ j. Unit {0})
+  pub result : {us vs : List Token} {t : Option SurfaceType} → ReadsResult us t vs → Derived (Maybe (the words.Colon ▸ Of G.TypeName)) a us vs (λ j. Unit {0})
   result ReadsResult.absent = absent
   result (ReadsResult.present w t) = present (over (word w) (vtype t))
 

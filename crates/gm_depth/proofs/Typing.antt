@@ -1,4 +1,4 @@
--- Typing makes of each level two at most: an operation, and a conversion to Long.
+-- Typing gives an expression no more levels than the tree's count, and one more where its value becomes a Long.
 use Rattle.std.proofs.Common.{◌≡◌, ◌≤◌, ◌+◌, ℕ, suc, max, Bool, true, false, List, [], ◌∷◌, ◌++◌, refl, ap, ◌∙◌, arith, Option, Some, None}
 use Rattle.std.specs.Prelude.{◌&&◌, ◌||◌, if◌then◌else◌, Ok, Err}
 use Rattle.gm_base.specs.declared.places.Place.{Place}
@@ -42,9 +42,9 @@ depth-narrowed (P.Choose c a b) =
     ap (λ n. suc (max (depth c) (max n (depth (narrowed b))))) (depth-narrowed a) ∙ ap (λ n. suc (max (depth c) (max (depth a) n))) (depth-narrowed b)
 depth-narrowed _ = refl
 
--- an expression of no more levels than twice a number, less one
+-- an expression of no more levels than a number
 abbrev pub Low : ℕ → Expr → Type 0
-Low t e = suc (depth e) ≤ t + t
+Low t e = depth e ≤ t
 
 abbrev pub LowPart : ℕ → Part → Type 0
 LowPart t p = Low t p.core
@@ -119,15 +119,15 @@ prefix-low n at (Prefixes.Cast t) p h =
     if-good (LowPart (suc n)) (is_number p.kind) T8 at (cast_part t at (settled p)) (cast-low n t at (settled p) low)
 
 module _ (m n : ℕ) (at : Place) (a b : Part) (h : LowPart m a) (k : LowPart n b) where
-  pair-low : (p : Expr × Expr) → TwoMore (depth a.core) (depth b.core) p → suc (suc (max (depth p.0) (depth p.1))) ≤ suc (max m n) + suc (max m n)
+  pair-low : (p : Expr × Expr) → TwoMore (depth a.core) (depth b.core) p → suc (max (depth p.0) (depth p.1)) ≤ suc (suc (max m n))
   pair-low p g =
       let x : depth p.0 ≤ suc (depth a.core) = g.0 in
       let y : depth p.1 ≤ suc (depth b.core) = g.1 in
       omega arith
 
-  operation-low : (op : Op2) (k : Kind) → IfPart (LowPart (suc (max m n))) (ok_of (operation at op k a b))
+  operation-low : (op : Op2) (k : Kind) → IfPart (LowPart (suc (suc (max m n)))) (ok_of (operation at op k a b))
   operation-low op k =
-      let Q = LowPart (suc (max m n)) in
+      let Q = LowPart (suc (suc (max m n))) in
       let T = TwoMore (depth a.core) (depth b.core) in
       let j = compared_as k (large_of k (a.large ++ b.large)) in
       if-else Q (is_arithmetic op)
@@ -138,19 +138,19 @@ module _ (m n : ℕ) (at : Place) (a b : Part) (h : LowPart m a) (k : LowPart n 
       (if-else Q (is_number k || (compares_any op && is_value k)) (then_answer (paired at j a b) (λ p. part_of (Kinds.Of Flag) (P.Binary op at p.0 p.1))) (refused T8 at)
       (if-then T Q (paired at j a b) (λ p. part_of (Kinds.Of Flag) (P.Binary op at p.0 p.1)) (paired-more at j a b) (λ p g. pair-low p g)) tt)
 
-  by-low : (op : Op2) (o : Option Kind) → IfPart (LowPart (suc (max m n))) (ok_of (operation_by at op o a b))
+  by-low : (op : Op2) (o : Option Kind) → IfPart (LowPart (suc (suc (max m n)))) (ok_of (operation_by at op o a b))
   by-low op None = tt
   by-low op (Some k) = operation-low op k
 
-  infix-low : (o : Infix) → IfPart (LowPart (suc (max m n))) (ok_of (infix_part at o (a, b)))
+  infix-low : (o : Infix) → IfPart (LowPart (suc (suc (max m n)))) (ok_of (infix_part at o (a, b)))
   infix-low (Infixes.Op op) = by-low op (joint a.kind b.kind)
-  infix-low Infixes.And = if-good (LowPart (suc (max m n))) (is_flag a.kind && is_flag b.kind) T8 at (part_of (Kinds.Of Flag) (P.Both a.core b.core)) (omega arith)
-  infix-low Infixes.Or = if-good (LowPart (suc (max m n))) (is_flag a.kind && is_flag b.kind) T8 at (part_of (Kinds.Of Flag) (P.Either a.core b.core)) (omega arith)
+  infix-low Infixes.And = if-good (LowPart (suc (suc (max m n)))) (is_flag a.kind && is_flag b.kind) T8 at (part_of (Kinds.Of Flag) (P.Both a.core b.core)) (omega arith)
+  infix-low Infixes.Or = if-good (LowPart (suc (suc (max m n)))) (is_flag a.kind && is_flag b.kind) T8 at (part_of (Kinds.Of Flag) (P.Either a.core b.core)) (omega arith)
 
-  choice-low : (l : ℕ) (c : Expr) (o : Option Kind) → Low l c → IfPart (LowPart (suc (max l (max m n)))) (ok_of (choice_by at o c a b))
+  choice-low : (l : ℕ) (c : Expr) (o : Option Kind) → Low l c → IfPart (LowPart (suc (suc (max l (max m n))))) (ok_of (choice_by at o c a b))
   choice-low l c None g = tt
   choice-low l c (Some j) g =
-      if-then (TwoMore (depth a.core) (depth b.core)) (LowPart (suc (max l (max m n)))) (paired at j a b) (λ p. record { kind = j; core = P.Choose c p.0 p.1; large = large_of j (a.large ++ b.large) }) (paired-more at j a b)
+      if-then (TwoMore (depth a.core) (depth b.core)) (LowPart (suc (suc (max l (max m n))))) (paired at j a b) (λ p. record { kind = j; core = P.Choose c p.0 p.1; large = large_of j (a.large ++ b.large) }) (paired-more at j a b)
       (λ p t. let x : depth p.0 ≤ suc (depth a.core) = t.0 in let y : depth p.1 ≤ suc (depth b.core) = t.1 in omega arith)
 
 -- ---- reductions
@@ -223,7 +223,7 @@ typed-low (Prefixed at op e) env =
 typed-low (Infixed at op a b) env =
     let m = tree_depth a in
     let n = tree_depth b in
-    if-by (λ (p : Part × Part). LowPart m p.0 × LowPart n p.1) (LowPart (suc (max m n))) (both (typed a) (typed b) env).part (infix_part at op)
+    if-by (λ (p : Part × Part). LowPart m p.0 × LowPart n p.1) (LowPart (suc (suc (max m n)))) (both (typed a) (typed b) env).part (infix_part at op)
     (if-both (LowPart m) (LowPart n) (typed a env).part (typed b (later env (typed a env))).part (typed-low a env) (typed-low b (later env (typed a env))))
     (λ p h. infix-low m n at p.0 p.1 h.0 h.1 op)
 typed-low (Choose at c a b) env =
@@ -232,7 +232,7 @@ typed-low (Choose at c a b) env =
     let n = tree_depth b in
     let test = condition (start_of c) (typed c) in
     let after = later env (test env) in
-    if-by (λ (p : Expr × (Part × Part)). Low l p.0 × (LowPart m p.1.0 × LowPart n p.1.1)) (LowPart (suc (max l (max m n)))) (both test (both (typed a) (typed b)) env).part (choice_part at)
+    if-by (λ (p : Expr × (Part × Part)). Low l p.0 × (LowPart m p.1.0 × LowPart n p.1.1)) (LowPart (suc (suc (max l (max m n))))) (both test (both (typed a) (typed b)) env).part (choice_part at)
     (if-both (Low l) (λ (p : Part × Part). LowPart m p.0 × LowPart n p.1) (test env).part (both (typed a) (typed b) after).part (condition-low l (start_of c) (typed c) env (typed-low c env))
     (if-both (LowPart m) (LowPart n) (typed a after).part (typed b (later after (typed a after))).part (typed-low a after) (typed-low b (later after (typed a after)))))
     (λ p h. choice-low m n at p.1.0 p.1.1 h.1.0 h.1.1 l p.0 (joint p.1.0.kind p.1.1.kind) h.0)

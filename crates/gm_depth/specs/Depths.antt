@@ -51,6 +51,14 @@ all_within limit (InBfsBoth k at s test body back_key back_test back) =
     is_within limit test && (all_within limit body && (is_within limit back_test && all_within limit back))
 all_within limit (Return k at e) = may_be_within limit e
 
--- whether no expression of a program has more than 512 levels
+-- the levels that an expression of an accepted text's program has at most: 256, as many as it may have tokens, and one where its value becomes a Long for what takes it
+abbrev pub text_levels : ℕ
+text_levels = 257
+
+-- whether no expression of a program has more levels
+abbrev pub is_shallow_text : Program → Bool
+is_shallow_text p = all_within text_levels p.body
+
+-- whether no expression of a program has more than 512 levels, as many as one in an image may have
 abbrev pub is_shallow : Program → Bool
 is_shallow p = all_within 512 p.body

@@ -1,3 +1,4 @@
 pub mod Depths
 pub mod Trees
+pub mod Nesting
 pub mod Laws

@@ -2,7 +2,7 @@
 use Rattle.std.specs.Prelude.{ℕ, suc, max, nat_le, Bool, true, ◌&&◌, List, [], ◌∷◌, Some, None}
 use Rattle.gm_ast.specs.Surface.{SurfaceExpr, Always, Number, Truth, Nil, Greatest, Least, Named, Member, Method, Paren, Prefixed, Infixed, Choose, Reduction, SurfaceStmt, Skip, Then, Declare, DeclareAs, Assign, Defer, Combine, Increment, Call, Loop, If, While, Do, InBfs, InBfsBoth, Return, SurfaceProcedure}
 
--- the levels of an expression, of which each takes a token or more
+-- the levels of an expression, with those that typing adds to it inside: an operator that gives its operands one type, of which one may become a Long, counts for two. Each level takes a token or more
 abbrev pub tree_depth : SurfaceExpr → ℕ
 tree_depth Always = 1
 tree_depth (Number at n) = 1
@@ -15,8 +15,8 @@ tree_depth (Member x p) = 1
 tree_depth (Method x m) = 1
 tree_depth (Paren at e) = suc (tree_depth e)
 tree_depth (Prefixed at op e) = suc (tree_depth e)
-tree_depth (Infixed at op a b) = suc (max (tree_depth a) (tree_depth b))
-tree_depth (Choose at c a b) = suc (max (tree_depth c) (max (tree_depth a) (tree_depth b)))
+tree_depth (Infixed at op a b) = suc (suc (max (tree_depth a) (tree_depth b)))
+tree_depth (Choose at c a b) = suc (suc (max (tree_depth c) (max (tree_depth a) (tree_depth b))))
 tree_depth (Reduction at word h filter body close) = suc (max (tree_depth filter) (tree_depth body))
 
 -- whether an expression has no more levels than a limit

@@ -1,0 +1,22 @@
+pub mod Statements
+mod Nesting
+mod Groups
+mod Compounds
+mod Literals
+mod Conditions
+mod ReadsApart
+mod Picks
+mod Accesses
+mod Folds
+mod InnerFolds
+mod Searches
+mod Loops
+mod Deferred
+mod SavedConditions
+mod KeptLocals
+mod Pieces
+mod Slices
+mod Pulls
+mod Together
+mod Cutting
+mod Samples
