@@ -42,12 +42,12 @@ module _ (v : Env) (run : List Line → ℕ → VertexState → After) (Shows Ga
   Ends ls rest w it None = (u : VertexState) × Shows it u × (run (ls ++ rest) 0 w ≡ run rest 0 u)
   Ends ls rest w it (Some f) = (u : VertexState) × Gave it u × (run (ls ++ rest) 0 w ≡ record { state = u; fault = Some (fault_of v f); skip = 0 })
 
--- where a site does not ask where the messages of a statement begin among the kinds
+-- where a site asks nothing of where a statement begins: neither of its first kind of messages nor of the iteration
 abbrev pub Anywhere : ℕ → Stmt → Type 0
 Anywhere kind st = Unit {0}
 
 -- what is asked of a site: how its lines run, that its states tell the leaves of what it finds, and that they show what is set and given
-pub record Holds (site : Site) (loop : Loop) (m : Mode) (s : VertexContext) (run : List Line → ℕ → VertexState → After) (Shows Gave : Iteration → VertexState → Type 0) (found : Expr → Bool) (sets : ℕ → ℕ → Bool) (gives : Reduce → List Target → List Expr → Bool) (Placed : ℕ → Stmt → Type 0) : Type 0 where
+pub record Holds (site : Site) (loop : Loop) (m : Mode) (s : VertexContext) (run : List Line → ℕ → VertexState → After) (Shows Gave : Iteration → VertexState → Type 0) (found : Expr → Bool) (sets : ℕ → ℕ → Bool) (gives : Reduce → List Target → List Expr → Bool) (Placed : ℕ → Stmt → Iteration → Type 0) : Type 0 where
   pub type_is : (x : ℕ) → loop.vtype x ≡ (variable_at site.layout.declarations x).vtype
   pub skipped : (l : Line) (ls : List Line) (k : ℕ) (w : VertexState) → run (l ∷ ls) (suc k) w ≡ run ls k w
   pub register_runs : (x : ℕ) (t : Term) (ls : List Line) (w : VertexState) → run (SetRegister x t ∷ ls) 0 w ≡ goes_on (line_after s (SetRegister x t) w) (λ k u. run ls k u)
@@ -60,14 +60,14 @@ pub record Holds (site : Site) (loop : Loop) (m : Mode) (s : VertexContext) (run
       → Shows (wrote it (Scalar x, a)) (record w { registers = slice_set w.registers (site.layout.register x) a })
   pub property : (k : Key) (x p : ℕ) (at : Place) (e : Expr) (it : Iteration) (w : VertexState) (rest : List Line) → sets x p ≡ true → found e ≡ true → Shows it w
       → Ends site.env run Shows Gave (SetField (site.layout.field p) (term site.env k e) ∷ []) rest w (does (S.Assign k (T.Property x p at) e) m loop it) (does (S.Assign k (T.Property x p at) e) m loop it).fault
-  pub placed_first : (kind : ℕ) (a b : Stmt) → Placed kind (S.Then a b) → Placed kind a
-  pub placed_second : (kind : ℕ) (a b : Stmt) → Placed kind (S.Then a b) → Placed (kind + length (aways site.layout.declarations site.node a)) b
-  pub placed_yes : (kind : ℕ) (k : Key) (e : Expr) (a b : Stmt) → Placed kind (S.If k e a b) → Placed kind a
-  pub placed_no : (kind : ℕ) (k : Key) (e : Expr) (a b : Stmt) → Placed kind (S.If k e a b) → Placed (kind + length (aways site.layout.declarations site.node a)) b
-  pub reduce : (kind : ℕ) (k : Key) (total : TotalKey) (r : Reduce) (ts : List Target) (es : List Expr) (it : Iteration) (w : VertexState) (rest : List Line) → gives r ts es ≡ true → Placed kind (S.Combine k total r ts es) → Shows it w
+  pub placed_first : (kind : ℕ) (a b : Stmt) (it : Iteration) → Placed kind (S.Then a b) it → Placed kind a it
+  pub placed_second : (kind : ℕ) (a b : Stmt) (it : Iteration) → Placed kind (S.Then a b) it → Placed (kind + length (aways site.layout.declarations site.node a)) b (does a m loop it)
+  pub placed_yes : (kind : ℕ) (k : Key) (e : Expr) (a b : Stmt) (it : Iteration) → Placed kind (S.If k e a b) it → Placed kind a it
+  pub placed_no : (kind : ℕ) (k : Key) (e : Expr) (a b : Stmt) (it : Iteration) → Placed kind (S.If k e a b) it → Placed (kind + length (aways site.layout.declarations site.node a)) b it
+  pub reduce : (kind : ℕ) (k : Key) (total : TotalKey) (r : Reduce) (ts : List Target) (es : List Expr) (it : Iteration) (w : VertexState) (rest : List Line) → gives r ts es ≡ true → Placed kind (S.Combine k total r ts es) it → Shows it w
       → Ends site.env run Shows Gave (reduce_lines site kind (way_of site.layout.declarations site.node ts) k total r ts (map (term site.env k) es)) rest w (does (S.Combine k total r ts es) m loop it) (does (S.Combine k total r ts es) m loop it).fault
 
-module _ (site : Site) (loop : Loop) (m : Mode) (s : VertexContext) (run : List Line → ℕ → VertexState → After) (Shows Gave : Iteration → VertexState → Type 0) (found : Expr → Bool) (sets : ℕ → ℕ → Bool) (gives : Reduce → List Target → List Expr → Bool) {Placed : ℕ → Stmt → Type 0} (h : Holds site loop m s run Shows Gave found sets gives Placed) where
+module _ (site : Site) (loop : Loop) (m : Mode) (s : VertexContext) (run : List Line → ℕ → VertexState → After) (Shows Gave : Iteration → VertexState → Type 0) (found : Expr → Bool) (sets : ℕ → ℕ → Bool) (gives : Reduce → List Target → List Expr → Bool) {Placed : ℕ → Stmt → Iteration → Type 0} (h : Holds site loop m s run Shows Gave found sets gives Placed) where
   abbrev Ending : List Line → List Line → VertexState → Iteration → Option Fault → Type 0
   Ending = Ends site.env run Shows Gave
 
@@ -189,39 +189,39 @@ module _ (site : Site) (loop : Loop) (m : Mode) (s : VertexContext) (run : List 
       (set-local it w rest x (term site.env k e) (evaluated e u).rest o q (rest-term site.env u (view s w) e t))
 
   -- the lines of a body do what the body does, from a state that shows the iteration
-  pub body-ends : (st : Stmt) (kind : ℕ) → is_body site.layout found sets gives st ≡ true → Placed kind st → (it : Iteration) (w : VertexState) (rest : List Line) → Shows it w
+  pub body-ends : (st : Stmt) (kind : ℕ) → is_body site.layout found sets gives st ≡ true → (it : Iteration) → Placed kind st it → (w : VertexState) (rest : List Line) → Shows it w
       → Ending (lines_of site kind st) rest w (does st m loop it) (does st m loop it).fault
-  body-ends S.Skip kind o here it w rest q = subst (Ending [] rest w it) (sym (h.fine it w q)) (w, q, refl)
-  body-ends (S.Then a b) kind o here it w rest q =
+  body-ends S.Skip kind o it here w rest q = subst (Ending [] rest w it) (sym (h.fine it w q)) (w, q, refl)
+  body-ends (S.Then a b) kind o it here w rest q =
       let t = both-true (is_body site.layout found sets gives a) (is_body site.layout found sets gives b) o in
       let j = kind + length (aways site.layout.declarations site.node a) in
       then-ends (lines_of site kind a) (lines_of site j b) rest w (does a m loop it) (does a m loop it).fault (does b m loop) refl
-      (body-ends a kind t.0 (h.placed_first kind a b here) it w (lines_of site j b ++ rest) q)
-      (λ u p. body-ends b j t.1 (h.placed_second kind a b here) (does a m loop it) u rest p)
-  body-ends (S.Declare k x None) kind o here it w rest q =
+      (body-ends a kind t.0 it (h.placed_first kind a b it here) w (lines_of site j b ++ rest) q)
+      (λ u p. body-ends b j t.1 (does a m loop it) (h.placed_second kind a b it here) u rest p)
+  body-ends (S.Declare k x None) kind o it here w rest q =
       set-local it w rest x (M.Const (zero_of (variable_at site.layout.declarations x).vtype)) (Ok (zero_of (loop.vtype x))) (both-true (is_local site.layout x) true o).0 q
       (ap (λ t. Ok (zero_of t)) (sym (h.type_is x)))
-  body-ends (S.Declare k x (Some e)) kind o here it w rest q =
+  body-ends (S.Declare k x (Some e)) kind o it here w rest q =
       let t = both-true (is_local site.layout x) (found e) o in
       set-local it w rest x (term site.env k e) (value e (view_in loop m it k)) t.0 q (value-of it w k e t.1 q)
-  body-ends (S.DeclareEdge x y at) kind o here it w rest q = subst (Ending [] rest w it) (sym (h.fine it w q)) (w, q, refl)
-  body-ends (S.Assign k (T.Scalar x at) e) kind o here it w rest q =
+  body-ends (S.DeclareEdge x y at) kind o it here w rest q = subst (Ending [] rest w it) (sym (h.fine it w q)) (w, q, refl)
+  body-ends (S.Assign k (T.Scalar x at) e) kind o it here w rest q =
       let t = both-true (is_local site.layout x) (found e) o in assign-local k x at e it w rest t.0 t.1 q
-  body-ends (S.Assign k (T.Property x p at) e) kind o here it w rest q =
+  body-ends (S.Assign k (T.Property x p at) e) kind o it here w rest q =
       let t = both-true (sets x p) (found e) o in h.property k x p at e it w rest t.0 t.1 q
-  body-ends (S.Combine k total r ts es) kind o here it w rest q = h.reduce kind k total r ts es it w rest o here q
-  body-ends (S.If k e a b) kind o here it w rest q =
+  body-ends (S.Combine k total r ts es) kind o it here w rest q = h.reduce kind k total r ts es it w rest o here q
+  body-ends (S.If k e a b) kind o it here w rest q =
       let t = both-true (found e) (is_body site.layout found sets gives a && is_body site.layout found sets gives b) o in
       let u = both-true (is_body site.layout found sets gives a) (is_body site.layout found sets gives b) t.1 in
       let j = kind + length (aways site.layout.declarations site.node a) in
       choice-ends (lines_of site kind a) (lines_of site j b) rest w (term site.env k e) (value e (view_in loop m it k)) (does a m loop) (does b m loop) it q
-      (value-of it w k e t.0 q) (λ more. body-ends a kind u.0 (h.placed_yes kind k e a b here) it w more q) (body-ends b j u.1 (h.placed_no kind k e a b here) it w rest q)
-  body-ends (S.Defer k t e) kind o here it w rest q = absurd (both_ways false refl o)
-  body-ends (S.Group k at g p e) kind o here it w rest q = absurd (both_ways false refl o)
-  body-ends (S.Foreach k at hd e a) kind o here it w rest q = absurd (both_ways false refl o)
-  body-ends (S.For k at hd e a) kind o here it w rest q = absurd (both_ways false refl o)
-  body-ends (S.While k at e a) kind o here it w rest q = absurd (both_ways false refl o)
-  body-ends (S.Do k at a e) kind o here it w rest q = absurd (both_ways false refl o)
-  body-ends (S.InBfs k at x e a) kind o here it w rest q = absurd (both_ways false refl o)
-  body-ends (S.InBfsBoth k at x e a j d b) kind o here it w rest q = absurd (both_ways false refl o)
-  body-ends (S.Return k at e) kind o here it w rest q = absurd (both_ways false refl o)
+      (value-of it w k e t.0 q) (λ more. body-ends a kind u.0 it (h.placed_yes kind k e a b it here) w more q) (body-ends b j u.1 it (h.placed_no kind k e a b it here) w rest q)
+  body-ends (S.Defer k t e) kind o it here w rest q = absurd (both_ways false refl o)
+  body-ends (S.Group k at g p e) kind o it here w rest q = absurd (both_ways false refl o)
+  body-ends (S.Foreach k at hd e a) kind o it here w rest q = absurd (both_ways false refl o)
+  body-ends (S.For k at hd e a) kind o it here w rest q = absurd (both_ways false refl o)
+  body-ends (S.While k at e a) kind o it here w rest q = absurd (both_ways false refl o)
+  body-ends (S.Do k at a e) kind o it here w rest q = absurd (both_ways false refl o)
+  body-ends (S.InBfs k at x e a) kind o it here w rest q = absurd (both_ways false refl o)
+  body-ends (S.InBfsBoth k at x e a j d b) kind o it here w rest q = absurd (both_ways false refl o)
+  body-ends (S.Return k at e) kind o it here w rest q = absurd (both_ways false refl o)

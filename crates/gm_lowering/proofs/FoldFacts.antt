@@ -25,19 +25,15 @@ use Rattle.gm_lowering.specs.Layouts.{Layout}
 use Rattle.gm_lowering.specs.Places.{Spot, spots_in_all, spot_of_total}
 use Rattle.gm_lowering.specs.Plans.{way_of}
 use Rattle.gm_lowering.specs.Bodies.{reduce_spots}
-use Rattle.gm_lowering.specs.MessageLoops.{folds_to, is_to_scalars}
+use Rattle.gm_lowering.specs.MessageLoops.{is_to_scalars}
+use Rattle.gm_lowering.specs.OwnLoops.{folds_to}
 use Rattle.gm_lowering.specs.Settles.{HasSpot, is_some_list}
 use Rattle.gm_lowering.specs.Sites.{are_of_scalars, finds, same_length, is_local, is_body}
-use Rattle.gm_lowering.proofs.Givens.{assigned-is}
+use Rattle.gm_lowering.proofs.Givens.{assigned-is, node_slots, are_kept, node-slots, folds-way, here_at}
 use Rattle.gm_lowering.proofs.Kept.{Gives}
 use Rattle.gm_lowering.proofs.PutFacts.{here, IsPut}
-use Rattle.gm_lowering.proofs.Receivers.{node_slots, are_kept, node-slots, nodes-end, folds-way}
+use Rattle.gm_lowering.proofs.Receivers.{nodes-end}
 use Rattle.gm_lowering.proofs.Spots.{Within, Has, HoldNodes, Left, AllRead, all-read, all-within, all-hoist_nothing, within-left}
-
--- the properties of a node that have fields
-abbrev pub here_at : Layout → ℕ → Slot → Bool
-here_at c j (slots.Scalar x) = false
-here_at c j (slots.Node p k) = nat_eq k j && c.is_kept p
 
 -- a contribution in a handler at a node: to scalars of the procedure, or to properties of the node
 pub record IsReceived (c : Layout) (j : ℕ) (spots : List Spot) (x : Contribution) : Type 0 where

@@ -1,8 +1,8 @@
 -- What reductions give: values of several expressions, and the slots of targets.
-use Rattle.std.proofs.Common.{◌≡◌, ℕ, Bool, true, false, None, Result, Ok, Err, List, [], ◌∷◌, ◌++◌, map, refl, ap, ◌∙◌, sym, subst}
-use Rattle.std.specs.Prelude.{◌||◌, nat_eq}
-use Rattle.std.specs.List.{list_all}
-use Rattle.std.proofs.lemmas.Bool.{both_ways, eqb-true}
+use Rattle.std.proofs.Common.{◌≡◌, ℕ, Bool, true, false, None, Result, Ok, Err, List, [], ◌∷◌, ◌++◌, map, refl, ap, ◌∙◌, sym, subst, Some, ◌<◌}
+use Rattle.std.specs.Prelude.{◌||◌, nat_eq, ◌&&◌, if◌then◌else◌}
+use Rattle.std.specs.List.{list_all, list_any}
+use Rattle.std.proofs.lemmas.Bool.{both_ways, eqb-true, lt-ltb}
 use Rattle.gm_value.specs.declared.values.Value.{Value}
 use Rattle.gm_value.specs.declared.reductions.Reduce.{Reduce}
 use Rattle.gm_ast.specs.declared.tree.Key.{Key}
@@ -18,10 +18,10 @@ use Rattle.gm_forms.proofs.Named.{both-true}
 use Rattle.gm_semantics.specs.Statements.{variable_at}
 use Rattle.gm_semantics.specs.declared.faults.Fault.{Fault}
 use Rattle.gm_semantics.specs.declared.slots.Slot.{Slot}
-use Rattle.gm_semantics.specs.declared.slots.Slot.TheVariants.{Scalar}
+use Rattle.gm_semantics.specs.declared.slots.Slot.TheVariants.{Scalar, Node}
 use Rattle.gm_semantics.specs.Contributions.{Contribution}
 use Rattle.gm_semantics.specs.Faults.{first, then_with, unless_fault}
-use Rattle.gm_semantics.specs.Expressions.{View, AllEvaluated, evaluated, evaluated_all}
+use Rattle.gm_semantics.specs.Expressions.{View, AllEvaluated, evaluated, evaluated_all, node_held}
 use Rattle.gm_semantics.specs.Iterations.{Loop, Mode, Iteration, Ends, AtOnce, WithOutermost, view_in, failed, with_ok, slots_of, scalar_ends, ends_of_all, later, assigned_all, contribution, gave_outermost, reduced, does}
 use Rattle.gm_image.specs.Term.{Term}
 use Rattle.gm_image.specs.Parts as parts
@@ -38,6 +38,11 @@ use Rattle.gm_lowering.specs.Showing.{answer_of, Tells}
 use Rattle.gm_lowering.specs.Sites.{are_of_scalars, same_length, slot_at, given}
 use Rattle.gm_lowering.proofs.Terms.{then-same, rest-term, hoisted-parallel}
 use Rattle.gm_lowering.proofs.Bodies.{Ends as Ending}
+use Rattle.gm_semantics.specs.Levels.{node_in}
+use Rattle.gm_lowering.specs.OwnLoops.{is_kept_property}
+use Rattle.gm_lowering.specs.Plans.{Folds, Sends, Picks, is_property_of, is_property_off, way_of}
+use Rattle.gm_value.specs.declared.values.Value.TheVariants.{At}
+use Rattle.gm_model.specs.Graphs.{NumberedGraph, node_count}
 
 -- all leaves of several expressions are told
 abbrev pub AllTell : Env → View → VertexView → List Expr → Type 0
@@ -70,7 +75,7 @@ slots-of c [] (a ∷ more) e = absurd (both_ways false refl e)
 slots-of c (t ∷ ts) [] e = absurd (both_ways false refl e)
 slots-of c (t ∷ ts) (a ∷ more) e = ap (λ xs. slot_number c t ∷ xs) (slots-of c ts more e)
 
-same-map : {A B C : Type 0} (ts : List A) (es : List B) (f : B → C) → same_length ts es ≡ true → same_length ts (map f es) ≡ true
+pub same-map : {A B C : Type 0} (ts : List A) (es : List B) (f : B → C) → same_length ts es ≡ true → same_length ts (map f es) ≡ true
 same-map [] [] f h = h
 same-map [] (e ∷ es) f h = h
 same-map (t ∷ ts) [] f h = h
@@ -97,6 +102,52 @@ scalar-numbers c [] h = refl
 scalar-numbers c (T.Scalar x at ∷ ts) h =
     let q = both-true (is_global (variable_at c.declarations x)) (are_scalars c ts) h in ap (λ xs. c.global x ∷ xs) (scalar-numbers c ts q.1)
 scalar-numbers c (T.Property x p at ∷ ts) h = absurd (both_ways false refl h)
+
+-- a node of the graph is found there
+pub node-in : (g : NumberedGraph) (k : ℕ) → k < node_count g → node_in g (At (Some k)) ≡ Some k
+node-in g k lt = ap (λ b. if b then Some k else None) (lt-ltb k (node_count g) lt)
+
+-- slots at a node
+abbrev pub node_slots : ℕ → List Target → List Slot
+node_slots j [] = []
+node_slots j (T.Scalar x at ∷ ts) = node_slots j ts
+node_slots j (T.Property x p at ∷ ts) = Node p j ∷ node_slots j ts
+
+abbrev pub are_kept : Layout → ℕ → List Target → Bool
+are_kept c i ts = list_all (is_kept_property c i) ts
+
+pub node-numbers : (c : Layout) (i j : ℕ) (ts : List Target) → are_kept c i ts ≡ true → map (slot_at c) (node_slots j ts) ≡ map (slot_number c) ts
+node-numbers c i j [] h = refl
+node-numbers c i j (T.Scalar x at ∷ ts) h = absurd (both_ways false refl h)
+node-numbers c i j (T.Property x p at ∷ ts) h = let q = both-true (nat_eq x i && c.is_kept p) (are_kept c i ts) h in ap (λ l. c.field p ∷ l) (node-numbers c i j ts q.1)
+
+pub node-slots : (c : Layout) (i j : ℕ) (w : View) (ts : List Target) → are_kept c i ts ≡ true → node_in w.graph (w.store.scalar i) ≡ Some j → slots_of w ts ≡ Ok (node_slots j ts)
+node-slots c i j w [] h e = refl
+node-slots c i j w (T.Scalar x at ∷ ts) h e = absurd (both_ways false refl h)
+node-slots c i j w (T.Property x p at ∷ ts) h e =
+    let q = both-true (nat_eq x i && c.is_kept p) (are_kept c i ts) h in
+    let r = both-true (nat_eq x i) (c.is_kept p) q.0 in
+    ap (λ z. then_with (then_with (node_held w at (node_in w.graph (w.store.scalar z))) (λ n. Ok (Node p n))) (λ s. then_with (slots_of w ts) (λ ss. Ok (s ∷ ss)))) (eqb-true x i r.0)
+    ∙ ap (λ o. then_with (then_with (node_held w at o) (λ n. Ok (Node p n))) (λ s. then_with (slots_of w ts) (λ ss. Ok (s ∷ ss)))) e
+    ∙ ap (λ a. then_with a (λ ss. Ok (Node p j ∷ ss))) (node-slots c i j w ts q.1 e)
+
+-- reductions to these fold
+pub all-own : (c : Layout) (i : ℕ) (us : List Target) → are_kept c i us ≡ true → list_all (is_property_of i) us ≡ true
+all-own c i [] e = refl
+all-own c i (T.Scalar y a ∷ us) e = absurd (both_ways false refl e)
+all-own c i (T.Property y q a ∷ us) e =
+    let z = both-true (nat_eq y i && c.is_kept q) (are_kept c i us) e in
+    ap (λ b. b && list_all (is_property_of i) us) (both-true (nat_eq y i) (c.is_kept q) z.0).0 ∙ all-own c i us z.1
+
+pub folds-way : (c : Layout) (i : ℕ) (t : Target) (ts : List Target) → are_kept c i (t ∷ ts) ≡ true → way_of c.declarations i (t ∷ ts) ≡ Folds
+folds-way c i (T.Scalar x at) ts h = absurd (both_ways false refl h)
+folds-way c i (T.Property x p at) ts h =
+    ap (λ b. if b then Folds else (if list_any (is_property_off i) (T.Property x p at ∷ ts) then Sends else Picks)) (all-own c i (T.Property x p at ∷ ts) h)
+
+-- the properties of a node that have fields
+abbrev pub here_at : Layout → ℕ → Slot → Bool
+here_at c j (Scalar x) = false
+here_at c j (Node p k) = nat_eq k j && c.is_kept p
 
 -- a reduction to scalars of the procedure ends with the outermost loop
 global-depth : (v : Variable) → is_global v ≡ true → v.depth ≡ 0

@@ -24,12 +24,11 @@ use Rattle.gm_lowering.specs.Layouts.{Layout}
 use Rattle.gm_lowering.specs.Places.{Spot, spots_in_all, spot_of_total}
 use Rattle.gm_lowering.specs.Plans.{way_of}
 use Rattle.gm_lowering.specs.Bodies.{reduce_spots}
-use Rattle.gm_lowering.specs.MessageLoops.{folds_to}
+use Rattle.gm_lowering.specs.OwnLoops.{folds_to}
 use Rattle.gm_lowering.specs.Settles.{HasSpot, is_some_list}
 use Rattle.gm_lowering.specs.Sites.{are_of_scalars, finds, same_length}
-use Rattle.gm_lowering.proofs.Givens.{assigned-is}
+use Rattle.gm_lowering.proofs.Givens.{assigned-is, node_slots, are_kept, node-slots, folds-way}
 use Rattle.gm_lowering.proofs.Kept.{Gives}
-use Rattle.gm_lowering.proofs.Receivers.{node_slots, are_kept, node-slots, folds-way}
 use Rattle.gm_lowering.proofs.FoldFacts.{IsReceived, kept-here}
 use Rattle.gm_lowering.proofs.Homes.{own-end}
 use Rattle.gm_lowering.proofs.Spots.{Within, Has, HoldNodes, Left, AllRead, all-read, all-within, all-hoist_nothing, within-left}

@@ -1,6 +1,6 @@
 -- The step of a vertex with a home loop's block is the loop's iteration.
-use Rattle.std.proofs.Common.{◌≡◌, ◌<◌, ◌≤◌, ◌⊎◌, inl, inr, ℕ, suc, Bool, true, false, Option, Some, None, Result, Ok, Err, List, [], ◌∷◌, ◌++◌, length, map, refl, ap, ◌∙◌, sym, subst, append_assoc, ⊎_elim}
-use Rattle.std.specs.Prelude.{◌+◌, ◌&&◌, ◌||◌, nat_eq, nat_lt, not, if◌then◌else◌, take}
+use Rattle.std.proofs.Common.{◌≡◌, ◌<◌, ◌⊎◌, inl, inr, ℕ, suc, Bool, true, false, Option, Some, None, Result, Ok, Err, List, [], ◌∷◌, ◌++◌, length, map, refl, ap, ◌∙◌, sym, subst, append_assoc, ⊎_elim}
+use Rattle.std.specs.Prelude.{◌&&◌, ◌||◌, nat_eq, nat_lt, not, if◌then◌else◌, take}
 use Rattle.std.specs.List.{list_all}
 use Rattle.std.proofs.lemmas.Bool.{both_ways, ne_eqb, eq-eqb, eqb-true, eqb-false, ltb-true}
 use Rattle.std.proofs.lemmas.List.{append-nil}
@@ -52,8 +52,8 @@ use Rattle.gm_lowering.specs.Bodies.{under, spots_of, reduce_spots}
 use Rattle.gm_lowering.specs.Blocks.{direction_of, each_lines, own_site}
 use Rattle.gm_lowering.specs.Showing.{fault_of, answer_of}
 use Rattle.gm_lowering.specs.Sites.{slot_at, given, finds, is_body, IsInGraph, HoldProperties, OwnGave}
-use Rattle.gm_lowering.specs.OwnLoops.{own_finds, own_sets, puts_to_scalars, IsOwnLoop, NodeShows, StepEnds}
-use Rattle.gm_lowering.specs.MessageLoops.{sets_nothing, folds_to, receiver_gives, is_to_scalars, is_to_nodes}
+use Rattle.gm_lowering.specs.OwnLoops.{own_finds, own_sets, puts_to_scalars, own_gives, IsOwnLoop, NodeShows, StepEnds, folds_to}
+use Rattle.gm_lowering.specs.MessageLoops.{sets_nothing, receiver_gives, is_to_scalars, is_to_nodes}
 use Rattle.gm_lowering.specs.Phases.{EdgesShown, GivesApart}
 use Rattle.gm_lowering.specs.Receiving.{turn_of}
 use Rattle.gm_lowering.specs.TwoSupersteps.{IsInside, StepsWithin}
@@ -61,18 +61,21 @@ use Rattle.gm_lowering.specs.Settles.{HasSpot, fault_or_none, AreHeld, AreGiven,
 use Rattle.gm_lowering.specs.HomeTurns.{is_at_edge, home_finds, home_lines, IsHomeLoop, HomeGave, EdgeShows, TurnEnds}
 use Rattle.gm_lowering.specs.HomeSteps.{home_block, each_spots, home_turns, given_inside, HasEach, HomeStepsAreIterations}
 use Rattle.gm_lowering.proofs.Bodies.{value-of}
-use Rattle.gm_lowering.proofs.FoldFacts.{here_at, IsReceived, put-received, body-weaker}
+use Rattle.gm_lowering.proofs.FoldFacts.{IsReceived, put-received, body-weaker}
+use Rattle.gm_lowering.proofs.Givens.{here_at, node-in}
 use Rattle.gm_lowering.proofs.HomeFacts.{fold-left, fold-gives}
 use Rattle.gm_lowering.proofs.HomeTurns.{each-turns}
 use Rattle.gm_lowering.proofs.Kept.{Gives, body-gives}
 use Rattle.gm_lowering.proofs.Orders.{lesser-lower}
-use Rattle.gm_lowering.proofs.Own.{Shows, own-holds, node-in}
+use Rattle.gm_lowering.proofs.Own.{Shows}
+use Rattle.gm_lowering.proofs.OwnGives.{own-holds}
 use Rattle.gm_lowering.proofs.Supersteps.{least-parts, least-two}
 use Rattle.gm_lowering.proofs.OwnSteps.{body-alone, begins}
 use Rattle.gm_lowering.proofs.PutFacts.{IsPut, put-left, put-gives-at}
 use Rattle.gm_lowering.proofs.Receiving.{or-cases, gives-weaker}
 use Rattle.gm_lowering.proofs.Settles.{least-is, total-spot, reductions-settle}
-use Rattle.gm_lowering.proofs.Spots.{Has, HoldNodes, Left, Within, spot-left, spot-right, has-right, reads, value-within, body-left}
+use Rattle.gm_lowering.proofs.Spots.{Has, HoldNodes, Left, Within, spot-left, spot-right, has-right, reads, value-within, body-left, Free, free}
+use Rattle.gm_lowering.proofs.TupleFacts.{no-spares}
 
 map-both : {A B : Type 0} (f : A → B) (xs ys : List A) → map f (xs ++ ys) ≡ map f xs ++ map f ys
 map-both f [] ys = refl
@@ -288,8 +291,8 @@ module _ (c : Layout) (p : image.Program) (fields base : ℕ) (all : List Spot) 
     left-body : (st : Stmt) → is_body c loose sets_nothing (receiver_gives c n loose) st ≡ true → (it : Iteration) → it.fault ≡ None → HoldNodes g its home it
         → Left c its true loop m home (does st m loop it) (spots_of c n its false st)
     left-body st o it f q =
-        body-left c its true loop m home n false sets_nothing (receiver_gives c n loose) no_locals (λ y z o'. absurd (both_ways false refl o'))
-        reductions-left st o it f q
+        body-left c its true loop m home n false sets_nothing (receiver_gives c n loose) Free (free loop m) no_locals (λ y z o'. absurd (both_ways false refl o'))
+        (λ j' total r' ts es it' o' y' f' q'. reductions-left j' total r' ts es it' o' f' q') st o it tt f q
 
     reductions-give : (j : Key) (total : TotalKey) (r' : Reduce) (ts : List Target) (es : List Expr) (it : Iteration) → receiver_gives c n loose r' ts es ≡ true → HoldNodes g its home it
         → ((f : Spot) → HasSpot f (reduce_spots false its (way_of c.declarations n ts) j total ts) → HasSpot f all)
@@ -301,10 +304,10 @@ module _ (c : Layout) (p : image.Program) (fields base : ℕ) (all : List Spot) 
 
     give-body : (it : Iteration) → it.fault ≡ None → HoldNodes g its home it → Gives (IsReceived c k all) it → Gives (IsReceived c k all) (does body m loop it)
     give-body it f q a =
-        body-gives c n its false loop m loose sets_nothing (receiver_gives c n loose) (IsReceived c k all) all (HoldNodes g its home)
-        (λ st o it' f' q'. (left-body st o it' f' q').1)
-        (λ j total r' ts es it' o q' f' a'. reductions-give j total r' ts es it' o q' f' a')
-        body fits (λ f' z. incl f' (spot-right f' (spots_in test key) body_spots z)) it f q a
+        body-gives c n its false loop m loose sets_nothing (receiver_gives c n loose) (IsReceived c k all) all (HoldNodes g its home) Free (free loop m)
+        (λ st o it' y' f' q'. (left-body st o it' f' q').1)
+        (λ j total r' ts es it' o y' q' f' a'. reductions-give j total r' ts es it' o q' f' a')
+        body fits (λ f' z. incl f' (spot-right f' (spots_in test key) body_spots z)) it tt f q a
 
     has-all : (o : Option Fault) → Has o (each_spots c n i key test body) → Has o all
     has-all None q = tt
@@ -510,13 +513,13 @@ module _ (c : Layout) (p : image.Program) (fields base : ℕ) (all : List Spot) 
 
   -- the mask is an own loop's filter
   mask-loop : IsOwnLoop c p.registers fields loop mask P.Skip
-  mask-loop = record { apart = able.apart; iterator = able.outer; types = able.types; depths = able.depths; found = outer.found; fits = refl }
+  mask-loop = record { apart = able.apart; iterator = able.outer; types = able.types; depths = able.depths; found = outer.found; fits = refl; spares = no-spares c (length p.registers) }
 
   mask-value : term_value (view s first) (term ov mask_key mask) ≡ answer_of ov (value mask (view_in loop Outermost begun_at mask_key))
   mask-value =
       value-of (own_site c seg n) loop Outermost s (body_after (length p.places) s)
-      (Shows c seg loop n k (length p.registers) fields (length p.places) s able.apart able.outer able.types able.depths) (OwnGave c ov) (own_finds c n) (own_sets c n) (puts_to_scalars c (own_finds c n))
-      (own-holds c seg loop n k (length p.registers) fields (length p.places) s able.apart able.outer able.types able.depths) begun_at first mask_key mask outer.found
+      (Shows c seg loop k (length p.registers) fields (length p.places) s able.apart able.outer able.types able.depths) (OwnGave c ov) (own_finds c n) (own_sets c n) (own_gives c n (own_finds c n))
+      (own-holds c seg loop k (length p.registers) fields (length p.places) s able.apart able.outer able.types able.depths (record { limit = 0; declarations = []; inputs = 0 }) [] None) begun_at first mask_key mask outer.found
       (begins c seg p fields loop kind mask_key mask P.Skip globals fs k r mask-loop shows)
 
   pub home-step : let it = iteration loop mask_key mask inner r k in StepEnds c ov fields k it (vertex_after p (home_block c seg n kind mask_key mask h key test body) s [] fs) it.fault

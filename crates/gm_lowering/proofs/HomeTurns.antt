@@ -34,17 +34,16 @@ use Rattle.gm_lowering.specs.Plans.{loads_in}
 use Rattle.gm_lowering.specs.Bodies.{Site, lines_of}
 use Rattle.gm_lowering.specs.Blocks.{Read, first_use, is_read, is_read_first, reads_scalar, zero_line, zero_lines, each_site}
 use Rattle.gm_lowering.specs.Sites.{finds, given, same_length, is_local, IsInGraph, IsApart, is_body}
-use Rattle.gm_lowering.specs.OwnLoops.{is_declared, puts_to_scalars}
-use Rattle.gm_lowering.specs.MessageLoops.{sets_nothing, folds_to, receiver_gives, is_to_scalars, is_to_nodes}
+use Rattle.gm_lowering.specs.OwnLoops.{is_declared, puts_to_scalars, folds_to}
+use Rattle.gm_lowering.specs.MessageLoops.{sets_nothing, receiver_gives, is_to_scalars, is_to_nodes}
 use Rattle.gm_lowering.specs.HomeTurns.{is_at_edge, home_finds, home_lines, IsHomeLoop, HomeGave, EdgeShows, TurnEnds, EachLinesAreTurns}
 use Rattle.gm_lowering.specs.Showing.{fault_of}
 use Rattle.gm_lowering.proofs.Bodies.{Ends, Holds, value-of, ends-by, body-ends, Anywhere}
 use Rattle.gm_lowering.proofs.FirstUses.{Good, SameGiven, Near, Out, Known, weaker, ok-near, value-near, does-near}
-use Rattle.gm_lowering.proofs.Givens.{are_scalars, scalars-end}
+use Rattle.gm_lowering.proofs.Givens.{are_scalars, scalars-end, are_kept}
 use Rattle.gm_lowering.proofs.Homes.{own-end, home-holds, HomeShows}
 use Rattle.gm_lowering.proofs.Own.{global-no_register}
 use Rattle.gm_lowering.proofs.OwnSteps.{under-ends}
-use Rattle.gm_lowering.proofs.Receivers.{are_kept}
 
 or-split : (a b : Bool) → a || b ≡ true → (a ≡ true) ⊎ (b ≡ true)
 or-split true b e = inl refl
@@ -79,7 +78,7 @@ module _ (c : Layout) (seg : Segment) (registers : List VType) (fields : ℕ) (l
     (able : IsEachLoop c registers fields loop i test) (shows : EdgeShows c loop registers fields s w r)
     (gives : Reduce → List Target → List Expr → Bool) (fits : is_body c (home_finds c loop.outer i) sets_nothing gives body ≡ true)
     (Gave : Iteration → VertexState → Type 0) (Placed : ℕ → Stmt → Type 0) (placed : Placed kind body)
-    (holds : Holds (each_site c seg loop.outer i) loop (AtEdge s.near.edge) s (lines_after s) (λ it u. HomeShows c loop i s.node s.near.node s.near.edge (length registers) fields s it u × Gave it u) Gave (home_finds c loop.outer i) sets_nothing gives Placed)
+    (holds : Holds (each_site c seg loop.outer i) loop (AtEdge s.near.edge) s (lines_after s) (λ it u. HomeShows c loop i s.node s.near.node s.near.edge (length registers) fields s it u × Gave it u) Gave (home_finds c loop.outer i) sets_nothing gives (λ kind' st it. Placed kind' st))
     (at_first : (it : Iteration) → it.with_inner ≡ [] → it.with_outermost ≡ [] → it.deferred ≡ [] → Gave it w)
     (late : (r' : Reduce) (ts : List Target) (es : List Expr) → gives r' ts es ≡ true
     → ((ends_of_all (AtEdge s.near.edge) loop ts ≡ WithInner) ⊎ (ends_of_all (AtEdge s.near.edge) loop ts ≡ WithOutermost)) × (list_all (home_finds c loop.outer i) es ≡ true))
@@ -225,7 +224,7 @@ module _ (c : Layout) (seg : Segment) (registers : List VType) (fields : ℕ) (l
       let z = zero-ends news (locals-of 0 (length c.declarations) (omega arith)) held w begins (ls ++ []) in
       ends-by site loop m s run sh Gave found sets_nothing gives holds (zero_lines c body ++ ls) [] ls [] w z.0 (go held) (go held).fault
       (ap (λ y. run y 0 w) (append_assoc (zero_lines c body) ls []) ∙ z.2) (λ t. refl)
-      (body-ends site loop m s run sh Gave found sets_nothing gives holds body kind fits placed (zeroed news held) z.0 [] z.1)
+      (body-ends site loop m s run sh Gave found sets_nothing gives holds body kind fits (zeroed news held) placed z.0 [] z.1)
 
   held-runs : Ends v run sh Gave lines [] w out_held out_held.fault
   held-runs =

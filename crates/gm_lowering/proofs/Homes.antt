@@ -46,14 +46,13 @@ use Rattle.gm_lowering.specs.Bodies.{image_targets, reduce_lines}
 use Rattle.gm_lowering.specs.Blocks.{each_site}
 use Rattle.gm_lowering.specs.Showing.{answer_of, Tells}
 use Rattle.gm_lowering.specs.Sites.{are_of_scalars, finds, finds_scalar, finds_node, same_length, is_local, slot_at, given, phase_value, IsInGraph, HoldLocals, HoldProperties, IsApart}
-use Rattle.gm_lowering.specs.OwnLoops.{is_declared, puts_to_scalars}
-use Rattle.gm_lowering.specs.MessageLoops.{sets_nothing, folds_to, receiver_gives, is_to_scalars, is_to_nodes}
+use Rattle.gm_lowering.specs.OwnLoops.{is_declared, puts_to_scalars, folds_to}
+use Rattle.gm_lowering.specs.MessageLoops.{sets_nothing, receiver_gives, is_to_scalars, is_to_nodes}
 use Rattle.gm_lowering.specs.HomeTurns.{is_at_edge, home_finds, HomeGave}
 use Rattle.gm_lowering.proofs.Bodies.{Ends as Ending, Holds, Anywhere}
-use Rattle.gm_lowering.proofs.Givens.{AllTell, are_scalars, values-all, none-hoisted, terms-of, slots-of, assigned-is, put-ends}
-use Rattle.gm_lowering.proofs.Own.{after-set, node-in, live-same, phase-term, global-has_value, global-no_register}
+use Rattle.gm_lowering.proofs.Givens.{AllTell, are_scalars, values-all, none-hoisted, terms-of, slots-of, assigned-is, put-ends, node_slots, are_kept, node-numbers, node-slots, folds-way, node-in}
+use Rattle.gm_lowering.proofs.Own.{after-set, live-same, phase-term, global-has_value, global-no_register}
 use Rattle.gm_lowering.proofs.PutFacts.{puts-way}
-use Rattle.gm_lowering.proofs.Receivers.{node_slots, are_kept, node-numbers, node-slots, folds-way}
 
 -- reductions to properties of the outer iterator end with the inner loop
 pub own-end : (c : Layout) (loop : Loop) (edge : ℕ) (t : Target) (ts : List Target) → ((p : ℕ) → loop.pushed p ≡ false) → are_kept c loop.outer (t ∷ ts) ≡ true → ends_of_all (AtEdge edge) loop (t ∷ ts) ≡ WithInner
@@ -505,7 +504,7 @@ module _ (c : Layout) (seg : Segment) (loop : Loop) (i k j edge registers fields
     by false e = fold-case kind key total r ts es it w rest (or-false (puts_to_scalars c found r ts es) (folds_to c n found r ts es) e o) q
 
   -- an each's site holds
-  pub home-holds : Holds (each_site c seg n i) loop m s run Shows Gave found sets_nothing (receiver_gives c n found) Anywhere
+  pub home-holds : Holds (each_site c seg n i) loop m s run Shows Gave found sets_nothing (receiver_gives c n found) (λ kind st it. Anywhere kind st)
   home-holds = record {
     type_is = type_is;
     skipped = λ l ls a w. refl;
@@ -517,9 +516,9 @@ module _ (c : Layout) (seg : Segment) (loop : Loop) (i k j edge registers fields
     tells = tells;
     local = local;
     property = λ key x p at e it w rest o f q. absurd (both_ways false refl o);
-    placed_first = λ kind a b h. tt;
-    placed_second = λ kind a b h. tt;
-    placed_yes = λ kind k e a b h. tt;
-    placed_no = λ kind k e a b h. tt;
+    placed_first = λ kind a b it h. tt;
+    placed_second = λ kind a b it h. tt;
+    placed_yes = λ kind k e a b it h. tt;
+    placed_no = λ kind k e a b it h. tt;
     reduce = λ kind key total r ts es it w rest o h q. reduce kind key total r ts es it w rest o q;
   }

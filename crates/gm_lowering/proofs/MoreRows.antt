@@ -15,7 +15,7 @@ use Rattle.gm_image.specs.Soundness.{is_sound}
 use Rattle.gm_machine.specs.Machine.{machine}
 use Rattle.gm_lowering.specs.Lowered.{lowered}
 use Rattle.gm_lowering.proofs.Samples.{graph, edge, ints, at}
-use Rattle.gm_lowering.proofs.MoreSamples.{home, random, picks, turns}
+use Rattle.gm_lowering.proofs.MoreSamples.{home, random, picks, folds, bounds, caps, pairs, turns}
 
 abbrev facts : Program → List Bool
 facts p = is_flipped p ∷ is_named p ∷ has_types p ∷ is_ordered p ∷ is_race_free p ∷ is_sound (lowered p) ∷ []
@@ -31,6 +31,18 @@ random_facts = refl
 
 picks_facts : facts picks ≡ all_hold
 picks_facts = refl
+
+folds_facts : facts folds ≡ all_hold
+folds_facts = refl
+
+bounds_facts : facts bounds ≡ all_hold
+bounds_facts = refl
+
+caps_facts : facts caps ≡ all_hold
+caps_facts = refl
+
+pairs_facts : facts pairs ≡ all_hold
+pairs_facts = refl
 
 turns_facts : facts turns ≡ all_hold
 turns_facts = refl
@@ -50,6 +62,30 @@ picks_mean = refl
 
 picks_run : (machine (lowered picks) square (At (Some 3) ∷ []) 9).outcome ≡ Done [] (Some (I32 (pos 302))) (ints (4 ∷ 4 ∷ 4 ∷ 2 ∷ []) ∷ ints (8 ∷ 5 ∷ 10 ∷ 3 ∷ []) ∷ []) 0
 picks_run = refl
+
+folds_mean : mean folds square (At (Some 3) ∷ []) 9 ≡ Done [] (Some (I32 (pos 14))) (ints (3 ∷ 0 ∷ 5 ∷ 2 ∷ []) ∷ ints (10 ∷ 4 ∷ 14 ∷ 2 ∷ []) ∷ []) 0
+folds_mean = refl
+
+folds_run : (machine (lowered folds) square (At (Some 3) ∷ []) 9).outcome ≡ mean folds square (At (Some 3) ∷ []) 9
+folds_run = refl
+
+bounds_mean : mean bounds square (At (Some 3) ∷ []) 9 ≡ Done [] (Some (I32 (pos 5))) (ints (4 ∷ 4 ∷ 4 ∷ 2 ∷ []) ∷ ints (4 ∷ 4 ∷ 5 ∷ 2 ∷ []) ∷ []) 0
+bounds_mean = refl
+
+bounds_run : (machine (lowered bounds) square (At (Some 3) ∷ []) 9).outcome ≡ Done [] (Some (I32 (pos 5))) (ints (4 ∷ 4 ∷ 4 ∷ 2 ∷ []) ∷ ints (4 ∷ 4 ∷ 5 ∷ 2 ∷ []) ∷ []) 0
+bounds_run = refl
+
+caps_mean : mean caps square (At (Some 3) ∷ []) 9 ≡ Done [] (Some (I32 (pos 8))) (ints (8 ∷ 8 ∷ 8 ∷ 18 ∷ []) ∷ ints (0 ∷ 0 ∷ 0 ∷ 0 ∷ []) ∷ []) 0
+caps_mean = refl
+
+caps_run : (machine (lowered caps) square (At (Some 3) ∷ []) 9).outcome ≡ Done [] (Some (I32 (pos 8))) (ints (8 ∷ 8 ∷ 8 ∷ 18 ∷ []) ∷ ints (0 ∷ 0 ∷ 0 ∷ 0 ∷ []) ∷ []) 0
+caps_run = refl
+
+pairs_mean : mean pairs square (At (Some 3) ∷ []) 9 ≡ Done [] (Some (I32 (pos 0))) (ints (2 ∷ 4 ∷ 7 ∷ 6 ∷ []) ∷ ints (7 ∷ 7 ∷ 9 ∷ 9 ∷ []) ∷ []) 0
+pairs_mean = refl
+
+pairs_run : (machine (lowered pairs) square (At (Some 3) ∷ []) 9).outcome ≡ Done [] (Some (I32 (pos 0))) (ints (2 ∷ 4 ∷ 7 ∷ 6 ∷ []) ∷ ints (7 ∷ 7 ∷ 9 ∷ 9 ∷ []) ∷ []) 0
+pairs_run = refl
 
 turns_run : (machine (lowered turns) square (At (Some 3) ∷ []) 20).outcome ≡ mean turns square (At (Some 3) ∷ []) 20
 turns_run = refl

@@ -5,7 +5,7 @@ use Rattle.gm_value.specs.declared.operations.Op1.TheVariants as one
 use Rattle.gm_value.specs.declared.operations.Op2.TheVariants as two
 use Rattle.gm_value.specs.declared.reductions.Reduce.TheVariants as reduce
 use Rattle.gm_ast.specs.declared.tree.Declaration.{Declaration}
-use Rattle.gm_ast.specs.declared.tree.Domain.TheVariants.{Nodes, InNbrs}
+use Rattle.gm_ast.specs.declared.tree.Domain.TheVariants.{Nodes, InNbrs, OutNbrs}
 use Rattle.gm_ast.specs.declared.tree.Sort.TheVariants as Sorts
 use Rattle.gm_ast.specs.Program.{always, Unary, Binary, Choose, Stmt, Skip, Declare, Assign, Combine, Foreach, For, If, Do, Return, Program, sequence}
 use Rattle.gm_lowering.proofs.Samples.{declared, at, key, total, over, nodes, reduces, property, variable, scalar, to_property, int}
@@ -29,6 +29,7 @@ table =
     ∷ declared (codes "c") Sorts.Iterator V.Node 0
     ∷ declared (codes "x") Sorts.Scalar V.I32 1
     ∷ declared (codes "z") Sorts.Scalar V.I64 1
+    ∷ declared (codes "w") Sorts.Scalar V.I32 2
     ∷ []
 
 abbrev program : List Stmt → Program
@@ -83,6 +84,63 @@ picks = program (
     ∷ Combine (key 10) (total 10 (at 1 10)) reduce.Min (scalar 5 ∷ scalar 6 ∷ []) (property 9 4 ∷ property 9 1 ∷ [])
     ∷ [])
     ∷ Return (key 11) (at 1 11) (Some (Binary two.Add (at 1 12) (Binary two.Mul (at 1 11) (variable 5) (int 100)) (variable 6)))
+    ∷ [])
+
+-- Foreach (n: G.Nodes) { n.a max= n.v; If (n.v > 3) { <n.a; n.b> min= <n.v - 4; n.v>; } n.b = n.b + n.a; s max= n.b; } Return s;
+abbrev pub folds : Program
+folds = program (
+    Declare (key 1) 5 None
+    ∷ nodes 2 9 always (
+    reduces 3 (at 1 3) reduce.Max (to_property 9 3) (property 9 1)
+    ∷ If (key 4) (Binary two.Gt (at 1 4) (property 9 1) (int 3)) (
+    Combine (key 5) (total 5 (at 1 5)) reduce.Min (to_property 9 3 ∷ to_property 9 4 ∷ []) (Binary two.Sub (at 1 5) (property 9 1) (int 4) ∷ property 9 1 ∷ [])) Skip
+    ∷ Assign (key 6) (to_property 9 4) (Binary two.Add (at 1 6) (property 9 4) (property 9 3))
+    ∷ reduces 7 (at 1 7) reduce.Max (scalar 5) (property 9 4)
+    ∷ [])
+    ∷ Return (key 8) (at 1 8) (Some (variable 5))
+    ∷ [])
+
+-- Foreach (n: G.Nodes) { Int x = n.v; x min= 4; n.a max= x; x max= n.v - 4; n.b = x; s max= x; } Return s;
+abbrev pub bounds : Program
+bounds = program (
+    Declare (key 1) 5 None
+    ∷ nodes 2 9 always (
+    Declare (key 3) 14 (Some (property 9 1))
+    ∷ reduces 4 (at 1 4) reduce.Min (scalar 14) (int 4)
+    ∷ reduces 5 (at 1 5) reduce.Max (to_property 9 3) (variable 14)
+    ∷ reduces 6 (at 1 6) reduce.Max (scalar 14) (Binary two.Sub (at 1 6) (property 9 1) (int 4))
+    ∷ Assign (key 7) (to_property 9 4) (variable 14)
+    ∷ reduces 8 (at 1 8) reduce.Max (scalar 5) (variable 14)
+    ∷ [])
+    ∷ Return (key 9) (at 1 9) (Some (variable 5))
+    ∷ [])
+
+-- Foreach (n: G.Nodes) { Foreach (t: n.Nbrs) (t.v < n.v + 9) { Int y = n.v + t.v; y min= 8; t.a += y; s max= y; } } Return s;
+abbrev pub caps : Program
+caps = program (
+    Declare (key 1) 5 None
+    ∷ Foreach (key 2) (at 1 1) (over 9 Nodes 0) always (
+    Foreach (key 3) (at 1 2) (over 10 OutNbrs 9) (Binary two.Lt (at 1 3) (property 10 1) (Binary two.Add (at 1 4) (property 9 1) (int 9))) (sequence (
+    Declare (key 4) 12 (Some (Binary two.Add (at 1 5) (property 9 1) (property 10 1)))
+    ∷ reduces 5 (at 1 6) reduce.Min (scalar 12) (int 8)
+    ∷ reduces 6 (at 1 7) reduce.Sum (to_property 10 3) (variable 12)
+    ∷ reduces 7 (at 1 8) reduce.Max (scalar 5) (variable 12)
+    ∷ [])))
+    ∷ Return (key 8) (at 1 9) (Some (variable 5))
+    ∷ [])
+
+-- Foreach (n: G.Nodes) { Foreach (t: n.Nbrs) { Int y = t.v; Int w = n.v; <y; w> min= <n.v; t.v>; t.a += y; t.b max= w; } } Return 0;
+abbrev pub pairs : Program
+pairs = program (
+    Foreach (key 1) (at 1 1) (over 9 Nodes 0) always (
+    Foreach (key 2) (at 1 2) (over 10 OutNbrs 9) always (sequence (
+    Declare (key 3) 12 (Some (property 10 1))
+    ∷ Declare (key 4) 16 (Some (property 9 1))
+    ∷ Combine (key 5) (total 5 (at 1 5)) reduce.Min (scalar 12 ∷ scalar 16 ∷ []) (property 9 1 ∷ property 10 1 ∷ [])
+    ∷ reduces 6 (at 1 6) reduce.Sum (to_property 10 3) (variable 12)
+    ∷ reduces 7 (at 1 7) reduce.Max (to_property 10 4) (variable 16)
+    ∷ [])))
+    ∷ Return (key 8) (at 1 8) (Some (int 0))
     ∷ [])
 
 -- For (c: G.Nodes) (c != r) { k = k + 1; If (k > 2) { Return s; } Else { s = s + k; } Do { s = s * 2; f = s < 10; } While (f); } <s; k> min= <k; s>; If (s < 3) { s = 7; } Return s;

@@ -20,7 +20,7 @@ use Rattle.gm_machine.specs.Faults.{is_earlier, lesser}
 use Rattle.gm_lowering.specs.Places.{Spot, Segment, segment, spot_lt, spot_at, inserted, ascending, place_index}
 use Rattle.gm_lowering.specs.Terms.{Env}
 use Rattle.gm_lowering.specs.Showing.{fault_of}
-use Rattle.gm_lowering.specs.Settles.{HasSpot, spot_of_fault}
+use Rattle.gm_lowering.specs.Settles.{HasSpot, spot_of_fault, HaveRoom}
 
 -- where a fault stands, as numbers
 abbrev pub rank4 : K.Fault → List ℕ
@@ -167,6 +167,20 @@ index-order base spots f g h lt =
     kept-one-more (λ s. spot_lt s (spot_at f.key f.place)) (λ s. spot_lt s (spot_at g.key g.place)) all q.0 (λ x e. lt-trans x.fault f g e lt) q.2
     (ap (λ x. fault_lt x f) q.1 ∙ lt-itself f) (ap (λ x. fault_lt x g) q.1 ∙ lt) in
     omega arith
+
+-- the index of a spot is among those of its segment
+pub index-within : (base : ℕ) (spots : List Spot) (places : ℕ) → HaveRoom base spots places → (z : Spot) → HasSpot z spots → index_of (segment base spots) z.fault < places
+index-within base spots places room z h =
+    let all = ascending spots in
+    let q = spot-in z.fault all (ascending-has z.fault spots (fault-has z spots h)) in
+    let less : length (filter (λ s. spot_lt s (spot_at z.fault.key z.fault.place)) all) < length (filter (λ s. true) all) =
+    kept-one-more (λ s. spot_lt s (spot_at z.fault.key z.fault.place)) (λ s. true) all q.0 (λ x e. refl) q.2 (ap (λ x. fault_lt x z.fault) q.1 ∙ lt-itself z.fault) refl in
+    let most = all-kept all in
+    let fit = room z h in
+    omega (arith, less, most, fit) where
+      all-kept : (xs : List Spot) → length (filter (λ s. true) xs) ≤ length xs
+      all-kept [] = omega arith
+      all-kept (x ∷ xs) = let rest = all-kept xs in omega (arith, rest)
 
 -- the number of a kind tells it
 same_kind : (a b : FaultKind) → fault_number a ≡ fault_number b → a ≡ b

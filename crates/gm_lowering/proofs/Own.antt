@@ -3,13 +3,13 @@ use Rattle.std.proofs.Common.{◌≡◌, ◌<◌, ℕ, Bool, true, false, Option
 use Rattle.std.specs.Prelude.{if◌then◌else◌, ◌&&◌, ◌||◌, not, nat_eq, nat_lt, slice_set, pos}
 use Rattle.std.specs.List.{list_all, list_any}
 use Rattle.std.proofs.lemmas.List.{get_or-set_same, get_or-set_other, length-set}
-use Rattle.std.proofs.lemmas.Bool.{both_ways, eqb-true, eqb-false, ne_eqb, eq-eqb, ltb-true, lt-ltb}
+use Rattle.std.proofs.lemmas.Bool.{both_ways, eqb-true, eqb-false, ne_eqb, eq-eqb, ltb-true}
 use Rattle.gm_base.specs.declared.places.Place.{Place}
 use Rattle.gm_value.specs.declared.values.Value.{Value}
 use Rattle.gm_value.specs.declared.values.Value.TheVariants.{I32, I64, Flag, At}
 use Rattle.gm_value.specs.declared.reductions.Reduce.{Reduce}
 use Rattle.gm_value.specs.Numbers.{zero_of}
-use Rattle.gm_model.specs.Graphs.{NumberedGraph, node_count, out_steps, in_steps}
+use Rattle.gm_model.specs.Graphs.{node_count, out_steps, in_steps}
 use Rattle.gm_ast.specs.declared.tree.Direction.{Direction}
 use Rattle.gm_ast.specs.declared.tree.Direction.TheVariants.{Out, In}
 use Rattle.gm_ast.specs.declared.tree.Key.{Key}
@@ -48,8 +48,8 @@ use Rattle.gm_lowering.specs.Showing.{answer_of, Tells}
 use Rattle.gm_lowering.specs.Sites.{are_of_scalars, finds_scalar, finds_node, same_length, is_local, given, phase_value, IsInGraph, IsApart, OwnShows, OwnGave}
 use Rattle.gm_lowering.specs.OwnLoops.{is_declared, own_finds, own_sets, puts_to_scalars}
 use Rattle.gm_lowering.proofs.Terms.{rest-term, hoisted-parallel}
-use Rattle.gm_lowering.proofs.Bodies.{Ends as Ending, Holds, Anywhere}
-use Rattle.gm_lowering.proofs.Givens.{AllTell, are_scalars, put-ends}
+use Rattle.gm_lowering.proofs.Bodies.{Ends as Ending}
+use Rattle.gm_lowering.proofs.Givens.{AllTell, are_scalars, put-ends, node-in}
 
 -- a slot of a list that is set
 pub after-set : (vs : List Value) (k : ℕ) (v : Value) (j : ℕ) → k < length vs → value_at (slice_set vs k v) j ≡ (if nat_eq k j then v else value_at vs j)
@@ -57,10 +57,6 @@ after-set vs k v j lt = set-by (nat_eq k j) refl where
   set-by : (b : Bool) → nat_eq k j ≡ b → value_at (slice_set vs k v) j ≡ (if b then v else value_at vs j)
   set-by true e = ap (value_at (slice_set vs k v)) (sym (eqb-true k j e)) ∙ get_or-set_same vs k v (At None) lt
   set-by false e = get_or-set_other vs k j v (At None) (λ i. eqb-false k j e (sym i))
-
--- a node of the graph is found there
-pub node-in : (g : NumberedGraph) (k : ℕ) → k < node_count g → node_in g (At (Some k)) ≡ Some k
-node-in g k lt = ap (λ b. if b then Some k else None) (lt-ltb k (node_count g) lt)
 
 -- a check of a node gives the same in the program and in the image
 pub live-same : (v : Env) (w : View) (at : Place) (a : Value) → IsInGraph w.graph a
@@ -92,11 +88,14 @@ global-no_register x h =
 or-false : (a b : Bool) → a ≡ false → a || b ≡ true → b ≡ true
 or-false a b e h = ap (λ x. x || b) (sym e) ∙ h
 
-module _ (c : Layout) (seg : Segment) (loop : Loop) (n k registers fields places : ℕ) (s : VertexContext)
+module _ (c : Layout) (seg : Segment) (loop : Loop) (k registers fields places : ℕ) (s : VertexContext)
     (apart : IsApart c registers fields)
-    (unlike : is_register (variable_at c.declarations n) ≡ false)
+    (unlike : is_register (variable_at c.declarations loop.outer) ≡ false)
     (type_is : (x : ℕ) → loop.vtype x ≡ (variable_at c.declarations x).vtype)
     (depth_is : (x : ℕ) → loop.depth x ≡ (variable_at c.declarations x).depth) where
+  abbrev n : ℕ
+  n = loop.outer
+
   abbrev v : Env
   v = own_env c seg n
 
@@ -107,7 +106,7 @@ module _ (c : Layout) (seg : Segment) (loop : Loop) (n k registers fields places
   run = body_after places s
 
   -- a scalar is found
-  scalar-is : (it : Iteration) (w : VertexState) (x : ℕ) → finds_scalar c (n ∷ []) x ≡ true → Shows it w → term_value (view s w) (v.scalar x) ≡ Ok (it.store.scalar x)
+  pub scalar-is : (it : Iteration) (w : VertexState) (x : ℕ) → finds_scalar c (n ∷ []) x ≡ true → Shows it w → term_value (view s w) (v.scalar x) ≡ Ok (it.store.scalar x)
   scalar-is it w x o q = by (nat_eq x n) refl where
     other : (b : Bool) → is_register (variable_at c.declarations x) ≡ b → nat_eq x n ≡ false → nat_lt x (length c.declarations) && has_value (variable_at c.declarations x) ≡ true
         → term_value (view s w) (if b then M.Register (c.register x) else phase_scalar c x) ≡ Ok (it.store.scalar x)
@@ -178,7 +177,7 @@ module _ (c : Layout) (seg : Segment) (loop : Loop) (n k registers fields places
         globals (is_register (variable_at c.declarations x)) refl e (ltb-true x (length c.declarations) t.0) t.1
 
   -- a state tells the leaves of each expression that is found
-  tells : (it : Iteration) (w : VertexState) (j : Key) (e : Expr) → own_finds c n e ≡ true → Shows it w → Tells v (view_in loop Outermost it j) (view s w) e
+  pub tells : (it : Iteration) (w : VertexState) (j : Key) (e : Expr) → own_finds c n e ≡ true → Shows it w → Tells v (view_in loop Outermost it j) (view s w) e
   tells it w j (S.Const a) o q = tt
   tells it w j (S.Var x at) o q = scalar-is it w x o q
   tells it w j (S.Property x p at) o q =
@@ -210,7 +209,7 @@ module _ (c : Layout) (seg : Segment) (loop : Loop) (n k registers fields places
   unlike_local x y e f = ne_eqb x y (λ i. both_ways (is_register (variable_at c.declarations y)) f (ap (λ z. is_register (variable_at c.declarations z)) (sym i) ∙ e))
 
   -- a local that is set
-  local : (it : Iteration) (w : VertexState) (x : ℕ) (a : Value) → is_local c x ≡ true → Shows it w → Shows (wrote it (Scalar x, a)) (record w { registers = slice_set w.registers (c.register x) a })
+  pub local : (it : Iteration) (w : VertexState) (x : ℕ) (a : Value) → is_local c x ≡ true → Shows it w → Shows (wrote it (Scalar x, a)) (record w { registers = slice_set w.registers (c.register x) a })
   local it w x a o q =
       let t = both-true (nat_lt x (length c.declarations)) (is_register (variable_at c.declarations x)) o in
       let lt = ltb-true x (length c.declarations) t.0 in
@@ -241,7 +240,7 @@ module _ (c : Layout) (seg : Segment) (loop : Loop) (n k registers fields places
           by false i = sym (ne_eqb x y (λ j. eqb-false (c.register x) (c.register y) i (ap c.register j)))
 
   -- a property that is set
-  field : (it : Iteration) (w : VertexState) (p : ℕ) (a : Value) → c.is_kept p ≡ true → Shows it w → Shows (wrote it (Node p k, a)) (record w { fields = slice_set w.fields (c.field p) a })
+  pub field : (it : Iteration) (w : VertexState) (p : ℕ) (a : Value) → c.is_kept p ≡ true → Shows it w → Shows (wrote it (Node p k, a)) (record w { fields = slice_set w.fields (c.field p) a })
   field it w p a o q =
       let within = subst (λ j. c.field p < j) (sym q.0.field_count) (apart.field_within p o) in (
         record {
@@ -299,7 +298,7 @@ module _ (c : Layout) (seg : Segment) (loop : Loop) (n k registers fields places
     ap (λ u. goes_on (line_ends w u (λ y. leaves (record w { fields = slice_set w.fields (c.field p) y }))) (λ j z. body_after places s rest j z)) e,
   )
 
-  property : (j : Key) (x p : ℕ) (at : Place) (e : Expr) (it : Iteration) (w : VertexState) (rest : List Line) → own_sets c n x p ≡ true → own_finds c n e ≡ true → Shows it w
+  pub property : (j : Key) (x p : ℕ) (at : Place) (e : Expr) (it : Iteration) (w : VertexState) (rest : List Line) → own_sets c n x p ≡ true → own_finds c n e ≡ true → Shows it w
       → let out = does (S.Assign j (T.Property x p at) e) Outermost loop it in Ending' (SetField (c.field p) (term v j e) ∷ []) rest w out out.fault
   property j x p at e it w rest o i q =
       let t = both-true (nat_eq x n) (c.is_kept p) o in
@@ -350,7 +349,7 @@ module _ (c : Layout) (seg : Segment) (loop : Loop) (n k registers fields places
   )
 
   -- a reduction to scalars of the procedure
-  reduce : (kind : ℕ) (j : Key) (total : TotalKey) (r : Reduce) (ts : List Target) (es : List Expr) (it : Iteration) (w : VertexState) (rest : List Line)
+  pub reduce : (kind : ℕ) (j : Key) (total : TotalKey) (r : Reduce) (ts : List Target) (es : List Expr) (it : Iteration) (w : VertexState) (rest : List Line)
       → puts_to_scalars c (own_finds c n) r ts es ≡ true → Shows it w
       → let out = does (S.Combine j total r ts es) Outermost loop it in
       Ending' (reduce_lines (own_site c seg n) kind (way_of c.declarations n ts) j total r ts (map (term v j) es)) rest w out out.fault
@@ -365,23 +364,3 @@ module _ (c : Layout) (seg : Segment) (loop : Loop) (n k registers fields places
       j total r t ts es it w rest q x.0 y.0 (all-tell it w j es y.1 q)) where
         puts-way : (us : List Target) → are_scalars c us ≡ true → way_of c.declarations n us ≡ Puts
         puts-way us e = ap (λ b. if b then Puts else (if list_all (is_property_of n) us then Folds else (if list_any (is_property_off n) us then Sends else Picks))) e
-
-  -- an own site holds
-  pub own-holds : Holds (own_site c seg n) loop Outermost s run Shows (OwnGave c v) (own_finds c n) (own_sets c n) (puts_to_scalars c (own_finds c n)) Anywhere
-  own-holds = record {
-    type_is = type_is;
-    skipped = λ l ls j w. refl;
-    register_runs = λ x t ls w. refl;
-    skip_runs = λ j t ls w. refl;
-    fine = λ it w q. q.0.fine;
-    gave = λ it w q. q.1;
-    gave_failed = gave-failed;
-    tells = tells;
-    local = local;
-    property = property;
-    placed_first = λ kind a b h. tt;
-    placed_second = λ kind a b h. tt;
-    placed_yes = λ kind k e a b h. tt;
-    placed_no = λ kind k e a b h. tt;
-    reduce = λ kind key total r ts es it w rest o h q. reduce kind key total r ts es it w rest o q;
-  }

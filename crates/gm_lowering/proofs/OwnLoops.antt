@@ -1,6 +1,6 @@
 -- One superstep of all vertices with an own loop's block is the loop.
-use Rattle.std.proofs.Common.{◌≡◌, ◌<◌, ◌≤◌, ℕ, Bool, true, false, Some, None, Result, Ok, Err, List, [], ◌∷◌, length, refl, ap, ◌∙◌, sym}
-use Rattle.std.specs.Prelude.{◌+◌, ◌||◌, nat_eq, if◌then◌else◌, slice_index_or}
+use Rattle.std.proofs.Common.{◌≡◌, ◌<◌, ℕ, Bool, true, false, Some, None, Result, Ok, Err, List, [], ◌∷◌, length, refl, ap, ◌∙◌, sym, Option}
+use Rattle.std.specs.Prelude.{◌||◌, nat_eq, if◌then◌else◌, slice_index_or}
 use Rattle.std.proofs.lemmas.Bool.{eq-eqb, eqb-true}
 use Rattle.gm_value.specs.declared.values.Value.{Value}
 use Rattle.gm_value.specs.declared.values.Value.TheVariants.{At}
@@ -26,17 +26,23 @@ use Rattle.gm_lowering.specs.Layouts.{Layout, is_register}
 use Rattle.gm_lowering.specs.Places.{Spot, Segment, segment, spots_in}
 use Rattle.gm_lowering.specs.Terms.{Env, own_env}
 use Rattle.gm_lowering.specs.Bodies.{spots_of}
-use Rattle.gm_lowering.specs.OwnLoops.{own_finds, own_sets, puts_to_scalars, own_block, IsOwnLoop, NodeShows, StepEnds}
+use Rattle.gm_lowering.specs.OwnLoops.{own_finds, own_sets, own_gives, fold_spots, HaveIndices, own_block, IsOwnLoop, NodeShows, StepEnds, PicksTyped}
 use Rattle.gm_lowering.specs.Phases.{GlobalsApart, NodesInGraph, Shown, StepIs, GivesApart, given_in, own_spots, OwnLoopsAreSupersteps}
 use Rattle.gm_lowering.specs.Settles.{spot_of_fault, HaveRoom}
 use Rattle.gm_lowering.proofs.Kept.{Gives, body-gives}
 use Rattle.gm_lowering.proofs.OwnSteps.{own-steps}
-use Rattle.gm_lowering.proofs.PutFacts.{IsPut, put-left, put-gives}
+use Rattle.gm_lowering.proofs.OwnFacts.{own-left, own-puts, folds-spotted}
+use Rattle.gm_lowering.proofs.PutFacts.{IsPut}
 use Rattle.gm_lowering.proofs.Spots.{Has, HoldNodes, Left, Within, spot-left, spot-right, has-right, reads, value-within, body-left}
 use Rattle.gm_lowering.proofs.Supersteps.{loop-of-steps}
+use Rattle.gm_lowering.proofs.Orders.{index-within}
+use Rattle.gm_value.specs.declared.values.VType.{VType}
+use Rattle.gm_typed_stores.specs.Tells.{TypeTable}
+use Rattle.gm_lowering.proofs.Picks.{Typed, parts-typed}
 
-module _ (c : Layout) (p : image.Program) (fields base q kind : ℕ) (loop : Loop) (key : Key) (test : Expr) (body : Stmt) (globals : List Value) (s : Nodes) (r : Store)
+module _ (c : Layout) (p : image.Program) (fields base q kind : ℕ) (loop : Loop) (key : Key) (test : Expr) (body : Stmt) (globals : List Value) (s : Nodes) (r : Store) (table : TypeTable) (around : List ℕ) (result : Option VType)
     (able : IsOwnLoop c p.registers fields loop test body)
+    (typed : (k : ℕ) → k < node_count loop.graph → PicksTyped c table around result loop body (begun (write r (slots.Scalar loop.outer) (At (Some k)))))
     (gs : GlobalsApart c (length globals))
     (fit : HaveRoom base (own_spots c loop.outer key test body) (length p.places))
     (block : block_at p q ≡ own_block c (segment base (own_spots c loop.outer key test body)) loop.outer kind key test body)
@@ -71,6 +77,10 @@ module _ (c : Layout) (p : image.Program) (fields base q kind : ℕ) (loop : Loo
     inside = lt;
   }
 
+  -- the places of the body's folds have indices
+  indexed : HaveIndices seg (length p.places) (fold_spots c n body)
+  indexed z h = index-within base all (length p.places) fit z (spot-right z (spots_in test key) (spots_of c n (n ∷ []) true body) (folds-spotted c n body able.fits z h))
+
   abbrev Ends : ℕ → After → Type 0
   Ends k a = StepEnds c v fields k (it k) a (it k).fault
 
@@ -78,7 +88,7 @@ module _ (c : Layout) (p : image.Program) (fields base q kind : ℕ) (loop : Loo
   one_step x = vertex_after p (own_block c seg n kind key test body) (context_at g globals x.0) [] x.1
 
   ends : (k : ℕ) → k < node_count g → Ends k (one_step (k, slice_index_or s.fields k []))
-  ends k lt = own-steps c seg p fields loop kind key test body globals (slice_index_or s.fields k []) k r able (node-shows k lt)
+  ends k lt = own-steps c seg p fields loop kind key test body globals (slice_index_or s.fields k []) k r table around result able indexed (typed k lt) (node-shows k lt)
 
   -- the iterations' faults and contributions
   starts : (k : ℕ) → k < node_count g → HoldNodes g (n ∷ []) (λ x. k) (begun (write r (slots.Scalar n) (At (Some k))))
@@ -101,20 +111,20 @@ module _ (c : Layout) (p : image.Program) (fields base q kind : ℕ) (loop : Loo
   abbrev body_spots : List Spot
   body_spots = spots_of c n (n ∷ []) true body
 
-  body-leaves : (home : ℕ → ℕ) (i : Iteration) → i.fault ≡ None → HoldNodes g (n ∷ []) home i → Left c (n ∷ []) false loop Outermost home (does body Outermost loop i) body_spots
-  body-leaves home i e h =
-      body-left c (n ∷ []) false loop Outermost home n true (own_sets c n) (puts_to_scalars c (own_finds c n)) no_locals set_at_node
-      (λ k total r' ts es j o e' h'. put-left c (n ∷ []) false true n loop Outermost home able.depths k total r' ts es j o e' h')
-      body able.fits i e h
+  body-leaves : (home : ℕ → ℕ) (i : Iteration) → Typed c table around result loop body i → i.fault ≡ None → HoldNodes g (n ∷ []) home i → Left c (n ∷ []) false loop Outermost home (does body Outermost loop i) body_spots
+  body-leaves home i y e h =
+      body-left c (n ∷ []) false loop Outermost home n true (own_sets c n) (own_gives c n (own_finds c n)) (Typed c table around result loop) (parts-typed c table around result loop Outermost) no_locals set_at_node
+      (λ k total r' ts es j o y' e' h'. own-left c loop home able.depths table around result able.iterator k total r' ts es j o y' e' h')
+      body able.fits i y e h
 
-  body-puts : (home : ℕ → ℕ) (i : Iteration) → i.fault ≡ None → HoldNodes g (n ∷ []) home i → Gives (IsPut c all) i → Gives (IsPut c all) (does body Outermost loop i)
-  body-puts home i e h o =
-      body-gives c n (n ∷ []) true loop Outermost (own_finds c n) (own_sets c n) (puts_to_scalars c (own_finds c n)) (IsPut c all) all (HoldNodes g (n ∷ []) home)
-      (λ st fits j e' h'.
-      (body-left c (n ∷ []) false loop Outermost home n true (own_sets c n) (puts_to_scalars c (own_finds c n)) no_locals set_at_node
-      (λ k total r' ts es j o e' h'. put-left c (n ∷ []) false true n loop Outermost home able.depths k total r' ts es j o e' h') st fits j e' h').1)
-      (λ k total r' ts es j o' h' i' g'. put-gives c (n ∷ []) false true n loop Outermost home able.depths all k total r' ts es j o' h' i' g')
-      body able.fits (λ f j. spot-right f (spots_in test key) body_spots j) i e h o
+  body-puts : (home : ℕ → ℕ) (i : Iteration) → Typed c table around result loop body i → i.fault ≡ None → HoldNodes g (n ∷ []) home i → Gives (IsPut c all) i → Gives (IsPut c all) (does body Outermost loop i)
+  body-puts home i y e h o =
+      body-gives c n (n ∷ []) true loop Outermost (own_finds c n) (own_sets c n) (own_gives c n (own_finds c n)) (IsPut c all) all (HoldNodes g (n ∷ []) home) (Typed c table around result loop) (parts-typed c table around result loop Outermost)
+      (λ st fits j y' e' h'.
+      (body-left c (n ∷ []) false loop Outermost home n true (own_sets c n) (own_gives c n (own_finds c n)) (Typed c table around result loop) (parts-typed c table around result loop Outermost) no_locals set_at_node
+      (λ k total r' ts es j o y' e' h'. own-left c loop home able.depths table around result able.iterator k total r' ts es j o y' e' h') st fits j y' e' h').1)
+      (λ k total r' ts es j o' y' h' i' g'. own-puts c loop home able.depths table around result able.iterator all k total r' ts es j o' y' h' i' g')
+      body able.fits (λ f j. spot-right f (spots_in test key) body_spots j) i y e h o
 
   -- an iteration's fault has a spot, and it gives to scalars of the procedure
   iteration-left : (k : ℕ) → k < node_count g → Has (it k).fault all × Gives (IsPut c all) (it k)
@@ -126,7 +136,7 @@ module _ (c : Layout) (p : image.Program) (fields base q kind : ℕ) (loop : Loo
     nothing = record { outermost = λ x i. absurd i; inner = λ x i. absurd i }
 
     way : (b : Bool) → Has (one_way b (does body Outermost loop) as_it_is start).fault all × Gives (IsPut c all) (one_way b (does body Outermost loop) as_it_is start)
-    way true = (has-right (does body Outermost loop start).fault (spots_in test key) body_spots (body-leaves (λ x. k) start refl (starts k lt)).0, body-puts (λ x. k) start refl (starts k lt) nothing)
+    way true = (has-right (does body Outermost loop start).fault (spots_in test key) body_spots (body-leaves (λ x. k) start (typed k lt) refl (starts k lt)).0, body-puts (λ x. k) start (typed k lt) refl (starts k lt) nothing)
     way false = (tt, nothing)
 
     by : (a : Result Value Fault) → Within a (spots_in test key)
@@ -140,4 +150,4 @@ module _ (c : Layout) (p : image.Program) (fields base q kind : ℕ) (loop : Loo
       (λ k lt. let t = iteration-left k lt in (t.0, t.1.outermost))
 
 pub own-loops : OwnLoopsAreSupersteps
-own-loops c p fields base q kind loop key test body globals s r is gs fit block shown in_graph apart = own-loop c p fields base q kind loop key test body globals s r is gs fit block shown in_graph apart
+own-loops c p fields base q kind loop key test body globals s r table around result is typed gs fit block shown in_graph apart = own-loop c p fields base q kind loop key test body globals s r table around result is typed gs fit block shown in_graph apart

@@ -34,11 +34,14 @@ use Rattle.gm_lowering.specs.Terms.{term, own_env}
 use Rattle.gm_lowering.specs.Blocks.{own_site}
 use Rattle.gm_lowering.specs.Showing.{fault_of, answer_of}
 use Rattle.gm_lowering.specs.Sites.{is_body, IsInGraph, OwnGave}
-use Rattle.gm_lowering.specs.OwnLoops.{own_finds, own_sets, puts_to_scalars, own_block, IsOwnLoop, NodeShows, StepEnds, OwnStepsAreIterations}
-use Rattle.gm_lowering.proofs.Own.{Shows, own-holds}
+use Rattle.gm_lowering.specs.OwnLoops.{own_finds, own_sets, own_gives, fold_spots, HaveIndices, own_block, IsOwnLoop, NodeShows, StepEnds, OwnStepsAreIterations, PicksTyped}
+use Rattle.gm_lowering.proofs.Own.{Shows}
+use Rattle.gm_lowering.proofs.OwnGives.{own-holds}
 use Rattle.gm_lowering.proofs.Bodies.{Ends, Holds, past, skips, skip-faults, value-of, ends-by, body-ends}
+use Rattle.gm_value.specs.declared.values.VType.{VType}
+use Rattle.gm_typed_stores.specs.Tells.{TypeTable}
 
-module _ (site : Site) (loop : Loop) (m : Mode) (s : VertexContext) (run : List Line → ℕ → VertexState → After) (Shows Gave : Iteration → VertexState → Type 0) (found : Expr → Bool) (sets : ℕ → ℕ → Bool) (gives : Reduce → List Target → List Expr → Bool) {Placed : ℕ → Stmt → Type 0} (h : Holds site loop m s run Shows Gave found sets gives Placed) where
+module _ (site : Site) (loop : Loop) (m : Mode) (s : VertexContext) (run : List Line → ℕ → VertexState → After) (Shows Gave : Iteration → VertexState → Type 0) (found : Expr → Bool) (sets : ℕ → ℕ → Bool) (gives : Reduce → List Target → List Expr → Bool) {Placed : ℕ → Stmt → Iteration → Type 0} (h : Holds site loop m s run Shows Gave found sets gives Placed) where
   abbrev Ending : List Line → List Line → VertexState → Iteration → Option Fault → Type 0
   Ending = Ends site.env run Shows Gave
 
@@ -96,13 +99,13 @@ module _ (site : Site) (loop : Loop) (m : Mode) (s : VertexContext) (run : List 
   under-ends ls rest w t r go it o e q = head-ends ls rest w t r go it o e q
 
   -- the lines of a body under its filter
-  pub filtered-ends : (key : Key) (test : Expr) (body : Stmt) (kind : ℕ) → found test ≡ true → is_body site.layout found sets gives body ≡ true → Placed kind body → (it : Iteration) (w : VertexState) (rest : List Line) → Shows it w
+  pub filtered-ends : (key : Key) (test : Expr) (body : Stmt) (kind : ℕ) → found test ≡ true → is_body site.layout found sets gives body ≡ true → (it : Iteration) → Placed kind body it → (w : VertexState) (rest : List Line) → Shows it w
       → let out = with_ok it (value test (view_in loop m it key)) (λ z. one_way (is_true z) (does body m loop) as_it_is it) in
       Ending (under (term site.env key test) (lines_of site kind body)) rest w out out.fault
-  filtered-ends key test body kind o i here it w rest q =
+  filtered-ends key test body kind o i it here w rest q =
       under-ends (lines_of site kind body) rest w (term site.env key test) (value test (view_in loop m it key)) (does body m loop) it q
       (value-of site loop m s run Shows Gave found sets gives h it w key test o q)
-      (body-ends site loop m s run Shows Gave found sets gives h body kind i here it w rest q)
+      (body-ends site loop m s run Shows Gave found sets gives h body kind i it here w rest q)
 
 -- a vertex with no handlers and no messages begins with its body
 pub body-alone : (p : image.Program) (s : VertexContext) (body : List Line) (fields : List Value)
@@ -131,7 +134,7 @@ module _ (c : Layout) (seg : Segment) (p : image.Program) (fields : ℕ) (loop :
   turned : (x y : ℕ) → nat_eq x y ≡ false → nat_eq y x ≡ false
   turned x y e = ne_eqb y x (λ i. eqb-false x y e (sym i))
 
-  pub begins : Shows c seg loop n k (length p.registers) fields (length p.places) s is.apart is.iterator is.types is.depths start first
+  pub begins : Shows c seg loop k (length p.registers) fields (length p.places) s is.apart is.iterator is.types is.depths start first
   begins = (
     record {
       fine = refl;
@@ -162,21 +165,21 @@ module _ (c : Layout) (seg : Segment) (p : image.Program) (fields : ℕ) (loop :
   step-is : vertex_after p (own_block c seg n kind key test body) s [] values ≡ body_after (length p.places) s (block_lines ++ []) 0 first
   step-is = body-alone p s block_lines values ∙ ap (λ ls. body_after (length p.places) s ls 0 first) (sym (append-nil block_lines))
 
-  ends-as : (f : Option Fault) → Ends (own_env c seg n) (body_after (length p.places) s) (Shows c seg loop n k (length p.registers) fields (length p.places) s is.apart is.iterator is.types is.depths) (OwnGave c (own_env c seg n)) block_lines [] first out f
+  ends-as : (f : Option Fault) → Ends (own_env c seg n) (body_after (length p.places) s) (Shows c seg loop k (length p.registers) fields (length p.places) s is.apart is.iterator is.types is.depths) (OwnGave c (own_env c seg n)) block_lines [] first out f
       → StepEnds c (own_env c seg n) fields k out (vertex_after p (own_block c seg n kind key test body) s [] values) f
   ends-as None e =
       subst (λ a. StepEnds c (own_env c seg n) fields k out a None) (sym (step-is ∙ e.2)) (refl, e.1.0.properties, e.1.0.field_count, e.1.1)
   ends-as (Some f) e =
       subst (λ a. StepEnds c (own_env c seg n) fields k out a (Some f)) (sym (step-is ∙ e.2)) (refl, e.1)
 
-  pub own-step : StepEnds c (own_env c seg n) fields k out (vertex_after p (own_block c seg n kind key test body) s [] values) out.fault
-  own-step =
+  pub own-step : (table : TypeTable) (its : List ℕ) (result : Option VType) → HaveIndices seg (length p.places) (fold_spots c n body) → PicksTyped c table its result loop body start → StepEnds c (own_env c seg n) fields k out (vertex_after p (own_block c seg n kind key test body) s [] values) out.fault
+  own-step table its result room typed =
       let v = own_env c seg n in
-      let sh = Shows c seg loop n k (length p.registers) fields (length p.places) s is.apart is.iterator is.types is.depths in
+      let sh = Shows c seg loop k (length p.registers) fields (length p.places) s is.apart is.iterator is.types is.depths in
       ends-as out.fault (
-      filtered-ends (own_site c seg n) loop Outermost s (body_after (length p.places) s) sh (OwnGave c v) (own_finds c n) (own_sets c n) (puts_to_scalars c (own_finds c n))
-      (own-holds c seg loop n k (length p.registers) fields (length p.places) s is.apart is.iterator is.types is.depths)
-      key test body kind is.found is.fits tt start first [] begins)
+      filtered-ends (own_site c seg n) loop Outermost s (body_after (length p.places) s) sh (OwnGave c v) (own_finds c n) (own_sets c n) (own_gives c n (own_finds c n))
+      (own-holds c seg loop k (length p.registers) fields (length p.places) s is.apart is.iterator is.types is.depths table its result)
+      key test body kind is.found is.fits start (room, typed, is.spares) first [] begins)
 
 pub own-steps : OwnStepsAreIterations
-own-steps c seg p fields loop kind key test body globals values k r is shows = own-step c seg p fields loop kind key test body globals values k r is shows
+own-steps c seg p fields loop kind key test body globals values k r table its result is room typed shows = own-step c seg p fields loop kind key test body globals values k r is shows table its result room typed

@@ -1,6 +1,6 @@
 -- Ranks are in range and apart.
 use Rattle.std.proofs.Common.{◌≡◌, ◌<◌, ◌≤◌, ℕ, zero, suc, Bool, true, false, cond, List, [], ◌∷◌, ◌++◌, length, map, refl, ap, ◌∙◌, sym, subst, arith, ⊎_elim}
-use Rattle.std.specs.Prelude.{◌+◌, ◌-◌, ◌||◌, nat_lt, filter}
+use Rattle.std.specs.Prelude.{◌+◌, ◌-◌, ◌||◌, nat_lt, filter, ◌*◌}
 use Rattle.std.specs.List.{list_any}
 use Rattle.std.proofs.lemmas.Bool.{both_ways, cases_lt}
 use Rattle.gm_ast.specs.declared.tree.Declaration.{Declaration}
@@ -10,8 +10,11 @@ use Rattle.gm_forms.proofs.Named.{both-true}
 use Rattle.gm_forms.specs.Uses.{uses_of}
 use Rattle.gm_semantics.specs.Levels.{numbers_from}
 use Rattle.gm_semantics.specs.Statements.{variable_at}
-use Rattle.gm_lowering.specs.Layouts.{rank, optional, nesting, loop_types, spare_types, body_positions, phase_positions, is_global, is_register, names_property, has_field, all_those, tested, named_globals, kept_globals, counted_globals, local_types, field_types}
+use Rattle.gm_lowering.specs.Layouts.{rank, optional, nesting, loop_types, spare_types, body_positions, phase_positions, is_global, is_register, names_property, has_field, all_those, tested, named_globals, kept_globals, counted_globals, local_types, field_types, type_number}
 use Rattle.gm_lowering.specs.Shapes.{LayoutsAreApart}
+use Rattle.gm_value.specs.declared.values.VType.{VType}
+use Rattle.gm_value.specs.declared.values.VType.TheVariants as V
+use Rattle.gm_lowering.specs.TupleLines.{LayoutsHaveSpares}
 
 -- how many of some numbers pass a test
 abbrev count : (ℕ → Bool) → ℕ → ℕ → ℕ
@@ -84,3 +87,28 @@ layouts-are-apart p = (
     apart = λ x y l m e f same. rank-apart (tested p is_global) x y e f same;
   },
 )
+
+-- four spare registers stand at each position
+spare-length : (m : ℕ) → length (spare_types m) ≡ 4 * m
+spare-length zero = omega arith
+spare-length (suc m) = let e = spare-length m in omega (arith, e)
+
+few-types : (t : VType) → type_number t ≤ 3
+few-types V.I32 = omega arith
+few-types V.I64 = omega arith
+few-types V.Flag = omega arith
+few-types V.Node = omega arith
+
+pub layouts-have-spares : LayoutsHaveSpares
+layouts-have-spares p = record {
+  within = λ i t lt.
+      let few = few-types t in
+      let more = length-both (local_types p) (spare_types (body_positions p.declarations p.body)) in
+      let spare = spare-length (body_positions p.declarations p.body) in
+      omega (arith, few, more, spare, lt);
+  apart = λ i j t u l m e. let few = few-types t in let few2 = few-types u in omega (arith, few, few2, e);
+  others = λ i x t lt l e same.
+      let up = rank-up (tested p is_register) x (length p.declarations) e l in
+      let all : length (local_types p) ≡ rank (tested p is_register) (length p.declarations) = length-map (λ y. (variable_at p.declarations y).vtype) (all_those p (tested p is_register)) in
+      absurd (omega (arith, up, all, same));
+}

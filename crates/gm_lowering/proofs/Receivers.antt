@@ -1,7 +1,7 @@
 -- The handler of a message does what the inner loop does at its edge.
-use Rattle.std.proofs.Common.{◌≡◌, ◌<◌, ℕ, suc, Bool, true, false, cond, Option, Some, None, Result, Ok, Err, List, [], ◌∷◌, ◌++◌, length, map, refl, ap, ◌∙◌, sym, subst}
+use Rattle.std.proofs.Common.{◌≡◌, ◌<◌, ℕ, suc, Bool, true, false, cond, Option, Some, None, Result, Ok, Err, List, [], ◌∷◌, ◌++◌, length, map, refl, ap, ◌∙◌, sym, subst, arith}
 use Rattle.std.specs.Prelude.{if◌then◌else◌, ◌&&◌, ◌||◌, not, nat_eq, nat_lt, slice_set, pos, filter}
-use Rattle.std.specs.List.{list_all, list_any}
+use Rattle.std.specs.List.{list_all}
 use Rattle.std.proofs.lemmas.List.{length-set, append-nil}
 use Rattle.std.proofs.lemmas.Bool.{both_ways, eqb-true, eqb-false, ne_eqb, eq-eqb, ltb-true}
 use Rattle.gm_base.specs.declared.places.Place.{Place}
@@ -15,6 +15,7 @@ use Rattle.gm_ast.specs.declared.tree.Direction.{Direction}
 use Rattle.gm_ast.specs.declared.tree.Direction.TheVariants.{Out, In}
 use Rattle.gm_ast.specs.declared.tree.Key.{Key}
 use Rattle.gm_ast.specs.declared.tree.Stage.TheVariants.{Operator}
+use Rattle.gm_ast.specs.declared.tree.Sort.TheVariants as Sorts
 use Rattle.gm_ast.specs.declared.tree.Target.{Target}
 use Rattle.gm_ast.specs.declared.tree.Target.TheVariants as T
 use Rattle.gm_ast.specs.declared.tree.TotalKey.{TotalKey}
@@ -23,63 +24,47 @@ use Rattle.gm_ast.specs.Program.{Expr, Stmt}
 use Rattle.gm_ast.specs.Ways.{is_in}
 use Rattle.gm_forms.proofs.Named.{both-true}
 use Rattle.gm_semantics.specs.declared.faults.Fault.{Fault}
-use Rattle.gm_semantics.specs.declared.slots.Slot.{Slot}
-use Rattle.gm_semantics.specs.declared.slots.Slot.TheVariants.{Scalar, Node}
+use Rattle.gm_semantics.specs.declared.slots.Slot.TheVariants.{Scalar}
 use Rattle.gm_semantics.specs.Contributions.{Contribution}
-use Rattle.gm_semantics.specs.Expressions.{View, evaluated_all, at_node, degree_of, node_held}
+use Rattle.gm_semantics.specs.Expressions.{evaluated_all, at_node, degree_of, node_held, Answer, evaluated}
 use Rattle.gm_semantics.specs.Faults.{then_with}
-use Rattle.gm_semantics.specs.Iterations.{Loop, Mode, AtEdge, WithOutermost, Iteration, AtOnce, begun, own_ends, ends_of_all, later, view_in, failed, with_ok, slots_of, contribution, gave_outermost, reduced, wrote, turn_at, does}
+use Rattle.gm_semantics.specs.Iterations.{Loop, Mode, AtEdge, WithOutermost, Iteration, AtOnce, begun, own_ends, ends_of_all, later, view_in, failed, with_ok, contribution, gave_outermost, reduced, wrote, turn_at, does}
 use Rattle.gm_semantics.specs.Levels.{node_in}
 use Rattle.gm_semantics.specs.Statements.{variable_at}
 use Rattle.gm_semantics.specs.Stores.{Store, write}
 use Rattle.gm_image.specs.Parts as parts
 use Rattle.gm_image.specs.Program as image
-use Rattle.gm_image.specs.Program.{Line, Fold}
+use Rattle.gm_image.specs.Program.{Line, Fold, SetRegister}
 use Rattle.gm_image.specs.Term as M
 use Rattle.gm_image.specs.Term.{Term}
 use Rattle.gm_machine.specs.Expressions.{value as term_value, values, value_at}
 use Rattle.gm_machine.specs.Faults.{then_go}
 use Rattle.gm_machine.specs.Taking.{Contribution as Given, contributed}
 use Rattle.gm_machine.specs.Vertex.{VertexContext, VertexState, After, view, gives, line_ends, leaves, goes_on, lines_after, begun as begin}
-use Rattle.gm_lowering.specs.Layouts.{Layout, is_global, is_register, has_value}
+use Rattle.gm_lowering.specs.Layouts.{Layout, is_global, is_register, has_value, body_positions}
 use Rattle.gm_lowering.specs.Places.{Segment}
 use Rattle.gm_lowering.specs.Terms.{Env, term, phase_scalar, vertex_scalar, own_degree, own_env}
-use Rattle.gm_lowering.specs.Plans.{Load, SenderItself, SenderProperty, SenderDegree, EdgeValue, load_if, loads_in, Folds, Sends, Picks, is_property_of, is_property_off, way_of}
-use Rattle.gm_lowering.specs.Bodies.{slot_number, image_targets, reduce_lines}
+use Rattle.gm_lowering.specs.Plans.{Load, SenderItself, SenderProperty, SenderDegree, EdgeValue, load_if, loads_in, way_of}
+use Rattle.gm_lowering.specs.Bodies.{image_targets, reduce_lines, better, compared}
 use Rattle.gm_lowering.specs.Blocks.{message_value, receiver_env, receiver_site}
 use Rattle.gm_lowering.specs.Showing.{answer_of, Tells}
 use Rattle.gm_lowering.specs.Sites.{are_of_scalars, finds, finds_scalar, finds_node, same_length, is_local, slot_at, given, phase_value, IsInGraph, HoldLocals, HoldProperties, IsApart}
-use Rattle.gm_lowering.specs.OwnLoops.{is_declared, puts_to_scalars}
-use Rattle.gm_lowering.specs.MessageLoops.{has_load, receiver_finds, sets_nothing, is_kept_property, folds_to, receiver_gives, handler_lines, IsMessageLoop, load_value, Carries, is_to_scalars, is_to_nodes, ReceiverGave, MessageShows, RunEnds, HandlersAreTurns}
-use Rattle.gm_lowering.proofs.Bodies.{Ends as Ending, Holds, Anywhere}
-use Rattle.gm_lowering.proofs.Givens.{AllTell, are_scalars, values-all, none-hoisted, terms-of, slots-of, assigned-is, put-ends}
-use Rattle.gm_lowering.proofs.Own.{after-set, node-in, live-same, phase-term, global-has_value, global-no_register}
+use Rattle.gm_lowering.specs.OwnLoops.{is_declared, puts_to_scalars, folds_to, HasSpares}
+use Rattle.gm_lowering.specs.MessageLoops.{has_load, receiver_finds, sets_nothing, receiver_gives, handler_lines, IsMessageLoop, load_value, Carries, is_to_scalars, is_to_nodes, ReceiverGave, MessageShows, RunEnds, HandlersAreTurns, is_inner_local, picks_inside, message_gives, is_inner_target, tuples_inside}
+use Rattle.gm_lowering.proofs.Bodies.{Ends as Ending, Holds}
+use Rattle.gm_lowering.proofs.Givens.{AllTell, are_scalars, values-all, none-hoisted, terms-of, slots-of, assigned-is, put-ends, node_slots, are_kept, node-numbers, node-slots, folds-way, node-in}
+use Rattle.gm_lowering.proofs.Own.{after-set, live-same, phase-term, global-has_value, global-no_register}
 use Rattle.gm_lowering.proofs.OwnSteps.{filtered-ends}
 use Rattle.gm_lowering.proofs.PutFacts.{puts-way}
-
--- slots at a node
-abbrev pub node_slots : ℕ → List Target → List Slot
-node_slots j [] = []
-node_slots j (T.Scalar x at ∷ ts) = node_slots j ts
-node_slots j (T.Property x p at ∷ ts) = Node p j ∷ node_slots j ts
-
-abbrev pub are_kept : Layout → ℕ → List Target → Bool
-are_kept c i ts = list_all (is_kept_property c i) ts
-
-pub node-numbers : (c : Layout) (i j : ℕ) (ts : List Target) → are_kept c i ts ≡ true → map (slot_at c) (node_slots j ts) ≡ map (slot_number c) ts
-node-numbers c i j [] h = refl
-node-numbers c i j (T.Scalar x at ∷ ts) h = absurd (both_ways false refl h)
-node-numbers c i j (T.Property x p at ∷ ts) h = let q = both-true (nat_eq x i && c.is_kept p) (are_kept c i ts) h in ap (λ l. c.field p ∷ l) (node-numbers c i j ts q.1)
-
-pub node-slots : (c : Layout) (i j : ℕ) (w : View) (ts : List Target) → are_kept c i ts ≡ true → node_in w.graph (w.store.scalar i) ≡ Some j → slots_of w ts ≡ Ok (node_slots j ts)
-node-slots c i j w [] h e = refl
-node-slots c i j w (T.Scalar x at ∷ ts) h e = absurd (both_ways false refl h)
-node-slots c i j w (T.Property x p at ∷ ts) h e =
-    let q = both-true (nat_eq x i && c.is_kept p) (are_kept c i ts) h in
-    let r = both-true (nat_eq x i) (c.is_kept p) q.0 in
-    ap (λ z. then_with (then_with (node_held w at (node_in w.graph (w.store.scalar z))) (λ n. Ok (Node p n))) (λ s. then_with (slots_of w ts) (λ ss. Ok (s ∷ ss)))) (eqb-true x i r.0)
-    ∙ ap (λ o. then_with (then_with (node_held w at o) (λ n. Ok (Node p n))) (λ s. then_with (slots_of w ts) (λ ss. Ok (s ∷ ss)))) e
-    ∙ ap (λ a. then_with a (λ ss. Ok (Node p j ∷ ss))) (node-slots c i j w ts q.1 e)
+use Rattle.gm_lowering.proofs.Picks.{Typed, parts-typed, kept_value, pick-term, pick-at, picks-way}
+use Rattle.gm_lowering.proofs.InnerPicks.{inner-now, is-inside, inside-way}
+use Rattle.gm_lowering.proofs.Terms.{rest-term, hoisted-parallel}
+use Rattle.gm_typed_stores.specs.Tells.{TypeTable}
+use Rattle.gm_forms.specs.Typing.{keeps_tuples}
+use Rattle.gm_ast.specs.Names.{is}
+use Rattle.gm_lowering.proofs.OwnTuples.{inner-tuple-now}
+use Rattle.gm_lowering.proofs.TupleLines.{Tupled, tuple-goes}
+use Rattle.gm_lowering.proofs.TupleFacts.{tuple-spares, own-distinct, types_of_all, held-typed, new-typed, spares-first, spares-second}
 
 -- reductions to properties of another node than the outer iterator's end with the outermost loop
 pub nodes-end : (c : Layout) (loop : Loop) (m : Mode) (i : ℕ) (t : Target) (ts : List Target) → nat_eq i loop.outer ≡ false → are_kept c i (t ∷ ts) ≡ true → ends_of_all m loop (t ∷ ts) ≡ WithOutermost
@@ -92,18 +77,6 @@ nodes-end c loop m i (T.Property x p at) (u ∷ ts) e h =
     let r = both-true (nat_eq x i) (c.is_kept p) q.0 in
     ap (λ b. later (if b then own_ends m (loop.pushed p) else WithOutermost) (ends_of_all m loop (u ∷ ts))) (ap (λ z. nat_eq z loop.outer) (eqb-true x i r.0) ∙ e)
     ∙ ap (later WithOutermost) (nodes-end c loop m i u ts e q.1)
-
--- such reductions fold
-pub folds-way : (c : Layout) (i : ℕ) (t : Target) (ts : List Target) → are_kept c i (t ∷ ts) ≡ true → way_of c.declarations i (t ∷ ts) ≡ Folds
-folds-way c i (T.Scalar x at) ts h = absurd (both_ways false refl h)
-folds-way c i (T.Property x p at) ts h =
-    ap (λ b. if b then Folds else (if list_any (is_property_off i) (T.Property x p at ∷ ts) then Sends else Picks)) (all-of (T.Property x p at ∷ ts) h) where
-      all-of : (us : List Target) → are_kept c i us ≡ true → list_all (is_property_of i) us ≡ true
-      all-of [] e = refl
-      all-of (T.Scalar y a ∷ us) e = absurd (both_ways false refl e)
-      all-of (T.Property y q a ∷ us) e =
-          let z = both-true (nat_eq y i && c.is_kept q) (are_kept c i us) e in
-          ap (λ b. b && list_all (is_property_of i) us) (both-true (nat_eq y i) (c.is_kept q) z.0).0 ∙ all-of us z.1
 
 -- a fold line gives its values
 module _ (c : Layout) (v : Env) (loop : Loop) (m : Mode) (s : VertexContext) (run : List Line → ℕ → VertexState → After) (Shows Gave : Iteration → VertexState → Type 0) (i j : ℕ)
@@ -524,29 +497,165 @@ module _ (c : Layout) (seg : Segment) (loop : Loop) (i k j edge registers fields
     by true e = put-case kind key total r ts es it w rest e q
     by false e = fold-case kind key total r ts es it w rest (or-false (puts_to_scalars c found r ts es) (folds_to c i found r ts es) e o) q
 
-  -- a receiver's site holds
-  pub receiver-holds : Holds (receiver_site c seg n i loads) loop m s run Shows (ReceiverGave c v) found sets_nothing (receiver_gives c i found) Anywhere
-  receiver-holds = record {
-    type_is = type_is;
-    skipped = λ l ls a w. refl;
-    register_runs = λ x t ls w. refl;
-    skip_runs = λ a t ls w. refl;
-    fine = λ it w q. q.0.fine;
-    gave = λ it w q. q.1;
-    gave_failed = gave-failed;
-    tells = tells;
-    local = local;
-    property = λ key x p at e it w rest o f q. absurd (both_ways false refl o);
-    placed_first = λ kind a b h. tt;
-    placed_second = λ kind a b h. tt;
-    placed_yes = λ kind k e a b h. tt;
-    placed_no = λ kind k e a b h. tt;
-    reduce = λ kind key total r ts es it w rest o h q. reduce kind key total r ts es it w rest o q;
-  }
+  or-cases' : {A : Type 0} (a : Bool) {b : Bool} → a || b ≡ true → (a ≡ true → A) → (b ≡ true → A) → A
+  or-cases' true h f g = f refl
+  or-cases' false h f g = g h
+
+  -- a line that sets a local
+  set-register : (it : Iteration) (w : VertexState) (rest : List Line) (x : ℕ) (t : Term) (a : Answer) → is_local c x ≡ true → Shows it w → term_value (view s w) t ≡ answer_of v a
+      → let out = with_ok it a (λ y. wrote it (Scalar x, y)) in Ended (SetRegister (c.register x) t ∷ []) rest w out out.fault
+  set-register it w rest x t (Ok a) o q e =
+      subst (Ended (SetRegister (c.register x) t ∷ []) rest w (wrote it (Scalar x, a))) (sym q.0.fine) (
+        record w { registers = slice_set w.registers (c.register x) a },
+        local it w x a o q,
+        ap (λ u. goes_on (line_ends w u (λ y. leaves (record w { registers = slice_set w.registers (c.register x) y }))) (λ k' z. lines_after s rest k' z)) e,
+      )
+  set-register it w rest x t (Err f) o q e = (
+    w,
+    gave-failed it w f q.1,
+    ap (λ u. goes_on (line_ends w u (λ y. leaves (record w { registers = slice_set w.registers (c.register x) y }))) (λ k' z. lines_after s rest k' z)) e,
+  )
+
+  module _ (table : TypeTable) (around : List ℕ) (result : Option VType) where
+    abbrev pub Ready : ℕ → S.Stmt → Iteration → Type 0
+    Ready kind st it = Typed c table around result loop st it × HasSpares c registers (body_positions c.declarations st)
+
+    pick-case : (kind : ℕ) (key : Key) (total : TotalKey) (r : Reduce) (ts : List Target) (es : List Expr) (it : Iteration) (w : VertexState) (rest : List Line)
+        → picks_inside c found r ts es ≡ true → Typed c table around result loop (S.Combine key total r ts es) it → Shows it w
+        → let out = does (S.Combine key total r ts es) m loop it in
+        Ended (reduce_lines (receiver_site c seg n i loads) kind (way_of c.declarations i ts) key total r ts (map (term v key) es)) rest w out out.fault
+    pick-case kind key total r [] es it w rest o typed q = absurd (both_ways false refl o)
+    pick-case kind key total r (T.Property x p at ∷ ts) es it w rest o typed q = absurd (both_ways false refl o)
+    pick-case kind key total r (T.Scalar x at ∷ (t ∷ ts)) es it w rest o typed q = absurd (both_ways false refl o)
+    pick-case kind key total r (T.Scalar x at ∷ []) [] it w rest o typed q = absurd (both_ways false refl o)
+    pick-case kind key total r (T.Scalar x at ∷ []) (e ∷ (d ∷ es)) it w rest o typed q = absurd (both_ways false refl o)
+    pick-case kind key total r (T.Scalar x at ∷ []) (e ∷ []) it w rest o typed q =
+        let a = both-true (keeps_tuples r) (is_inner_local c x && found e) o in
+        let b = both-true (is_inner_local c x) (found e) a.1 in
+        let local' = (both-true (is_local c x) (nat_lt 1 (variable_at c.declarations x).depth) b.0).0 in
+        let d = both-true (nat_lt x (length c.declarations)) (is_register (variable_at c.declarations x)) local' in
+        let u = view_in loop m it key in
+        let told = tells it w key e b.1 q in
+        let held = v.scalar x in
+        let value = term v key e in
+        let unlike = unlike_local x n d.1 unlike_outer in
+        let holds : term_value (view s w) held ≡ Ok (it.store.scalar x) =
+        scalar-by it w x q (λ j. absurd (both_ways (nat_eq x n) unlike j))
+        (λ f g. (ltb-true x (length c.declarations) d.0, ap (λ z. z || is Sorts.Iterator (variable_at c.declarations x)) (both-true (is Sorts.Scalar (variable_at c.declarations x)) (not (nat_eq (variable_at c.declarations x).depth 0)) d.1).0)) in
+        let out = does (S.Combine key total r (T.Scalar x at ∷ []) (e ∷ [])) m loop it in
+        subst (λ way. Ended (reduce_lines (receiver_site c seg n i loads) kind way key total r (T.Scalar x at ∷ []) (value ∷ [])) rest w out out.fault) (sym (picks-way c i x at local'))
+        (subst (λ z. Ended (SetRegister (c.register x) (M.Choose (compared (better r) value held) value held) ∷ []) rest w z z.fault)
+        (sym (pick-at c table around result loop m key total r x at e it (inner-now c loop depth_is edge x b.0) a.0 local' typed (hoisted-parallel v u (view s w) e refl told)))
+        (set-register it w rest x (M.Choose (compared (better r) value held) value held) (kept_value r (it.store.scalar x) (evaluated e u).rest) local' q
+        (pick-term r v (view s w) value held (it.store.scalar x) (evaluated e u).rest a.0 (rest-term v u (view s w) e told) holds)))
+
+    receiver-spared : (positions : ℕ) → HasSpares c registers positions → (it : Iteration) (w : VertexState) (a' : ℕ) (t : VType) (a : Value) → a' < positions → Shows it w → Shows it (record w { registers = slice_set w.registers (c.spare_register a' t) a })
+    receiver-spared positions spares it w b t a lt q = (
+      record {
+        fine = q.0.fine;
+        node = q.0.node;
+        graph = q.0.graph;
+        from_inside = q.0.from_inside;
+        inside = q.0.inside;
+        at_sender = q.0.at_sender;
+        at_node = q.0.at_node;
+        phase = q.0.phase;
+        in_graph = q.0.in_graph;
+        locals = λ x l e.
+            after-set w.registers (c.spare_register b t) a (c.register x) (subst (λ z. c.spare_register b t < z) (sym q.0.register_count) (spares.within b t lt))
+            ∙ ap (λ z. if z then a else value_at w.registers (c.register x)) (ne_eqb (c.spare_register b t) (c.register x) (λ e'. spares.others b x t lt l e (sym e')))
+            ∙ q.0.locals x l e;
+        properties = q.0.properties;
+        carries = q.0.carries;
+        register_count = length-set w.registers (c.spare_register b t) a ∙ q.0.register_count;
+        field_count = q.0.field_count;
+      },
+      record { puts = q.1.puts; folds = q.1.folds; messages = q.1.messages; inner = q.1.inner; deferred = q.1.deferred },
+    )
+
+    local-held : (it : Iteration) (w : VertexState) (x : ℕ) → is_local c x ≡ true → Shows it w → term_value (view s w) (v.scalar x) ≡ Ok (it.store.scalar x)
+    local-held it w x local' q =
+        let d = both-true (nat_lt x (length c.declarations)) (is_register (variable_at c.declarations x)) local' in
+        scalar-by it w x q (λ j'. absurd (both_ways (nat_eq x n) (unlike_local x n d.1 unlike_outer) j'))
+        (λ f g. (ltb-true x (length c.declarations) d.0, ap (λ z. z || is Sorts.Iterator (variable_at c.declarations x)) (both-true (is Sorts.Scalar (variable_at c.declarations x)) (not (nat_eq (variable_at c.declarations x).depth 0)) d.1).0))
+
+    receiver-tupled : (positions : ℕ) → HasSpares c registers positions → Tupled (receiver_site c seg n i loads) loop m k registers positions s run Shows (ReceiverGave c v) found (is_inner_target c)
+    receiver-tupled positions spares =
+        let local-of = λ (x : ℕ) (o : is_inner_local c x ≡ true). (both-true (is_local c x) (nat_lt 1 (variable_at c.declarations x).depth) o).0 in
+        record {
+          register_runs = λ x t ls w. refl;
+          field_runs = λ x t ls w. refl;
+          fine = λ it w q. q.0.fine;
+          gave_failed = λ it w f q. gave-failed it w f q.1;
+          tells = tells;
+          local_is = λ it w x at o q. local-held it w x (local-of x o) q;
+          property_is = λ it w x p at o q. absurd (both_ways false refl o);
+          count = λ it w q. q.0.register_count;
+          spared = receiver-spared positions spares;
+          is_local_of = λ x at o. local-of x o;
+          within = λ x at o. let d = both-true (nat_lt x (length c.declarations)) (is_register (variable_at c.declarations x)) (local-of x o) in apart.register_within x (ltb-true x (length c.declarations) d.0) d.1;
+          local = λ it w x at a o q. local it w x a (local-of x o) q;
+          field = λ it w x p at a o q. absurd (both_ways false refl o);
+          now = λ it w key total r t u ts es o f q.
+              inner-tuple-now c loop k depth_is edge it key total r t u ts es o (none-hoisted v (view_in loop m it key) (view s w) es refl (all-tell it w key es f q)) (ap (node_in loop.graph) q.0.at_sender ∙ node-in loop.graph k q.0.from_inside);
+        }
+
+    tuple-case : (kind : ℕ) (key : Key) (total : TotalKey) (r : Reduce) (ts : List Target) (es : List Expr) (it : Iteration) (w : VertexState) (rest : List Line)
+        → tuples_inside c found r ts es ≡ true → Ready kind (S.Combine key total r ts es) it → Shows it w
+        → let out = does (S.Combine key total r ts es) m loop it in
+        Ended (reduce_lines (receiver_site c seg n i loads) kind (way_of c.declarations i ts) key total r ts (map (term v key) es)) rest w out out.fault
+    tuple-case kind key total r [] es it w rest o ready q = absurd (both_ways false refl o)
+    tuple-case kind key total r (t ∷ []) es it w rest o ready q = absurd (both_ways false refl o)
+    tuple-case kind key total r (t ∷ (u ∷ ts)) es it w rest o ready q =
+        let all = t ∷ (u ∷ ts) in
+        let positions = suc (suc (suc (length ts))) in
+        let x = is-inside c loop depth_is found r t u ts es o in
+        let spares = tuple-spares c registers key total r t u ts es x.some ready.1 in
+        let out = does (S.Combine key total r all es) m loop it in
+        let less : length all < positions = omega arith in
+        subst (λ way. Ended (reduce_lines (receiver_site c seg n i loads) kind way key total r all (map (term v key) es)) rest w out out.fault) (sym (inside-way c loop depth_is i found r all es o))
+        (tuple-goes (receiver_site c seg n i loads) loop m k registers positions s run Shows (ReceiverGave c v) found (is_inner_target c) (receiver-tupled positions spares) spares
+        key total r t u ts es (types_of_all c table around result loop m key total r t u ts es it k x.some ready.0) it w rest x.keeps x.inner (own-distinct k all x.distinct) x.long x.found_all less q
+        (held-typed c table around result loop m key total r t u ts es it k x.some ready.0) (new-typed c table around result loop m key total r t u ts es it k x.some ready.0))
+
+    message-case : (kind : ℕ) (key : Key) (total : TotalKey) (r : Reduce) (ts : List Target) (es : List Expr) (it : Iteration) (w : VertexState) (rest : List Line)
+        → message_gives c i found r ts es ≡ true → Ready kind (S.Combine key total r ts es) it → Shows it w
+        → let out = does (S.Combine key total r ts es) m loop it in
+        Ended (reduce_lines (receiver_site c seg n i loads) kind (way_of c.declarations i ts) key total r ts (map (term v key) es)) rest w out out.fault
+    message-case kind key total r ts es it w rest o typed q = by (receiver_gives c i found r ts es) refl where
+      by : (b : Bool) → receiver_gives c i found r ts es ≡ b
+          → let out = does (S.Combine key total r ts es) m loop it in
+          Ended (reduce_lines (receiver_site c seg n i loads) kind (way_of c.declarations i ts) key total r ts (map (term v key) es)) rest w out out.fault
+      by true e = reduce kind key total r ts es it w rest e q
+      by false e =
+          or-cases' (picks_inside c found r ts es) (or-false (receiver_gives c i found r ts es) (picks_inside c found r ts es || tuples_inside c found r ts es) e o)
+          (λ h. pick-case kind key total r ts es it w rest h typed.0 q) (λ h. tuple-case kind key total r ts es it w rest h typed q)
+
+    -- a receiver's site holds
+    pub receiver-holds : Holds (receiver_site c seg n i loads) loop m s run Shows (ReceiverGave c v) found sets_nothing (message_gives c i found) Ready
+    receiver-holds =
+        let types = parts-typed c table around result loop m in
+        record {
+          type_is = type_is;
+          skipped = λ l ls a w. refl;
+          register_runs = λ x t ls w. refl;
+          skip_runs = λ a t ls w. refl;
+          fine = λ it w q. q.0.fine;
+          gave = λ it w q. q.1;
+          gave_failed = gave-failed;
+          tells = tells;
+          local = local;
+          property = λ key x p at e it w rest o f q. absurd (both_ways false refl o);
+          placed_first = λ kind a b it h. (types.first a b it h.0, spares-first c registers (body_positions c.declarations a) (body_positions c.declarations b) h.1);
+          placed_second = λ kind a b it h. (types.second a b it h.0, spares-second c registers (body_positions c.declarations a) (body_positions c.declarations b) h.1);
+          placed_yes = λ kind k e a b it h. (types.yes k e a b it h.0, spares-first c registers (body_positions c.declarations a) (body_positions c.declarations b) h.1);
+          placed_no = λ kind k e a b it h. (types.no k e a b it h.0, spares-second c registers (body_positions c.declarations a) (body_positions c.declarations b) h.1);
+          reduce = λ kind key total r ts es it w rest o h q. message-case kind key total r ts es it w rest o h q;
+        }
 
 -- a handler's run
 module _ (c : Layout) (seg : Segment) (registers : List VType) (fields : ℕ) (loop : Loop) (i : ℕ) (loads : List Load) (kind : ℕ) (key : Key) (test : Expr) (body : Stmt)
-    (s : VertexContext) (fs : List Value) (k edge : ℕ) (r : Store)
+    (s : VertexContext) (fs : List Value) (k edge : ℕ) (r : Store) (table : TypeTable) (around : List ℕ) (result : Option VType)
     (able : IsMessageLoop c registers fields loop i loads test body) (graph : s.graph ≡ loop.graph)
     (shows : MessageShows c loop.graph registers fields s.globals fs s.message loop.outer loads (view_in loop (AtEdge edge) (begun r) key) k s.node r) where
   abbrev start : Iteration
@@ -609,13 +718,13 @@ module _ (c : Layout) (seg : Segment) (registers : List VType) (fields : ℕ) (l
   ends-as (Some f) e =
       subst (λ a. RunEnds c w_env out a (Some f)) (sym (ap (λ ls. lines_after s ls 0 first) (sym (append-nil lines)) ∙ e.2)) (refl, e.1)
 
-  pub handler-run : RunEnds c w_env out (lines_after s lines 0 first) out.fault
-  handler-run =
+  pub handler-run : Typed c table around result loop body start → RunEnds c w_env out (lines_after s lines 0 first) out.fault
+  handler-run typed =
       let sh = Shows c seg loop i k s.node edge (length registers) fields loads s able.apart able.outer able.inner able.two able.types able.depths in
       ends-as out.fault (
-      filtered-ends (receiver_site c seg loop.outer i loads) loop (AtEdge edge) s (lines_after s) sh (ReceiverGave c w_env) (receiver_finds c loop.outer i loads) sets_nothing (receiver_gives c i (receiver_finds c loop.outer i loads))
-      (receiver-holds c seg loop i k s.node edge (length registers) fields loads s able.apart able.outer able.inner able.two able.types able.depths)
-      key test body kind able.found able.fits tt start first [] begins)
+      filtered-ends (receiver_site c seg loop.outer i loads) loop (AtEdge edge) s (lines_after s) sh (ReceiverGave c w_env) (receiver_finds c loop.outer i loads) sets_nothing (message_gives c i (receiver_finds c loop.outer i loads))
+      (receiver-holds c seg loop i k s.node edge (length registers) fields loads s able.apart able.outer able.inner able.two able.types able.depths table around result)
+      key test body kind able.found able.fits start (typed, able.spares) first [] begins)
 
 pub handlers-are-turns : HandlersAreTurns
-handlers-are-turns c seg registers fields loop i loads kind key test body s fs k edge r able graph shows = handler-run c seg registers fields loop i loads kind key test body s fs k edge r able graph shows
+handlers-are-turns c seg registers fields loop i loads kind key test body s fs k edge r table around result able typed graph shows = handler-run c seg registers fields loop i loads kind key test body s fs k edge r table around result able graph shows typed

@@ -1,6 +1,6 @@
 -- The step of a vertex with the receivers' block takes what the turns that reach its node give.
-use Rattle.std.proofs.Common.{◌≡◌, ◌<◌, ◌≤◌, ◌⊎◌, inl, inr, ℕ, suc, Bool, true, false, cond, Option, Some, None, Result, Ok, Err, List, [], ◌∷◌, ◌++◌, length, map, refl, ap, ◌∙◌, sym, subst, ⊎_elim}
-use Rattle.std.specs.Prelude.{◌+◌, ◌&&◌, ◌||◌, nat_eq, not, if◌then◌else◌, filter}
+use Rattle.std.proofs.Common.{◌≡◌, ◌<◌, ◌⊎◌, inl, inr, ℕ, suc, Bool, true, false, cond, Option, Some, None, Result, Ok, Err, List, [], ◌∷◌, ◌++◌, length, map, refl, ap, ◌∙◌, sym, subst, ⊎_elim}
+use Rattle.std.specs.Prelude.{◌&&◌, ◌||◌, nat_eq, not, if◌then◌else◌, filter}
 use Rattle.std.specs.List.{list_all, flat_map}
 use Rattle.std.proofs.lemmas.Bool.{both_ways, ne_eqb, eq-eqb, eqb-true, eqb-false}
 use Rattle.gm_value.specs.declared.values.Value.{Value}
@@ -44,21 +44,24 @@ use Rattle.gm_lowering.specs.Bodies.{spots_of, reduce_spots}
 use Rattle.gm_lowering.specs.Blocks.{receiver_env}
 use Rattle.gm_lowering.specs.Showing.{fault_of}
 use Rattle.gm_lowering.specs.Sites.{slot_at, given, finds, same_length, IsInGraph, is_body}
-use Rattle.gm_lowering.specs.OwnLoops.{NodeShows, puts_to_scalars, is_declared, are_any}
-use Rattle.gm_lowering.specs.MessageLoops.{has_load, receiver_finds, sets_nothing, receiver_gives, folds_to, handler_lines, IsMessageLoop, MessageShows, is_to_scalars, is_to_nodes, ReceiverGave, RunEnds}
+use Rattle.gm_lowering.specs.OwnLoops.{NodeShows, puts_to_scalars, is_declared, are_any, folds_to}
+use Rattle.gm_lowering.specs.MessageLoops.{has_load, receiver_finds, sets_nothing, receiver_gives, handler_lines, IsMessageLoop, MessageShows, is_to_scalars, is_to_nodes, ReceiverGave, RunEnds, picks_inside, message_gives, TurnsTyped, tuples_inside}
 use Rattle.gm_lowering.specs.Phases.{GivesApart}
 use Rattle.gm_lowering.specs.Receiving.{receive_block, turn_of, given_by, faults_by, IsMessageOf, Receives, inner_spots, ReceivingStepsAreTurns}
 use Rattle.gm_lowering.specs.Settles.{HasSpot, fault_or_none, AreHeld, AreGiven, SettlesAlike, spot_of_fault, HaveRoom}
-use Rattle.gm_lowering.proofs.FoldFacts.{here_at, IsReceived, put-received, body-weaker, fold-left, fold-gives}
-use Rattle.gm_lowering.proofs.Givens.{are_scalars}
+use Rattle.gm_lowering.proofs.FoldFacts.{IsReceived, put-received, body-weaker, fold-left, fold-gives}
+use Rattle.gm_lowering.proofs.Givens.{are_scalars, are_kept, here_at, node-in}
 use Rattle.gm_lowering.proofs.Kept.{Gives, body-gives}
 use Rattle.gm_lowering.proofs.Orders.{lesser-lower}
-use Rattle.gm_lowering.proofs.Own.{node-in}
 use Rattle.gm_lowering.proofs.Supersteps.{least-parts, least-two}
 use Rattle.gm_lowering.proofs.PutFacts.{put-left, put-gives-at}
-use Rattle.gm_lowering.proofs.Receivers.{are_kept, handlers-are-turns}
+use Rattle.gm_lowering.proofs.Receivers.{handlers-are-turns}
 use Rattle.gm_lowering.proofs.Settles.{total-spot, reductions-settle}
 use Rattle.gm_lowering.proofs.Spots.{Has, HoldNodes, Left, Within, spot-left, spot-right, has-right, reads, value-within, body-left}
+use Rattle.gm_lowering.proofs.Picks.{Typed, parts-typed}
+use Rattle.gm_lowering.proofs.InnerPicks.{picks-weaker, pick-left, pick-gives, tuples-weaker, keep-left, keep-gives}
+use Rattle.gm_typed_stores.specs.Tells.{TypeTable}
+use Rattle.gm_value.specs.declared.values.VType.{VType}
 
 -- more of what is found
 all-weaker : (found other : Expr → Bool) (es : List Expr) → ((e : Expr) → found e ≡ true → other e ≡ true) → list_all found es ≡ true → list_all other es ≡ true
@@ -96,6 +99,18 @@ gives-weaker c i found other r ts es f h =
       or-right true k = refl
       or-right false k = k
 
+message-weaker : (c : Layout) (i : ℕ) (found other : Expr → Bool) (r : Reduce) (ts : List Target) (es : List Expr) → ((e : Expr) → found e ≡ true → other e ≡ true) → message_gives c i found r ts es ≡ true → message_gives c i other r ts es ≡ true
+message-weaker c i found other r ts es f h =
+    or-cases (receiver_gives c i found r ts es) (picks_inside c found r ts es || tuples_inside c found r ts es) h
+    (λ k. ap (λ b. b || (picks_inside c other r ts es || tuples_inside c other r ts es)) (gives-weaker c i found other r ts es f k))
+    (λ k. or-right (receiver_gives c i other r ts es)
+    (or-cases (picks_inside c found r ts es) (tuples_inside c found r ts es) k
+    (λ z. ap (λ b. b || tuples_inside c other r ts es) (picks-weaker c found other r ts es f z))
+    (λ z. or-right (picks_inside c other r ts es) (tuples-weaker c found other r ts es (λ es' y. all-weaker found other es' f y) z)))) where
+      or-right : {y : Bool} (b : Bool) → y ≡ true → b || y ≡ true
+      or-right true k = refl
+      or-right false k = k
+
 map-both : {A B : Type 0} (f : A → B) (xs ys : List A) → map f (xs ++ ys) ≡ map f xs ++ map f ys
 map-both f [] ys = refl
 map-both f (x ∷ xs) ys = ap (λ l. f x ∷ l) (map-both f xs ys)
@@ -109,7 +124,9 @@ filter-both p (x ∷ xs) ys = by (p x) (filter-both p xs ys) where
 
 module _ (c : Layout) (p : image.Program) (fields base : ℕ) (all : List Spot) (loop : Loop) (i : ℕ) (loads : List Load) (kind : ℕ) (key : Key) (test : Expr) (body : Stmt)
     (globals fs : List Value) (j : ℕ) (r : Store) (message : ℕ × Step → Message)
+    (table : TypeTable) (around : List ℕ) (result : Option VType)
     (able : IsMessageLoop c p.registers fields loop i loads test body)
+    (typed : TurnsTyped c table around result loop i body r)
     (incl : (f : Spot) → HasSpot f (inner_spots c loop.outer i key test body) → HasSpot f all)
     (fit : HaveRoom base all (length p.places))
     (shows : NodeShows c loop.graph p.registers fields globals fs j r) where
@@ -170,7 +187,7 @@ module _ (c : Layout) (p : image.Program) (fields base : ℕ) (all : List Spot) 
   run-ends x is_of =
       subst (λ a. RunEnds c v (turn x) a (turn x).fault) (sym found)
       (subst (λ k. let it = turn_at loop (AtEdge x.1.edge) key test (does body (AtEdge x.1.edge) loop) i k (from x.0) in RunEnds c v it (lines_after (record s { message = (message x).values }) (handler_lines c seg n i loads (suc kind) key test body) 0 first) it.fault) (sym is_of.arrives)
-      (handlers-are-turns c seg p.registers fields loop i loads (suc kind) key test body (record s { message = (message x).values }) fs x.0 x.1.edge (from x.0) able refl (message-shows x is_of))) where
+      (handlers-are-turns c seg p.registers fields loop i loads (suc kind) key test body (record s { message = (message x).values }) fs x.0 x.1.edge (from x.0) table around result able (typed x.0 j is_of.from_inside shows.inside) refl (message-shows x is_of))) where
         found : run x ≡ lines_after (record s { message = (message x).values }) (handler_lines c seg n i loads (suc kind) key test body) 0 first
         found =
             ap (λ b. lines_after (record s { message = (message x).values }) (lines_of (if b then Some (record { kind = kind; lines = handler_lines c seg n i loads (suc kind) key test body }) else None)) 0 first)
@@ -234,8 +251,8 @@ module _ (c : Layout) (p : image.Program) (fields base : ℕ) (all : List Spot) 
   loosen : (e : Expr) → receiver_finds c n i loads e ≡ true → loose e ≡ true
   loosen e h = (both-true (loose e) (list_all (has_load loads) (loads_in n e)) h).0
 
-  fits : is_body c loose sets_nothing (receiver_gives c i loose) body ≡ true
-  fits = body-weaker c (receiver_finds c n i loads) loose sets_nothing (receiver_gives c i (receiver_finds c n i loads)) (receiver_gives c i loose) loosen (λ r' ts es h. gives-weaker c i (receiver_finds c n i loads) loose r' ts es loosen h) body able.fits
+  fits : is_body c loose sets_nothing (message_gives c i loose) body ≡ true
+  fits = body-weaker c (receiver_finds c n i loads) loose sets_nothing (message_gives c i (receiver_finds c n i loads)) (message_gives c i loose) loosen (λ r' ts es h. message-weaker c i (receiver_finds c n i loads) loose r' ts es loosen h) body able.fits
 
   in-two : (x : ℕ) → is_in its x ≡ true → (x ≡ n) ⊎ (x ≡ i)
   in-two x o = by (nat_eq x n) (nat_eq x i) refl refl o where
@@ -253,6 +270,12 @@ module _ (c : Layout) (p : image.Program) (fields base : ℕ) (all : List Spot) 
 
     abbrev start : Iteration
     start = begun (write (from x.0) (slots.Scalar i) (At (Some x.1.node)))
+
+    abbrev Ready : P.Stmt → Iteration → Type 0
+    Ready = Typed c table around result loop
+
+    typed-start : Ready body start
+    typed-start = subst (λ z. Ready body (begun (write (from x.0) (slots.Scalar i) (At (Some z))))) (sym is_of.arrives) (typed x.0 j is_of.from_inside shows.inside)
 
     abbrev home : ℕ → ℕ
     home y = if nat_eq i y then j else x.0
@@ -273,6 +296,9 @@ module _ (c : Layout) (p : image.Program) (fields base : ℕ) (all : List Spot) 
             subst (λ z. z < node_count g) (sym (ap (λ b. if b then j else x.0) apart)) is_of.from_inside,
           )
 
+    outer-in : is_in its n ≡ true
+    outer-in = ap (λ b. b || (nat_eq n i || false)) (eq-eqb n n refl)
+
     in-i : is_in its i ≡ true
     in-i = ap (λ b. b || (nat_eq i i || false)) able.two ∙ ap (λ b. b || false) (eq-eqb i i refl)
 
@@ -282,33 +308,45 @@ module _ (c : Layout) (p : image.Program) (fields base : ℕ) (all : List Spot) 
     abbrev body_spots : List Spot
     body_spots = spots_of c i its false body
 
-    reductions-left : (k : Key) (total : TotalKey) (r' : Reduce) (ts : List Target) (es : List Expr) (it : Iteration) → receiver_gives c i loose r' ts es ≡ true → it.fault ≡ None → HoldNodes g its home it
+    reductions-left : (k : Key) (total : TotalKey) (r' : Reduce) (ts : List Target) (es : List Expr) (it : Iteration) → message_gives c i loose r' ts es ≡ true → Ready (P.Combine k total r' ts es) it → it.fault ≡ None → HoldNodes g its home it
         → Left c its true loop m home (does (P.Combine k total r' ts es) m loop it) (spots_in_all es k ++ reduce_spots false its (way_of c.declarations i ts) k total ts)
-    reductions-left k total r' ts es it o e h =
-        or-cases (puts_to_scalars c loose r' ts es) (folds_to c i loose r' ts es) o
+    reductions-left k total r' ts es it o y e h =
+        or-cases (receiver_gives c i loose r' ts es) (picks_inside c loose r' ts es || tuples_inside c loose r' ts es) o
+        (λ p'.
+        or-cases (puts_to_scalars c loose r' ts es) (folds_to c i loose r' ts es) p'
         (λ z. put-left c its true false i loop m home able.depths k total r' ts es it z e h)
-        (λ z. fold-left c its true i j loop m home able.two k total r' ts es it z e h (at-j it h))
+        (λ z. fold-left c its true i j loop m home able.two k total r' ts es it z e h (at-j it h)))
+        (λ p'.
+        or-cases (picks_inside c loose r' ts es) (tuples_inside c loose r' ts es) p'
+        (λ z. pick-left c its i loop x.1.edge home able.depths no_locals table around result k total r' ts es it z y e h)
+        (λ z. keep-left c its i loop x.1.edge home able.depths no_locals table around result outer-in k total r' ts es it z y e h))
 
-    left-body : (st : Stmt) → is_body c loose sets_nothing (receiver_gives c i loose) st ≡ true → (it : Iteration) → it.fault ≡ None → HoldNodes g its home it
+    left-body : (st : Stmt) → is_body c loose sets_nothing (message_gives c i loose) st ≡ true → (it : Iteration) → Ready st it → it.fault ≡ None → HoldNodes g its home it
         → Left c its true loop m home (does st m loop it) (spots_of c i its false st)
-    left-body st o it e h =
-        body-left c its true loop m home i false sets_nothing (receiver_gives c i loose) no_locals (λ y q f. absurd (both_ways false refl f))
-        reductions-left st o it e h
+    left-body st o it y e h =
+        body-left c its true loop m home i false sets_nothing (message_gives c i loose) Ready (parts-typed c table around result loop m) no_locals (λ y q f. absurd (both_ways false refl f))
+        (λ j' total r' ts es it' o' y' f' q'. reductions-left j' total r' ts es it' o' y' f' q') st o it y e h
 
-    reductions-give : (k : Key) (total : TotalKey) (r' : Reduce) (ts : List Target) (es : List Expr) (it : Iteration) → receiver_gives c i loose r' ts es ≡ true → HoldNodes g its home it
+    reductions-give : (k : Key) (total : TotalKey) (r' : Reduce) (ts : List Target) (es : List Expr) (it : Iteration) → message_gives c i loose r' ts es ≡ true → Ready (P.Combine k total r' ts es) it → HoldNodes g its home it
         → ((f : Spot) → HasSpot f (reduce_spots false its (way_of c.declarations i ts) k total ts) → HasSpot f all)
         → Gives (IsReceived c j all) it → Gives (IsReceived c j all) (does (P.Combine k total r' ts es) m loop it)
-    reductions-give k total r' ts es it o h e q =
-        or-cases (puts_to_scalars c loose r' ts es) (folds_to c i loose r' ts es) o
+    reductions-give k total r' ts es it o y h e q =
+        or-cases (receiver_gives c i loose r' ts es) (picks_inside c loose r' ts es || tuples_inside c loose r' ts es) o
+        (λ p'.
+        or-cases (puts_to_scalars c loose r' ts es) (folds_to c i loose r' ts es) p'
         (λ z. put-gives-at c its true false i loop m home able.depths all (IsReceived c j all) (put-received c j all) k total r' ts es it z h e q)
-        (λ z. fold-gives c its true i j loop m home able.two all k total r' ts es it z h (at-j it h) e q)
+        (λ z. fold-gives c its true i j loop m home able.two all k total r' ts es it z h (at-j it h) e q))
+        (λ p'.
+        or-cases (picks_inside c loose r' ts es) (tuples_inside c loose r' ts es) p'
+        (λ z. pick-gives c its i loop x.1.edge home able.depths no_locals table around result (IsReceived c j all) k total r' ts es it z y h q)
+        (λ z. keep-gives c its i loop x.1.edge home able.depths no_locals table around result outer-in (IsReceived c j all) k total r' ts es it z y h q))
 
-    give-body : (it : Iteration) → it.fault ≡ None → HoldNodes g its home it → Gives (IsReceived c j all) it → Gives (IsReceived c j all) (does body m loop it)
-    give-body it e h q =
-        body-gives c i its false loop m loose sets_nothing (receiver_gives c i loose) (IsReceived c j all) all (HoldNodes g its home)
-        (λ st o it' e' h'. (left-body st o it' e' h').1)
-        (λ k total r' ts es it' o h' e' q'. reductions-give k total r' ts es it' o h' e' q')
-        body fits (λ f z. incl f (spot-right f (spots_in test key) body_spots z)) it e h q
+    give-body : (it : Iteration) → Ready body it → it.fault ≡ None → HoldNodes g its home it → Gives (IsReceived c j all) it → Gives (IsReceived c j all) (does body m loop it)
+    give-body it y e h q =
+        body-gives c i its false loop m loose sets_nothing (message_gives c i loose) (IsReceived c j all) all (HoldNodes g its home) Ready (parts-typed c table around result loop m)
+        (λ st o it' y' e' h'. (left-body st o it' y' e' h').1)
+        (λ k total r' ts es it' o y' h' e' q'. reductions-give k total r' ts es it' o y' h' e' q')
+        body fits (λ f z. incl f (spot-right f (spots_in test key) body_spots z)) it y e h q
 
     has-all : (o : Option Fault) → Has o (inner_spots c n i key test body) → Has o all
     has-all None h = tt
@@ -321,7 +359,7 @@ module _ (c : Layout) (p : image.Program) (fields base : ℕ) (all : List Spot) 
 
       way : (b : Bool) → Has (one_way b (does body m loop) as_it_is start).fault all × Gives (IsReceived c j all) (one_way b (does body m loop) as_it_is start)
       way true =
-          (has-all (does body m loop start).fault (has-right (does body m loop start).fault (spots_in test key) body_spots (left-body body fits start refl holds).0), give-body start refl holds nothing)
+          (has-all (does body m loop start).fault (has-right (does body m loop start).fault (spots_in test key) body_spots (left-body body fits start typed-start refl holds).0), give-body start typed-start refl holds nothing)
       way false = (tt, nothing)
 
       by : (a : Result Value Fault) → Within a (spots_in test key)
@@ -443,5 +481,5 @@ module _ (c : Layout) (p : image.Program) (fields base : ℕ) (all : List Spot) 
     })
 
 pub receiving-steps : ReceivingStepsAreTurns
-receiving-steps c p fields base all loop i loads kind key test body globals fs j r xs message able incl fit shows h apart =
-    receives c p fields base all loop i loads kind key test body globals fs j r message able incl fit shows xs h apart
+receiving-steps c p fields base all loop i loads kind key test body globals fs j r xs message table around result able typed incl fit shows h apart =
+    receives c p fields base all loop i loads kind key test body globals fs j r message table around result able typed incl fit shows xs h apart

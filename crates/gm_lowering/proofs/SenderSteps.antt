@@ -1,6 +1,6 @@
 -- The step of a vertex whose each sends along its edges.
-use Rattle.std.proofs.Common.{◌≡◌, ◌<◌, ◌≤◌, ◌⊎◌, inl, inr, ℕ, suc, Bool, true, false, Option, Some, None, Result, Ok, Err, List, [], ◌∷◌, ◌++◌, length, map, refl, ap, ◌∙◌, sym, subst, append_assoc, ⊎_elim, cond}
-use Rattle.std.specs.Prelude.{◌+◌, ◌&&◌, ◌||◌, nat_eq, nat_lt, if◌then◌else◌, take, filter}
+use Rattle.std.proofs.Common.{◌≡◌, ◌<◌, ◌⊎◌, inl, inr, ℕ, suc, Bool, true, false, Option, Some, None, Result, Ok, Err, List, [], ◌∷◌, ◌++◌, length, map, refl, ap, ◌∙◌, sym, subst, append_assoc, ⊎_elim, cond}
+use Rattle.std.specs.Prelude.{◌&&◌, ◌||◌, nat_eq, nat_lt, if◌then◌else◌, take, filter}
 use Rattle.std.specs.List.{list_all}
 use Rattle.std.proofs.lemmas.Bool.{both_ways, ne_eqb, eq-eqb, eqb-true, eqb-false, ltb-true}
 use Rattle.std.proofs.lemmas.List.{append-nil}
@@ -52,8 +52,8 @@ use Rattle.gm_lowering.specs.Bodies.{under, spots_of, reduce_spots, target_spots
 use Rattle.gm_lowering.specs.Blocks.{direction_of, each_lines, own_site}
 use Rattle.gm_lowering.specs.Showing.{fault_of, answer_of}
 use Rattle.gm_lowering.specs.Sites.{given, finds, is_body, IsInGraph, HoldProperties, OwnGave, same_length}
-use Rattle.gm_lowering.specs.OwnLoops.{own_finds, own_sets, puts_to_scalars, IsOwnLoop, NodeShows}
-use Rattle.gm_lowering.specs.MessageLoops.{sets_nothing, folds_to, receiver_gives, is_to_scalars, is_to_nodes}
+use Rattle.gm_lowering.specs.OwnLoops.{own_finds, own_sets, puts_to_scalars, own_gives, IsOwnLoop, NodeShows, folds_to}
+use Rattle.gm_lowering.specs.MessageLoops.{sets_nothing, receiver_gives, is_to_scalars, is_to_nodes}
 use Rattle.gm_lowering.specs.Phases.{EdgesShown}
 use Rattle.gm_lowering.specs.Receiving.{turn_of}
 use Rattle.gm_lowering.specs.TwoSupersteps.{IsInside, StepsWithin}
@@ -65,18 +65,20 @@ use Rattle.gm_lowering.specs.SenderSteps.{AreSent, SendsAs, SendingStepsAreItera
 use Rattle.gm_lowering.proofs.Bodies.{value-of}
 use Rattle.gm_lowering.proofs.FoldFacts.{body-weaker, fold-left, IsReceived, put-received, fold-gives}
 use Rattle.gm_lowering.proofs.Orders.{lesser-lower}
-use Rattle.gm_lowering.proofs.Own.{Shows, own-holds, node-in}
+use Rattle.gm_lowering.proofs.Own.{Shows}
+use Rattle.gm_lowering.proofs.OwnGives.{own-holds}
 use Rattle.gm_lowering.proofs.Supersteps.{least-parts}
 use Rattle.gm_lowering.proofs.OwnSteps.{body-alone, begins}
 use Rattle.gm_lowering.proofs.PutFacts.{put-left, IsPut, put-gives-at}
 use Rattle.gm_lowering.proofs.Receiving.{or-cases, gives-weaker}
-use Rattle.gm_lowering.proofs.Spots.{Has, HoldNodes, Left, Within, spot-left, has-right, reads, value-within, body-left, spot-right}
+use Rattle.gm_lowering.proofs.Spots.{Has, HoldNodes, Left, Within, spot-left, has-right, reads, value-within, body-left, spot-right, Free, free}
 use Rattle.gm_lowering.proofs.SenderTurns.{sends-way, sending-turns}
-use Rattle.gm_lowering.proofs.Receivers.{are_kept, folds-way}
+use Rattle.gm_lowering.proofs.Givens.{are_kept, folds-way, node-in}
 use Rattle.gm_lowering.proofs.Kept.{Gives, body-gives}
 use Rattle.gm_lowering.proofs.Settles.{least-is}
 use Rattle.gm_lowering.proofs.Regions.{in-parts}
 use Rattle.gm_semantics.proofs.TargetLaws.{value-away}
+use Rattle.gm_lowering.proofs.TupleFacts.{no-spares}
 
 map-both : {A B : Type 0} (f : A → B) (xs ys : List A) → map f (xs ++ ys) ≡ map f xs ++ map f ys
 map-both f [] ys = refl
@@ -329,8 +331,8 @@ module _ (c : Layout) (p : image.Program) (fields base : ℕ) (all : List Spot) 
     left-body : (st : Stmt) → is_body c loose sets_nothing (receiver_gives c i loose) st ≡ true → (it : Iteration) → it.fault ≡ None → HoldNodes g its home it
         → Left c its true loop m home (does st m loop it) (spots_of c n its false st)
     left-body st o it f q =
-        body-left c its true loop m home n false sets_nothing (receiver_gives c i loose) no_locals (λ y z o'. absurd (both_ways false refl o'))
-        reductions-left st o it f q
+        body-left c its true loop m home n false sets_nothing (receiver_gives c i loose) Free (free loop m) no_locals (λ y z o'. absurd (both_ways false refl o'))
+        (λ j' total r' ts es it' o' y' f' q'. reductions-left j' total r' ts es it' o' f' q') st o it tt f q
 
     -- what is given is received at the neighbour, or goes to scalars
     total-in : (j : Key) (total : TotalKey) (t : Target) (ts : List Target) → are_kept c i (t ∷ ts) ≡ true → ((f : Spot) → HasSpot f (reduce_spots false its (way_of c.declarations n (t ∷ ts)) j total (t ∷ ts)) → HasSpot f all)
@@ -350,10 +352,10 @@ module _ (c : Layout) (p : image.Program) (fields base : ℕ) (all : List Spot) 
 
     give-body : (it : Iteration) → it.fault ≡ None → HoldNodes g its home it → Gives (IsReceived c e.node all) it → Gives (IsReceived c e.node all) (does body m loop it)
     give-body it f q a =
-        body-gives c n its false loop m loose sets_nothing (receiver_gives c i loose) (IsReceived c e.node all) all (HoldNodes g its home)
-        (λ st o it' f' q'. (left-body st o it' f' q').1)
-        (λ j total r' ts es it' o q' f' a'. reductions-give j total r' ts es it' o q' f' a')
-        body fits (λ f' z. incl f' (spot-right f' (spots_in test key) body_spots z)) it f q a
+        body-gives c n its false loop m loose sets_nothing (receiver_gives c i loose) (IsReceived c e.node all) all (HoldNodes g its home) Free (free loop m)
+        (λ st o it' y' f' q'. (left-body st o it' f' q').1)
+        (λ j total r' ts es it' o y' q' f' a'. reductions-give j total r' ts es it' o q' f' a')
+        body fits (λ f' z. incl f' (spot-right f' (spots_in test key) body_spots z)) it tt f q a
 
     turn-gives : Gives (IsReceived c e.node all) (turn e)
     turn-gives = by (value test (view_in loop m start key)) where
@@ -528,13 +530,13 @@ module _ (c : Layout) (p : image.Program) (fields base : ℕ) (all : List Spot) 
 
   -- the mask is an own loop's filter
   mask-loop : IsOwnLoop c p.registers fields loop mask P.Skip
-  mask-loop = record { apart = able.apart; iterator = able.outer; types = able.types; depths = able.depths; found = outer.found; fits = refl }
+  mask-loop = record { apart = able.apart; iterator = able.outer; types = able.types; depths = able.depths; found = outer.found; fits = refl; spares = no-spares c (length p.registers) }
 
   mask-value : term_value (view s first) (term ov mask_key mask) ≡ answer_of ov (value mask (view_in loop Outermost begun_at mask_key))
   mask-value =
       value-of (own_site c seg n) loop Outermost s (body_after (length p.places) s)
-      (Shows c seg loop n k (length p.registers) fields (length p.places) s able.apart able.outer able.types able.depths) (OwnGave c ov) (own_finds c n) (own_sets c n) (puts_to_scalars c (own_finds c n))
-      (own-holds c seg loop n k (length p.registers) fields (length p.places) s able.apart able.outer able.types able.depths) begun_at first mask_key mask outer.found
+      (Shows c seg loop k (length p.registers) fields (length p.places) s able.apart able.outer able.types able.depths) (OwnGave c ov) (own_finds c n) (own_sets c n) (own_gives c n (own_finds c n))
+      (own-holds c seg loop k (length p.registers) fields (length p.places) s able.apart able.outer able.types able.depths (record { limit = 0; declarations = []; inputs = 0 }) [] None) begun_at first mask_key mask outer.found
       (begins c seg p fields loop kind mask_key mask P.Skip globals fs k r mask-loop shows)
 
   pub sending-step : As (iteration loop mask_key mask inner r k) (vertex_after p (home_block c seg n kind mask_key mask h key test body) s [] fs)

@@ -1,5 +1,5 @@
 -- The lines of an each that sends along its edge.
-use Rattle.std.proofs.Common.{◌≡◌, ◌<◌, ◌≤◌, ◌⊎◌, inr, ℕ, zero, suc, Bool, true, false, cond, Option, Some, None, Result, Ok, Err, List, [], ◌∷◌, ◌++◌, length, map, refl, ap, ◌∙◌, sym, subst, append_assoc, arith}
+use Rattle.std.proofs.Common.{◌≡◌, ◌⊎◌, inr, ℕ, zero, suc, Bool, true, false, cond, Option, Some, None, Result, Ok, Err, List, [], ◌∷◌, ◌++◌, length, map, refl, ap, ◌∙◌, sym, subst, append_assoc, arith}
 use Rattle.std.specs.Prelude.{◌+◌, if◌then◌else◌, ◌&&◌, ◌||◌, not, nat_eq, slice_set, slice_get, filter}
 use Rattle.std.specs.List.{list_all, list_any}
 use Rattle.std.proofs.lemmas.List.{append-nil}
@@ -36,20 +36,19 @@ use Rattle.gm_lowering.specs.Bodies.{reduce_lines, target_node}
 use Rattle.gm_lowering.specs.Blocks.{each_site}
 use Rattle.gm_lowering.specs.Showing.{answer_of, Tells}
 use Rattle.gm_lowering.specs.Sites.{are_of_scalars, same_length, is_local, given, IsApart, HoldLocals, HoldProperties}
-use Rattle.gm_lowering.specs.OwnLoops.{is_declared, puts_to_scalars}
-use Rattle.gm_lowering.specs.MessageLoops.{sets_nothing, folds_to, receiver_gives, is_to_scalars, is_to_nodes}
+use Rattle.gm_lowering.specs.OwnLoops.{is_declared, puts_to_scalars, folds_to}
+use Rattle.gm_lowering.specs.MessageLoops.{sets_nothing, receiver_gives, is_to_scalars, is_to_nodes}
 use Rattle.gm_lowering.specs.HomeTurns.{home_finds, home_lines, HomeGave, EdgeShows}
 use Rattle.gm_lowering.specs.Takings.{slots_at}
 use Rattle.gm_lowering.specs.TakingSteps.{Carried}
 use Rattle.gm_lowering.specs.SenderTurns.{IsSenderLoop, AreCarried, SenderGave, SendingEnds, SendingLinesAreTurns}
 use Rattle.gm_lowering.proofs.Bodies.{Ends as Ending, Holds}
 use Rattle.gm_lowering.proofs.FirstUses.{SameGiven}
-use Rattle.gm_lowering.proofs.Givens.{AllTell, are_scalars, scalars-end, values-all, none-hoisted, assigned-is, put-ends}
+use Rattle.gm_lowering.proofs.Givens.{AllTell, are_scalars, scalars-end, values-all, none-hoisted, assigned-is, put-ends, node_slots, are_kept, node-slots, node-in}
 use Rattle.gm_lowering.proofs.HomeTurns.{IsEachLoop, TurnAs, turn-ends}
 use Rattle.gm_lowering.proofs.Homes.{HomeShows, home-holds}
-use Rattle.gm_lowering.proofs.Own.{node-in}
 use Rattle.gm_lowering.proofs.PutFacts.{puts-way}
-use Rattle.gm_lowering.proofs.Receivers.{node_slots, are_kept, node-slots, nodes-end}
+use Rattle.gm_lowering.proofs.Receivers.{nodes-end}
 use Rattle.gm_lowering.proofs.Receiving.{or-cases}
 
 -- reductions to properties of the neighbour are sent
@@ -350,7 +349,7 @@ module _ (c : Layout) (seg : Segment) (loop : Loop) (i k j edge registers fields
       (subst (λ z. Ended (Send first M.Neighbour (map (term v key) es) ∷ []) rest w z z.fault) (sym same)
       (send-by first key total r t ts (map (term v key) es) (evaluated_all es u).rest it w rest q x.0 (long-values u (t ∷ ts) es y.0) place.0 place.1 (let z : first + 0 ≡ kind + place.0 = place.2 in omega (arith, z)) (values-all v u (view s w) es tell))))
 
-  pub sender-holds : Holds (each_site c seg n i) loop m s run (λ it w. HomeShows c loop i k j edge registers fields s it w × SenderGave c v kind all j before it w) (λ it w. SenderGave c v kind all j before it w) found sets_nothing (receiver_gives c i found) Placed
+  pub sender-holds : Holds (each_site c seg n i) loop m s run (λ it w. HomeShows c loop i k j edge registers fields s it w × SenderGave c v kind all j before it w) (λ it w. SenderGave c v kind all j before it w) found sets_nothing (receiver_gives c i found) (λ first st it. Placed first st)
   sender-holds = record {
     type_is = type_is;
     skipped = λ l ls a w. refl;
@@ -362,12 +361,12 @@ module _ (c : Layout) (seg : Segment) (loop : Loop) (i k j edge registers fields
     tells = tells;
     local = local;
     property = λ key x p at e it w rest o f q. absurd (both_ways false refl o);
-    placed_first = λ first a b h at x e. h at x (get-left (aways c.declarations n a) (aways c.declarations n b) at x e);
-    placed_second = λ first a b h at x e.
+    placed_first = λ first a b it h at x e. h at x (get-left (aways c.declarations n a) (aways c.declarations n b) at x e);
+    placed_second = λ first a b it h at x e.
         let t = h (length (aways c.declarations n a) + at) x (get-right (aways c.declarations n a) (aways c.declarations n b) at x e) in
         let z : first + (length (aways c.declarations n a) + at) ≡ kind + t.0 = t.2 in (t.0, t.1, (omega (arith, z)));
-    placed_yes = λ first key e a b h at x e'. h at x (get-left (aways c.declarations n a) (aways c.declarations n b) at x e');
-    placed_no = λ first key e a b h at x e'.
+    placed_yes = λ first key e a b it h at x e'. h at x (get-left (aways c.declarations n a) (aways c.declarations n b) at x e');
+    placed_no = λ first key e a b it h at x e'.
         let t = h (length (aways c.declarations n a) + at) x (get-right (aways c.declarations n a) (aways c.declarations n b) at x e') in
         let z : first + (length (aways c.declarations n a) + at) ≡ kind + t.0 = t.2 in (t.0, t.1, (omega (arith, z)));
     reduce = λ first key total r ts es it w rest o h q.

@@ -37,7 +37,7 @@ use Rattle.gm_lowering.specs.Bodies.{spots_of, reduce_spots}
 use Rattle.gm_lowering.specs.Plans.{way_of}
 use Rattle.gm_lowering.specs.Sites.{finds, is_local, is_body}
 use Rattle.gm_lowering.specs.Settles.{HasSpot, spot_of_fault}
-use Rattle.gm_lowering.proofs.Own.{node-in}
+use Rattle.gm_lowering.proofs.Givens.{node-in}
 
 -- a spot of one of two lists
 pub spot-left : (f : Spot) (xs ys : List Spot) → HasSpot f xs → HasSpot f (xs ++ ys)
@@ -225,6 +225,20 @@ all-hoist_nothing w (e ∷ es) p r = none-two _ _ (reads-hoist_nothing w e p r.0
 abbrev pub HoldNodes : NumberedGraph → List ℕ → (ℕ → ℕ) → Iteration → Type 0
 HoldNodes g its at it = (x : ℕ) → is_in its x ≡ true → (it.store.scalar x ≡ At (Some (at x))) × (at x < node_count g)
 
+-- what is asked where a statement of a body begins is so where its parts begin
+pub record PartsReady (loop : Loop) (m : Mode) (Ready : S.Stmt → Iteration → Type 0) : Type 0 where
+  pub first : (a b : S.Stmt) (it : Iteration) → Ready (S.Then a b) it → Ready a it
+  pub second : (a b : S.Stmt) (it : Iteration) → Ready (S.Then a b) it → Ready b (does a m loop it)
+  pub yes : (k : Key) (e : Expr) (a b : S.Stmt) (it : Iteration) → Ready (S.If k e a b) it → Ready a it
+  pub no : (k : Key) (e : Expr) (a b : S.Stmt) (it : Iteration) → Ready (S.If k e a b) it → Ready b it
+
+-- where nothing is asked
+abbrev pub Free : S.Stmt → Iteration → Type 0
+Free st it = Unit {0}
+
+pub free : (loop : Loop) (m : Mode) → PartsReady loop m Free
+free loop m = record { first = λ a b it h. tt; second = λ a b it h. tt; yes = λ k e a b it h. tt; no = λ k e a b it h. tt }
+
 module _ (c : Layout) (its : List ℕ) (edge : Bool) (loop : Loop) (m : Mode) (home : ℕ → ℕ) where
   node-of : (it : Iteration) (x : ℕ) → HoldNodes loop.graph its home it → is_in its x ≡ true → (n : ℕ) × (node_in loop.graph (it.store.scalar x) ≡ Some n)
   node-of it x h o = let q = h x o in (home x, ap (node_in loop.graph) q.0 ∙ node-in loop.graph (home x) q.1)
@@ -257,10 +271,10 @@ module _ (c : Layout) (its : List ℕ) (edge : Bool) (loop : Loop) (m : Mode) (h
   abbrev pub Left : Iteration → List Spot → Type 0
   Left it spots = Has it.fault spots × HoldNodes loop.graph its home it
 
-  module _ (node : ℕ) (at_once : Bool) (sets : ℕ → ℕ → Bool) (gives : Reduce → List Target → List Expr → Bool)
+  module _ (node : ℕ) (at_once : Bool) (sets : ℕ → ℕ → Bool) (gives : Reduce → List Target → List Expr → Bool) (Ready : S.Stmt → Iteration → Type 0) (parts : PartsReady loop m Ready)
       (no_locals : (x : ℕ) → is_in its x ≡ true → is_register (variable_at c.declarations x) ≡ false)
       (set_at_nodes : (x p : ℕ) → sets x p ≡ true → is_in its x ≡ true)
-      (reductions : (k : Key) (total : TotalKey) (r : Reduce) (ts : List Target) (es : List Expr) (it : Iteration) → gives r ts es ≡ true → it.fault ≡ None → HoldNodes loop.graph its home it
+      (reductions : (k : Key) (total : TotalKey) (r : Reduce) (ts : List Target) (es : List Expr) (it : Iteration) → gives r ts es ≡ true → Ready (S.Combine k total r ts es) it → it.fault ≡ None → HoldNodes loop.graph its home it
       → Left (does (S.Combine k total r ts es) m loop it) (spots_in_all es k ++ reduce_spots at_once its (way_of c.declarations node ts) k total ts)) where
     none-has : (it : Iteration) (spots : List Spot) → it.fault ≡ None → Has it.fault spots
     none-has it spots e = subst (λ o. Has o spots) (sym e) tt
@@ -299,26 +313,26 @@ module _ (c : Layout) (its : List ℕ) (edge : Bool) (loop : Loop) (m : Mode) (h
     left-less : (it : Iteration) (xs ys : List Spot) → Left it xs → Left it (xs ++ ys)
     left-less it xs ys h = (has-left it.fault xs ys h.0, h.1)
 
-    pub body-left : (st : Stmt) → is_body c (finds c its edge) sets gives st ≡ true → (it : Iteration) → it.fault ≡ None → HoldNodes loop.graph its home it
+    pub body-left : (st : Stmt) → is_body c (finds c its edge) sets gives st ≡ true → (it : Iteration) → Ready st it → it.fault ≡ None → HoldNodes loop.graph its home it
         → Left (does st m loop it) (spots_of c node its at_once st)
-    body-left S.Skip o it n h = (none-has it [] n, h)
-    body-left (S.Then a b) o it n h =
+    body-left S.Skip o it y n h = (none-has it [] n, h)
+    body-left (S.Then a b) o it y n h =
         let t = both-true (is_body c (finds c its edge) sets gives a) (is_body c (finds c its edge) sets gives b) o in
-        let x = body-left a t.0 it n h in
-        then-left (spots_of c node its at_once a) (spots_of c node its at_once b) (does a m loop it) (does a m loop it).fault (does b m loop) refl x (λ e. body-left b t.1 (does a m loop it) e x.1)
-    body-left (S.Declare k x None) o it n h = (none-has it [] n, writes it x _ (both-true (is_local c x) true o).0 h)
-    body-left (S.Declare k x (Some e)) o it n h =
+        let x = body-left a t.0 it (parts.first a b it y) n h in
+        then-left (spots_of c node its at_once a) (spots_of c node its at_once b) (does a m loop it) (does a m loop it).fault (does b m loop) refl x (λ e. body-left b t.1 (does a m loop it) (parts.second a b it y) e x.1)
+    body-left (S.Declare k x None) o it y n h = (none-has it [] n, writes it x _ (both-true (is_local c x) true o).0 h)
+    body-left (S.Declare k x (Some e)) o it y n h =
         let t = both-true (is_local c x) (finds c its edge e) o in
         local-left it x (value e (view_in loop m it k)) (spots_in e k) t.0 n h (value-within (view_in loop m it k) e refl (reads it k e t.1 h))
-    body-left (S.DeclareEdge x y at) o it n h = (none-has it [] n, h)
-    body-left (S.Assign k (T.Scalar x at) e) o it n h =
+    body-left (S.DeclareEdge x z at) o it y n h = (none-has it [] n, h)
+    body-left (S.Assign k (T.Scalar x at) e) o it y n h =
         let t = both-true (is_local c x) (finds c its edge e) o in
         let w = view_in loop m it k in
         let r = reads it k e t.1 h in
         assign-left it (assigned w (T.Scalar x at) (evaluated e w)) (Scalar x) (evaluated e w).rest (spots_in e k) n h (rest-within w e r)
         (ap (λ f. unless_fault f (then_with (slot_of w (T.Scalar x at)) (λ z. then_with (evaluated e w).rest (λ y. Ok (z, y))))) (reads-hoist_nothing w e refl r))
         (λ a. writes it x a t.0 h)
-    body-left (S.Assign k (T.Property x p at) e) o it n h =
+    body-left (S.Assign k (T.Property x p at) e) o it y n h =
         let t = both-true (sets x p) (finds c its edge e) o in
         let w = view_in loop m it k in
         let r = reads it k e t.1 h in
@@ -327,8 +341,8 @@ module _ (c : Layout) (its : List ℕ) (edge : Bool) (loop : Loop) (m : Mode) (h
         (ap (λ f. unless_fault f (then_with (slot_of w (T.Property x p at)) (λ z. then_with (evaluated e w).rest (λ y. Ok (z, y))))) (reads-hoist_nothing w e refl r)
         ∙ ap (λ o. then_with (then_with (node_held w at o) (λ j. Ok (Node p j))) (λ z. then_with (evaluated e w).rest (λ y. Ok (z, y)))) q.1)
         (λ a. h)
-    body-left (S.Combine k total r ts es) o it n h = reductions k total r ts es it o n h
-    body-left (S.If k e a b) o it n h =
+    body-left (S.Combine k total r ts es) o it y n h = reductions k total r ts es it o y n h
+    body-left (S.If k e a b) o it y n h =
         let t = both-true (finds c its edge e) (is_body c (finds c its edge) sets gives a && is_body c (finds c its edge) sets gives b) o in
         let u = both-true (is_body c (finds c its edge) sets gives a) (is_body c (finds c its edge) sets gives b) t.1 in
         let xs = spots_of c node its at_once a in
@@ -336,14 +350,14 @@ module _ (c : Layout) (its : List ℕ) (edge : Bool) (loop : Loop) (m : Mode) (h
         let w = view_in loop m it k in
         with-ok-left it (value e w) (λ z. one_way (is_true z) (does a m loop) (does b m loop) it) (spots_in e k ++ (xs ++ ys)) h (within-left (value e w) (spots_in e k) (xs ++ ys) (value-within w e refl (reads it k e t.0 h))) (λ z.
         way-left (is_true z) (does a m loop) (does b m loop) it (spots_in e k ++ (xs ++ ys))
-        (left-more (does a m loop it) (spots_in e k) (xs ++ ys) (left-less (does a m loop it) xs ys (body-left a u.0 it n h)))
-        (left-more (does b m loop it) (spots_in e k) (xs ++ ys) (left-more (does b m loop it) xs ys (body-left b u.1 it n h))))
-    body-left (S.Defer k t e) o it n h = absurd (both_ways false refl o)
-    body-left (S.Group k at g p e) o it n h = absurd (both_ways false refl o)
-    body-left (S.Foreach k at hd e a) o it n h = absurd (both_ways false refl o)
-    body-left (S.For k at hd e a) o it n h = absurd (both_ways false refl o)
-    body-left (S.While k at e a) o it n h = absurd (both_ways false refl o)
-    body-left (S.Do k at a e) o it n h = absurd (both_ways false refl o)
-    body-left (S.InBfs k at x e a) o it n h = absurd (both_ways false refl o)
-    body-left (S.InBfsBoth k at x e a j d b) o it n h = absurd (both_ways false refl o)
-    body-left (S.Return k at e) o it n h = absurd (both_ways false refl o)
+        (left-more (does a m loop it) (spots_in e k) (xs ++ ys) (left-less (does a m loop it) xs ys (body-left a u.0 it (parts.yes k e a b it y) n h)))
+        (left-more (does b m loop it) (spots_in e k) (xs ++ ys) (left-more (does b m loop it) xs ys (body-left b u.1 it (parts.no k e a b it y) n h))))
+    body-left (S.Defer k t e) o it y n h = absurd (both_ways false refl o)
+    body-left (S.Group k at g p e) o it y n h = absurd (both_ways false refl o)
+    body-left (S.Foreach k at hd e a) o it y n h = absurd (both_ways false refl o)
+    body-left (S.For k at hd e a) o it y n h = absurd (both_ways false refl o)
+    body-left (S.While k at e a) o it y n h = absurd (both_ways false refl o)
+    body-left (S.Do k at a e) o it y n h = absurd (both_ways false refl o)
+    body-left (S.InBfs k at x e a) o it y n h = absurd (both_ways false refl o)
+    body-left (S.InBfsBoth k at x e a j d b) o it y n h = absurd (both_ways false refl o)
+    body-left (S.Return k at e) o it y n h = absurd (both_ways false refl o)

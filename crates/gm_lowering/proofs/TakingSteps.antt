@@ -1,5 +1,5 @@
 -- One superstep takes what messages carry for reductions.
-use Rattle.std.proofs.Common.{◌≡◌, ◌<◌, ◌≤◌, ◌⊎◌, inl, inr, ℕ, zero, suc, Bool, true, false, cond, Option, Some, None, Ok, List, [], ◌∷◌, ◌++◌, length, map, refl, ap, ◌∙◌, sym, subst, arith, add-one, ⊎_elim}
+use Rattle.std.proofs.Common.{◌≡◌, ◌<◌, ◌≤◌, inl, inr, ℕ, zero, suc, Bool, true, false, cond, Option, Some, None, Ok, List, [], ◌∷◌, length, map, refl, ap, ◌∙◌, sym, subst, arith, add-one, ⊎_elim}
 use Rattle.std.specs.Prelude.{◌+◌, ◌&&◌, ◌||◌, nat_eq, filter, find, if◌then◌else◌, slice_get, slice_index_or}
 use Rattle.std.specs.List.{list_all, flat_map, enumerate_from}
 use Rattle.std.proofs.lemmas.Bool.{both_ways, eqb-true, ne_eqb, eq-eqb, cases_lt}
@@ -38,13 +38,12 @@ use Rattle.gm_lowering.specs.Plans.{Away}
 use Rattle.gm_lowering.specs.Blocks.{taking_handler, taking_handlers}
 use Rattle.gm_lowering.specs.Showing.{fault_of}
 use Rattle.gm_lowering.specs.Sites.{slot_at, given, IsApart, phase_value}
-use Rattle.gm_lowering.specs.OwnLoops.{are_any}
+use Rattle.gm_lowering.specs.OwnLoops.{are_any, is_kept_property}
 use Rattle.gm_lowering.specs.Phases.{Shown, Leaves, StepIs, GivesApart}
-use Rattle.gm_lowering.specs.MessageLoops.{is_kept_property}
 use Rattle.gm_lowering.specs.Settles.{HasSpot, HaveRoom, spot_of_fault, fault_or_none, is_some_list, AreHeld, AreGiven, SettlesAlike}
 use Rattle.gm_lowering.specs.Takings.{slots_at}
 use Rattle.gm_lowering.specs.TakingSteps.{taking_block, Carried, IsTaken, contributions_of, TakingBlocksTake}
-use Rattle.gm_lowering.proofs.FoldFacts.{here_at}
+use Rattle.gm_lowering.proofs.Givens.{here_at}
 use Rattle.gm_lowering.proofs.Orders.{lesser-lower}
 use Rattle.gm_lowering.proofs.Regions.{value-filtered, fault-filtered, least-members, in-front, in-back, in-parts}
 use Rattle.gm_lowering.proofs.Settles.{somes-in, in-somes, filter-in, filter-map, least-is, total-spot, reductions-settle}

@@ -19,8 +19,7 @@ use Rattle.gm_lowering.specs.Places.{place_index}
 use Rattle.gm_lowering.specs.Bodies.{slot_number, image_targets}
 use Rattle.gm_lowering.specs.Blocks.{message_values}
 use Rattle.gm_lowering.specs.Sites.{same_length, slot_at}
-use Rattle.gm_lowering.specs.OwnLoops.{are_any}
-use Rattle.gm_lowering.specs.MessageLoops.{is_kept_property}
+use Rattle.gm_lowering.specs.OwnLoops.{are_any, is_kept_property}
 use Rattle.gm_lowering.specs.Takings.{slots_at, TakingHandlersTake}
 use Rattle.gm_lowering.proofs.Givens.{terms-of, slots-of}
 

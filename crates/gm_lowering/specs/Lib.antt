@@ -13,6 +13,8 @@ pub mod Phases
 pub mod MessageLoops
 pub mod Sends
 pub mod Receiving
+pub mod Tuples
+pub mod TupleLines
 pub mod TwoSupersteps
 pub mod Shapes
 pub mod Masters

@@ -1,5 +1,5 @@
 -- Message loops: what the handler of a message does is the inner loop's turn at its edge.
-use Rattle.std.specs.Prelude.{◌≡◌, ◌<◌, ℕ, nat_eq, Bool, true, false, not, ◌&&◌, ◌||◌, Option, Some, None, List, [], ◌∷◌, length, map, filter}
+use Rattle.std.specs.Prelude.{◌≡◌, ◌<◌, ℕ, nat_eq, Bool, true, false, not, ◌&&◌, ◌||◌, Option, Some, None, List, [], ◌∷◌, length, map, filter, nat_lt}
 use Rattle.std.specs.List.{list_all, list_any}
 use Rattle.gm_value.specs.declared.values.VType.{VType}
 use Rattle.gm_value.specs.declared.values.Value.{Value}
@@ -16,19 +16,23 @@ use Rattle.gm_semantics.specs.Contributions.{Contribution}
 use Rattle.gm_semantics.specs.Expressions.{View, degree_of}
 use Rattle.gm_semantics.specs.Iterations.{Loop, AtEdge, Iteration, begun, view_in, turn_at, does}
 use Rattle.gm_semantics.specs.Statements.{variable_at}
-use Rattle.gm_semantics.specs.Stores.{Store}
+use Rattle.gm_semantics.specs.Stores.{Store, write}
 use Rattle.gm_image.specs.Program.{Line}
 use Rattle.gm_machine.specs.Expressions.{value_at}
 use Rattle.gm_machine.specs.Vertex.{VertexContext, VertexState, After, begun as begin, lines_after}
-use Rattle.gm_lowering.specs.Layouts.{Layout, is_global, is_register, has_value}
+use Rattle.gm_lowering.specs.Layouts.{Layout, is_global, is_register, has_value, body_positions}
 use Rattle.gm_lowering.specs.Places.{Segment}
 use Rattle.gm_lowering.specs.Terms.{Env, term}
 use Rattle.gm_lowering.specs.Plans.{Load, SenderItself, SenderProperty, SenderDegree, EdgeValue, same_load, loads_in}
 use Rattle.gm_lowering.specs.Bodies.{under, lines_of}
 use Rattle.gm_lowering.specs.Blocks.{load_index, receiver_env, receiver_site}
 use Rattle.gm_lowering.specs.Showing.{fault_of}
-use Rattle.gm_lowering.specs.Sites.{are_of_scalars, finds, same_length, is_body, given, phase_value, IsInGraph, HoldLocals, HoldProperties, IsApart}
-use Rattle.gm_lowering.specs.OwnLoops.{are_any, puts_to_scalars}
+use Rattle.gm_lowering.specs.Sites.{are_of_scalars, finds, is_body, given, phase_value, IsInGraph, HoldLocals, HoldProperties, IsApart, is_local, same_length}
+use Rattle.gm_lowering.specs.OwnLoops.{puts_to_scalars, folds_to, PicksTyped, HasSpares}
+use Rattle.gm_forms.specs.Typing.{keeps_tuples}
+use Rattle.gm_semantics.specs.declared.slots.Slot.TheVariants.{Scalar}
+use Rattle.gm_typed_stores.specs.Tells.{TypeTable}
+use Rattle.gm_forms.specs.Sharing.{are_distinct, variables_of}
 
 -- whether a load is among some
 abbrev pub has_load : List Load → Load → Bool
@@ -42,24 +46,45 @@ receiver_finds c n i loads e = finds c (n ∷ i ∷ []) true e && list_all (has_
 abbrev pub sets_nothing : ℕ → ℕ → Bool
 sets_nothing x p = false
 
--- whether a target is a property of the receiver that has a field
-abbrev pub is_kept_property : Layout → ℕ → Target → Bool
-is_kept_property c i (T.Scalar x at) = false
-is_kept_property c i (T.Property x p at) = nat_eq x i && c.is_kept p
-
--- it folds to its own properties
-abbrev pub folds_to : Layout → ℕ → (Expr → Bool) → Reduce → List Target → List Expr → Bool
-folds_to c i found r ts es = are_any ts && (list_all (is_kept_property c i) ts && (same_length ts es && list_all found es))
-
 -- it puts to scalars of the procedure, or folds
 abbrev pub receiver_gives : Layout → ℕ → (Expr → Bool) → Reduce → List Target → List Expr → Bool
 receiver_gives c i found r ts es = puts_to_scalars c found r ts es || folds_to c i found r ts es
+
+-- whether a variable is a local of inner loops
+abbrev pub is_inner_local : Layout → ℕ → Bool
+is_inner_local c x = is_local c x && nat_lt 1 (variable_at c.declarations x).depth
+
+-- an inner body keeps in one of its locals the better of what it holds and a value, by Min or Max
+abbrev pub picks_inside : Layout → (Expr → Bool) → Reduce → List Target → List Expr → Bool
+picks_inside c found r (T.Scalar x at ∷ []) (e ∷ []) = keeps_tuples r && (is_inner_local c x && found e)
+picks_inside c found r _ _ = false
+
+-- whether a target is such a local
+abbrev pub is_inner_target : Layout → Target → Bool
+is_inner_target c (T.Scalar x at) = is_inner_local c x
+is_inner_target c (T.Property x p at) = false
+
+-- it keeps a tuple in several of these, each named once
+abbrev pub tuples_inside : Layout → (Expr → Bool) → Reduce → List Target → List Expr → Bool
+tuples_inside c found r (t ∷ (u ∷ ts)) es =
+    let all = t ∷ (u ∷ ts) in keeps_tuples r && (list_all (is_inner_target c) all && (are_distinct (variables_of all) && (same_length all es && list_all found es)))
+tuples_inside c found r _ es = false
+
+-- the receiver of a message puts, folds, or keeps a value or a tuple
+abbrev pub message_gives : Layout → ℕ → (Expr → Bool) → Reduce → List Target → List Expr → Bool
+message_gives c i found r ts es = receiver_gives c i found r ts es || (picks_inside c found r ts es || tuples_inside c found r ts es)
+
+-- where an inner body picks, it has types in each turn of its loop, from a node to a node
+abbrev pub TurnsTyped : Layout → TypeTable → List ℕ → Option VType → Loop → ℕ → Stmt → Store → Type 0
+TurnsTyped c table its result loop i body r =
+    (k j : ℕ) → k < node_count loop.graph → j < node_count loop.graph
+    → PicksTyped c table its result loop body (begun (write (write r (Scalar loop.outer) (At (Some k))) (Scalar i) (At (Some j))))
 
 -- the lines of the handler of a message loop
 abbrev pub handler_lines : Layout → Segment → ℕ → ℕ → List Load → ℕ → Key → Expr → Stmt → List Line
 handler_lines c seg n i loads kind key test body = under (term (receiver_env c seg n i loads) key test) (lines_of (receiver_site c seg n i loads) kind body)
 
--- an inner loop of a loop that is evaluated at the receivers of messages: its iterators are two and no locals, and it does what a receiver may
+-- an inner loop of a loop that is evaluated at the receivers of messages: its iterators are two and no locals, it does what a receiver may, and it has spare registers for its tuples
 pub record IsMessageLoop (c : Layout) (registers : List VType) (fields : ℕ) (loop : Loop) (i : ℕ) (loads : List Load) (test : Expr) (body : Stmt) : Type 0 where
   pub apart : IsApart c (length registers) fields
   pub outer : is_register (variable_at c.declarations loop.outer) ≡ false
@@ -68,7 +93,8 @@ pub record IsMessageLoop (c : Layout) (registers : List VType) (fields : ℕ) (l
   pub types : (x : ℕ) → loop.vtype x ≡ (variable_at c.declarations x).vtype
   pub depths : (x : ℕ) → loop.depth x ≡ (variable_at c.declarations x).depth
   pub found : receiver_finds c loop.outer i loads test ≡ true
-  pub fits : is_body c (receiver_finds c loop.outer i loads) sets_nothing (receiver_gives c i (receiver_finds c loop.outer i loads)) body ≡ true
+  pub fits : is_body c (receiver_finds c loop.outer i loads) sets_nothing (message_gives c i (receiver_finds c loop.outer i loads)) body ≡ true
+  pub spares : HasSpares c (length registers) (body_positions c.declarations body)
 
 -- what a load has: at a sender, and along an edge
 abbrev pub load_value : View → ℕ → Load → Value
@@ -114,12 +140,13 @@ abbrev pub RunEnds : Layout → Env → Iteration → After → Option Fault →
 RunEnds c v it a None = (a.fault ≡ None) × ReceiverGave c v it a.state
 RunEnds c v it a (Some f) = (a.fault ≡ Some (fault_of v f)) × ReceiverGave c v it a.state
 
--- the run of the handler of a message is the inner loop's turn at its edge
+-- the run of the handler of a message is the inner loop's turn at its edge, where what it picks has types
 abbrev pub HandlersAreTurns : Type 0
 HandlersAreTurns =
     (c : Layout) (seg : Segment) (registers : List VType) (fields : ℕ) (loop : Loop) (i : ℕ) (loads : List Load) (kind : ℕ) (key : Key) (test : Expr) (body : Stmt)
-    (s : VertexContext) (values : List Value) (k edge : ℕ) (r : Store)
+    (s : VertexContext) (values : List Value) (k edge : ℕ) (r : Store) (table : TypeTable) (its : List ℕ) (result : Option VType)
     → IsMessageLoop c registers fields loop i loads test body
+    → PicksTyped c table its result loop body (begun (write r (Scalar i) (At (Some s.node))))
     → s.graph ≡ loop.graph
     → MessageShows c loop.graph registers fields s.globals values s.message loop.outer loads (view_in loop (AtEdge edge) (begun r) key) k s.node r
     → let it = turn_at loop (AtEdge edge) key test (does body (AtEdge edge) loop) i s.node r in

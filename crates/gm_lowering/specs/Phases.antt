@@ -1,5 +1,5 @@
 -- Between statements of a sequential phase: what globals and nodes show of a store, and when supersteps are a parallel loop.
-use Rattle.std.specs.Prelude.{◌≡◌, ◌≢◌, ◌<◌, ◌≤◌, ◌+◌, ℕ, true, false, Some, None, Result, Ok, Err, List, [], ◌++◌, ◌∷◌, length, map, slice_index_or}
+use Rattle.std.specs.Prelude.{Option, ◌≡◌, ◌≢◌, ◌<◌, ℕ, true, false, Some, None, Result, Ok, Err, List, [], ◌++◌, ◌∷◌, length, map, slice_index_or}
 use Rattle.gm_value.specs.declared.values.VType.{VType}
 use Rattle.gm_value.specs.declared.values.Value.{Value}
 use Rattle.gm_value.specs.Bag.{IsIn}
@@ -12,12 +12,12 @@ use Rattle.gm_ast.specs.Program.{Expr, Stmt}
 use Rattle.gm_semantics.specs.declared.faults.Fault.{Fault}
 use Rattle.gm_semantics.specs.Contributions.{Contribution, statement_of}
 use Rattle.gm_semantics.specs.Faults.{joined}
-use Rattle.gm_semantics.specs.Iterations.{Loop}
+use Rattle.gm_semantics.specs.Iterations.{Loop, begun}
 use Rattle.gm_semantics.specs.Laws.{OneReduction}
 use Rattle.gm_semantics.specs.Levels.{nodes}
 use Rattle.gm_semantics.specs.Loops.{iteration, parallel}
 use Rattle.gm_semantics.specs.Statements.{variable_at}
-use Rattle.gm_semantics.specs.Stores.{Store}
+use Rattle.gm_semantics.specs.Stores.{Store, write}
 use Rattle.gm_image.specs.Program.{Program}
 use Rattle.gm_machine.specs.Expressions.{value_at, edge_value_at}
 use Rattle.gm_machine.specs.Machine.{Nodes, Stepped, block_at, superstep}
@@ -27,8 +27,11 @@ use Rattle.gm_lowering.specs.Terms.{Env, own_env}
 use Rattle.gm_lowering.specs.Bodies.{spots_of}
 use Rattle.gm_lowering.specs.Showing.{fault_of}
 use Rattle.gm_lowering.specs.Sites.{phase_value, IsInGraph, HoldLocals, HoldProperties}
-use Rattle.gm_lowering.specs.OwnLoops.{IsOwnLoop, own_block}
+use Rattle.gm_lowering.specs.OwnLoops.{IsOwnLoop, own_block, PicksTyped}
 use Rattle.gm_lowering.specs.Settles.{HasSpot, spot_of_fault, HaveRoom}
+use Rattle.gm_value.specs.declared.values.Value.TheVariants.{At}
+use Rattle.gm_semantics.specs.declared.slots.Slot.TheVariants.{Scalar}
+use Rattle.gm_typed_stores.specs.Tells.{TypeTable}
 
 -- the globals of the procedure's scalars are in range and apart from each other
 pub record GlobalsApart (c : Layout) (globals : ℕ) : Type 0 where
@@ -85,11 +88,12 @@ given_in loop key test body r = joined (map (λ it. it.with_outermost) (map (ite
 abbrev pub own_spots : Layout → ℕ → Key → Expr → Stmt → List Spot
 own_spots c n key test body = spots_in test key ++ spots_of c n (n ∷ []) true body
 
--- one superstep with an own loop's block is the loop
+-- one superstep with an own loop's block is the loop, where what it picks has types
 abbrev pub OwnLoopsAreSupersteps : Type 0
 OwnLoopsAreSupersteps =
-    (c : Layout) (p : Program) (fields base q kind : ℕ) (loop : Loop) (key : Key) (test : Expr) (body : Stmt) (globals : List Value) (s : Nodes) (r : Store)
+    (c : Layout) (p : Program) (fields base q kind : ℕ) (loop : Loop) (key : Key) (test : Expr) (body : Stmt) (globals : List Value) (s : Nodes) (r : Store) (table : TypeTable) (its : List ℕ) (result : Option VType)
     → IsOwnLoop c p.registers fields loop test body
+    → ((k : ℕ) → k < node_count loop.graph → PicksTyped c table its result loop body (begun (write r (Scalar loop.outer) (At (Some k)))))
     → GlobalsApart c (length globals)
     → HaveRoom base (own_spots c loop.outer key test body) (length p.places)
     → block_at p q ≡ own_block c (segment base (own_spots c loop.outer key test body)) loop.outer kind key test body

@@ -1,5 +1,5 @@
 -- A message loop's second superstep, at one vertex: its handlers are the turns that reach its node.
-use Rattle.std.specs.Prelude.{◌≡◌, ◌<◌, ◌≤◌, ◌+◌, ℕ, suc, true, false, Some, List, [], ◌∷◌, ◌++◌, length, map, filter}
+use Rattle.std.specs.Prelude.{◌≡◌, ◌<◌, ℕ, suc, true, false, Some, List, [], ◌∷◌, ◌++◌, length, map, filter, Option}
 use Rattle.gm_value.specs.declared.values.Value.{Value}
 use Rattle.gm_value.specs.declared.values.Value.TheVariants.{At}
 use Rattle.gm_value.specs.Bag.{IsIn}
@@ -24,9 +24,11 @@ use Rattle.gm_lowering.specs.Bodies.{spots_of}
 use Rattle.gm_lowering.specs.Blocks.{receiver_env}
 use Rattle.gm_lowering.specs.Sites.{given}
 use Rattle.gm_lowering.specs.OwnLoops.{NodeShows}
-use Rattle.gm_lowering.specs.MessageLoops.{handler_lines, IsMessageLoop, Carries, is_to_scalars, is_to_nodes}
+use Rattle.gm_lowering.specs.MessageLoops.{handler_lines, IsMessageLoop, Carries, is_to_scalars, is_to_nodes, TurnsTyped}
 use Rattle.gm_lowering.specs.Settles.{HasSpot, fault_or_none, HaveRoom}
 use Rattle.gm_lowering.specs.Phases.{GivesApart}
+use Rattle.gm_value.specs.declared.values.VType.{VType}
+use Rattle.gm_typed_stores.specs.Tells.{TypeTable}
 
 -- the block of the receivers
 abbrev pub receive_block : Layout → Segment → ℕ → ℕ → List Load → ℕ → Key → Expr → Stmt → Block
@@ -69,8 +71,9 @@ inner_spots c n i key test body = spots_in test key ++ spots_of c i (n ∷ i ∷
 abbrev pub ReceivingStepsAreTurns : Type 0
 ReceivingStepsAreTurns =
     (c : Layout) (p : Program) (fields base : ℕ) (all : List Spot) (loop : Loop) (i : ℕ) (loads : List Load) (kind : ℕ) (key : Key) (test : Expr) (body : Stmt)
-    (globals values : List Value) (j : ℕ) (r : Store) (xs : List (ℕ × Step)) (message : ℕ × Step → Message)
+    (globals values : List Value) (j : ℕ) (r : Store) (xs : List (ℕ × Step)) (message : ℕ × Step → Message) (table : TypeTable) (its : List ℕ) (result : Option VType)
     → IsMessageLoop c p.registers fields loop i loads test body
+    → TurnsTyped c table its result loop i body r
     → ((f : Spot) → HasSpot f (inner_spots c loop.outer i key test body) → HasSpot f all)
     → HaveRoom base all (length p.places)
     → NodeShows c loop.graph p.registers fields globals values j r

@@ -17,9 +17,8 @@ use Rattle.gm_lowering.specs.Terms.{Env}
 use Rattle.gm_lowering.specs.Plans.{Away}
 use Rattle.gm_lowering.specs.Blocks.{taking_handlers}
 use Rattle.gm_lowering.specs.Sites.{same_length, IsApart}
-use Rattle.gm_lowering.specs.OwnLoops.{are_any}
+use Rattle.gm_lowering.specs.OwnLoops.{are_any, is_kept_property}
 use Rattle.gm_lowering.specs.Phases.{Shown, StepIs, GivesApart}
-use Rattle.gm_lowering.specs.MessageLoops.{is_kept_property}
 use Rattle.gm_lowering.specs.Settles.{HasSpot, HaveRoom}
 use Rattle.gm_lowering.specs.Takings.{slots_at}
 

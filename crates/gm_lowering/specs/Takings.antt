@@ -13,8 +13,7 @@ use Rattle.gm_lowering.specs.Terms.{Env}
 use Rattle.gm_lowering.specs.Plans.{Away}
 use Rattle.gm_lowering.specs.Blocks.{taking_handler}
 use Rattle.gm_lowering.specs.Sites.{same_length, given}
-use Rattle.gm_lowering.specs.OwnLoops.{are_any}
-use Rattle.gm_lowering.specs.MessageLoops.{is_kept_property}
+use Rattle.gm_lowering.specs.OwnLoops.{are_any, is_kept_property}
 
 -- the slots of properties at a node
 abbrev pub slots_at : ℕ → List Target → List Slot

@@ -1,5 +1,5 @@
 -- Two supersteps are a message loop.
-use Rattle.std.specs.Prelude.{◌≡◌, ◌<◌, ◌≤◌, ◌+◌, ◌⊎◌, ℕ, nat_lt, Bool, true, ◌&&◌, None, List, [], ◌++◌, length}
+use Rattle.std.specs.Prelude.{◌≡◌, ◌<◌, ◌⊎◌, ℕ, nat_lt, Bool, true, ◌&&◌, None, List, [], ◌++◌, length, Option}
 use Rattle.std.specs.List.{list_all}
 use Rattle.gm_value.specs.declared.values.Value.{Value}
 use Rattle.gm_value.specs.Bag.{IsIn}
@@ -25,11 +25,13 @@ use Rattle.gm_lowering.specs.Places.{Spot, segment, spots_in}
 use Rattle.gm_lowering.specs.Plans.{Load, SenderItself, SenderProperty, SenderDegree, EdgeValue}
 use Rattle.gm_lowering.specs.Blocks.{direction_of, receiver_env}
 use Rattle.gm_lowering.specs.OwnLoops.{own_finds}
-use Rattle.gm_lowering.specs.MessageLoops.{IsMessageLoop}
+use Rattle.gm_lowering.specs.MessageLoops.{IsMessageLoop, TurnsTyped}
 use Rattle.gm_lowering.specs.Sends.{send_block}
 use Rattle.gm_lowering.specs.Receiving.{receive_block, inner_spots}
 use Rattle.gm_lowering.specs.Phases.{GlobalsApart, NodesInGraph, EdgesShown, Shown, StepIs, GivesApart, given_in}
 use Rattle.gm_lowering.specs.Settles.{HaveRoom}
+use Rattle.gm_value.specs.declared.values.VType.{VType}
+use Rattle.gm_typed_stores.specs.Tells.{TypeTable}
 
 -- whether a sender can read a load: its property has a field, and the edge's is one of edges
 abbrev pub is_readable : Layout → Load → Bool
@@ -54,16 +56,17 @@ pub record HasSender (c : Layout) (loop : Loop) (mask_key : Key) (mask : Expr) (
   pub quiet : spots_in mask mask_key ≡ []
   pub readable : list_all (is_readable c) loads ≡ true
 
--- a superstep with the send block and one with the receivers' block are the loop: the first has no fault and leaves the globals
+-- a superstep with the send block and one with the receivers' block are the loop, where what it picks has types: the first has no fault and leaves the globals
 abbrev pub MessageLoopsAreTwoSupersteps : Type 0
 MessageLoopsAreTwoSupersteps =
     (c : Layout) (p : Program) (fields base q q2 kind : ℕ) (all : List Spot) (loop : Loop) (mask_key : Key) (mask : Expr) (key : Key) (place : Place) (h : Head) (test : Expr) (body : Stmt) (loads : List Load)
-    (globals : List Value) (s : Nodes) (r : Store)
+    (globals : List Value) (s : Nodes) (r : Store) (table : TypeTable) (its : List ℕ) (result : Option VType)
     → let inner = Foreach key place h test body in
     let seg = segment base all in
     let first = superstep p loop.graph q globals s in
     HasSender c loop mask_key mask h loads
     → IsMessageLoop c p.registers fields loop h.iterator loads test body
+    → TurnsTyped c table its result loop h.iterator body r
     → GlobalsApart c (length globals)
     → all ≡ spots_in mask mask_key ++ inner_spots c loop.outer h.iterator key test body
     → HaveRoom base all (length p.places)

@@ -20,6 +20,8 @@ ghost use Rattle.gm_lowering.specs.Showing.{LiveHasItsValue, TermsHaveValues};
 ghost use Rattle.gm_lowering.specs.Shown.{IndicesShowPlaces};
 ghost use Rattle.gm_lowering.specs.Takings.{TakingHandlersTake};
 ghost use Rattle.gm_lowering.specs.TakingSteps.{TakingBlocksTake};
+ghost use Rattle.gm_lowering.specs.TupleLines.{LayoutsHaveSpares, TupleLinesKeep};
+ghost use Rattle.gm_lowering.specs.Tuples.{ReplacingTells, TuplesAreKept};
 ghost use Rattle.gm_lowering.specs.TwoSupersteps.{MessageLoopsAreTwoSupersteps};
 
 /// The term of an expression has the expression's value, or its first fault at the index of its place, in every view of
@@ -31,7 +33,9 @@ pub fn terms_have_the_values_of_expressions()
 
 /// The step of a vertex with the block of an own loop is the loop's iteration at its node: it has the iteration's fault,
 /// or its fields hold what the iteration leaves there; and what it puts is what the iteration gives, also before a
-/// fault. The loop's reductions go to scalars of the procedure.
+/// fault. The loop's reductions go to scalars of the procedure, or at once to properties of its node; or they keep the
+/// better of two values or tuples in its locals, where the body and the store have the types of the declarations and there
+/// are spare registers for the tuples.
 pub fn own_steps_are_iterations()
     ensures { OwnStepsAreIterations }
 {}
@@ -43,16 +47,34 @@ pub fn reductions_settle_alike()
     ensures { ReductionsSettle }
 {}
 
+/// The term that the lowering makes of two tuples of values, to be kept by Min or Max, is True where the new one takes the
+/// place of the held one: by its first value, or by the rest where these are one. Where both have the types of their slots,
+/// an argument reduction by one tuple leaves one of the two whole.
+pub fn tuples_are_kept_whole()
+    ensures tells { ReplacingTells }
+    ensures kept { TuplesAreKept }
+{}
+
+/// The lines by which an own body keeps a tuple at once in its locals and its node's properties do what the reduction does,
+/// where values have the types of their slots: the state behind them shows the iteration behind it, or they have the first
+/// fault of its values. They use spare registers, which the layout of each program has apart from those of the locals.
+pub fn lines_keep_tuples()
+    ensures lines { TupleLinesKeep }
+    ensures spares { LayoutsHaveSpares }
+{}
+
 /// One superstep of all vertices with the block of an own loop is the loop, where its reductions go to scalars of the
-/// procedure: it has the loop's fault, the least of the operators' and totals', at the index of its place; or globals and
-/// nodes show the store that the loop leaves, no message waits, and the other globals keep their values.
+/// procedure, or at once to properties of its node and to its locals, of values or tuples: it has the loop's fault, the least of the operators'
+/// and totals', at the index of its place; or globals and nodes show the store that the loop leaves, no message waits, and
+/// the other globals keep their values.
 pub fn own_loops_are_supersteps()
     ensures { OwnLoopsAreSupersteps }
 {}
 
 /// The run of the handler of a message that carries what the receiver reads of its sender is the inner loop's turn at the
 /// edge along which the message came: it has the turn's fault; and what it puts to scalars and folds to properties of the
-/// receiver is what the turn gives, also before a fault.
+/// receiver is what the turn gives, also before a fault. The body may keep the better of two values or tuples in its locals,
+/// where it and the store have the types of the declarations and there are spare registers for the tuples.
 pub fn handlers_are_turns()
     ensures { HandlersAreTurns }
 {}
@@ -73,7 +95,8 @@ pub fn receiving_steps_are_turns()
 /// A message loop is two supersteps: the first has no fault and leaves the globals; the second has the loop's fault, the least
 /// of the operators' and totals', at the index of its place, or globals and nodes show the store that the loop leaves, no
 /// message waits, and the other globals keep their values. Its reductions go to scalars of the procedure and to properties
-/// of the inner iterator.
+/// of the inner iterator, or at once to locals of the inner loop, of values or tuples, where these have the types of the
+/// declarations.
 pub fn message_loops_are_two_supersteps()
     ensures { MessageLoopsAreTwoSupersteps }
 {}

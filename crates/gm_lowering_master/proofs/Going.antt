@@ -1,5 +1,5 @@
 -- Loops of each kind go in the master list.
-use Rattle.std.proofs.Common.{◌≡◌, ◌<◌, ◌≤◌, ◌⊎◌, inl, inr, ℕ, suc, Bool, true, false, cond, Option, Some, None, Result, Ok, Err, List, [], ◌∷◌, ◌++◌, length, map, refl, ap, ◌∙◌, sym, subst, arith, ⊎_elim}
+use Rattle.std.proofs.Common.{◌≡◌, ◌<◌, ◌≤◌, inl, inr, ℕ, suc, Bool, true, false, cond, Option, Some, None, Result, Ok, Err, List, [], ◌∷◌, ◌++◌, length, map, refl, ap, ◌∙◌, sym, subst, arith, ⊎_elim}
 use Rattle.std.specs.Prelude.{◌+◌, ◌&&◌, ◌||◌, nat_eq, not, filter, if◌then◌else◌}
 use Rattle.std.specs.List.{list_all, list_any, enumerate_from, AllByRecursion}
 use Rattle.std.proofs.lemmas.Bool.{both_ways, lt-ltb}
@@ -25,7 +25,7 @@ use Rattle.gm_semantics.specs.declared.slots.Slot.TheVariants as slots
 use Rattle.gm_semantics.specs.declared.slots.Write.{Write}
 use Rattle.gm_semantics.specs.Contributions.{settled_store, total_faults, Contribution}
 use Rattle.gm_semantics.specs.Faults.{least, somes, joined, unless_fault}
-use Rattle.gm_semantics.specs.Iterations.{Loop, Iteration}
+use Rattle.gm_semantics.specs.Iterations.{Loop, Iteration, begun}
 use Rattle.gm_semantics.specs.Levels.{nodes, numbers_from}
 use Rattle.gm_semantics.specs.Loops.{iteration, is_elsewhere, pushes, own_left, parallel}
 use Rattle.gm_semantics.specs.Statements.{State, variable_at}
@@ -41,11 +41,11 @@ use Rattle.gm_lowering.specs.Plans.{way_of, away_by, aways, carried, Load, Away}
 use Rattle.gm_lowering.specs.Blocks.{Lowered, loop, own_loop, each_loop, message_loop, direction_of, taking_blocks, receiver_env}
 use Rattle.gm_lowering.specs.Showing.{fault_of}
 use Rattle.gm_lowering.specs.Sites.{is_body}
-use Rattle.gm_lowering.specs.OwnLoops.{IsOwnLoop, own_block, own_finds, own_sets, puts_to_scalars, are_any}
+use Rattle.gm_lowering.specs.OwnLoops.{IsOwnLoop, own_block, own_finds, own_sets, own_gives, puts_to_scalars, folds_at_once, are_any, is_kept_property, folds_to, keeps_at_once, PicksTyped}
 use Rattle.gm_lowering.specs.Phases.{GlobalsApart, EdgesShown, StepIs, own_spots, GivesApart, given_in}
 use Rattle.gm_lowering.specs.Settles.{HasSpot, HaveRoom, spot_of_fault}
 use Rattle.gm_lowering.specs.Shown.{ShowOne}
-use Rattle.gm_lowering.specs.MessageLoops.{IsMessageLoop, is_kept_property, sets_nothing, folds_to, receiver_finds, receiver_gives}
+use Rattle.gm_lowering.specs.MessageLoops.{IsMessageLoop, sets_nothing, receiver_finds, receiver_gives, message_gives, picks_inside, TurnsTyped, tuples_inside}
 use Rattle.gm_lowering.specs.Sends.{send_block}
 use Rattle.gm_lowering.specs.Receiving.{receive_block, inner_spots}
 use Rattle.gm_lowering.specs.TwoSupersteps.{IsInside, StepsWithin}
@@ -62,17 +62,28 @@ use Rattle.gm_lowering.proofs.HomeLoops.{home-loops}
 use Rattle.gm_lowering.proofs.Orders.{HasFault, fault-has, ascending-has}
 use Rattle.gm_lowering.proofs.OwnLoops.{own-loops}
 use Rattle.gm_lowering.proofs.PutFacts.{puts-way}
-use Rattle.gm_lowering.proofs.Receivers.{folds-way}
+use Rattle.gm_lowering.proofs.Givens.{folds-way}
 use Rattle.gm_lowering.proofs.TwoSupersteps.{message-loops}
 use Rattle.gm_lowering.proofs.SenderSupersteps.{sending-loops, sending-supersteps}
 use Rattle.gm_lowering_master.specs.Runs.{supersteps, StandsAt}
 use Rattle.gm_lowering_master.specs.Cells.{Cell, OfScalar, OfResult, CounterOf, FlagOf, is_scalar, Setting, IsSetting, Between}
 use Rattle.gm_lowering_master.specs.Follows.{IsFault, StepsAre, IsPoint, LoopGoes}
-use Rattle.gm_lowering_master.specs.Going.{phase_loop, GiveApart, OwnLoopsGo, IsMessage, MessageLoopsGo, IsHome, HomeLoopsGo, IsSending, SendingLoopsGo}
+use Rattle.gm_lowering_master.specs.Going.{phase_loop, GiveApart, OwnLoopsGo, IsMessage, MessageLoopsGo, IsHome, HomeLoopsGo, IsSending, SendingLoopsGo, HasBodySpares}
 use Rattle.gm_lowering_master.proofs.Indices.{place-found}
 use Rattle.gm_lowering_master.proofs.Ranks.{get-within}
 use Rattle.gm_lowering_master.proofs.SentLast.{totals-last}
 use Rattle.gm_lowering_master.proofs.Standing.{get-is-index_or}
+use Rattle.gm_lowering.proofs.OwnFolds.{fold-way}
+use Rattle.gm_lowering.proofs.OwnFacts.{keep-way}
+use Rattle.gm_semantics.specs.declared.slots.Slot.TheVariants.{Scalar}
+use Rattle.gm_value.specs.declared.values.Value.TheVariants.{At}
+use Rattle.gm_forms.specs.Typing.{is_typed_in}
+use Rattle.gm_forms.specs.Uses.{uses_in, uses_of, uses_of_head}
+use Rattle.gm_typed_stores.specs.Tells.{takes_nodes, tells, tells_in}
+use Rattle.gm_typed_stores.specs.Stores.{IsGraphBelow}
+use Rattle.gm_typed_stores.proofs.Expressions.{split}
+use Rattle.gm_typed_stores.proofs.Kept.{enter}
+use Rattle.gm_lowering.proofs.InnerPicks.{pick-way, inside-way}
 
 -- a spot that is found is a member
 has-member : (z : Spot) (spots : List Spot) → HasSpot z spots → IsIn z spots
@@ -189,6 +200,16 @@ gives-nothing-away : (c : Layout) (i : ℕ) (found : Expr → Bool) (r : Reduce)
 gives-nothing-away c i found r ts es total h =
     or-cases (puts_to_scalars c found r ts es) (folds_to c i found r ts es) h (puts-nothing-away c i found r ts es total) (folds-nothing-away c i found r ts es total)
 
+message-nothing-away : (c : Layout) (loop : Loop) (depth_is : (x : ℕ) → loop.depth x ≡ (variable_at c.declarations x).depth) (i : ℕ) (found : Expr → Bool) (r : Reduce) (ts : List Target) (es : List Expr) (total : TotalKey) → message_gives c i found r ts es ≡ true → away_by (way_of c.declarations i ts) total r ts ≡ []
+message-nothing-away c loop depth_is i found r ts es total h =
+    or-cases (receiver_gives c i found r ts es) (picks_inside c found r ts es || tuples_inside c found r ts es) h (gives-nothing-away c i found r ts es total) (λ q.
+    or-cases (picks_inside c found r ts es) (tuples_inside c found r ts es) q (λ p. ap (λ w. away_by w total r ts) (pick-way c i found r ts es p)) (λ p. ap (λ w. away_by w total r ts) (inside-way c loop depth_is i found r ts es p)))
+
+own-nothing-away : (c : Layout) (n : ℕ) (r : Reduce) (ts : List Target) (es : List Expr) (total : TotalKey) → own_gives c n (own_finds c n) r ts es ≡ true → away_by (way_of c.declarations n ts) total r ts ≡ []
+own-nothing-away c n r ts es total h =
+    or-cases (puts_to_scalars c (own_finds c n) r ts es) (folds_at_once c n (own_finds c n) r ts es || keeps_at_once c n (own_finds c n) r ts es) h (puts-nothing-away c n (own_finds c n) r ts es total) (λ i.
+    or-cases (folds_at_once c n (own_finds c n) r ts es) (keeps_at_once c n (own_finds c n) r ts es) i (λ f. ap (λ w. away_by w total r ts) (fold-way c n r ts es f)) (λ f. ap (λ w. away_by w total r ts) (keep-way c n r ts es f)))
+
 -- a body that is no loop is lowered as one of own statements
 own-is : (c : Layout) (base kind n : ℕ) (k : Key) (test : Expr) (found : Expr → Bool) (sets : ℕ → ℕ → Bool) (gives : Reduce → List Target → List Expr → Bool) (st : Stmt) → is_body c found sets gives st ≡ true
     → loop c base kind n k test st ≡ own_loop c base kind n k test st
@@ -282,12 +303,58 @@ module _ (s : Setting) (is' : IsSetting s) where
   edges-stay : (l : Loop) (key : Key) (test : Expr) (body : Stmt) (ks : List ℕ) (globals : List Value) (held : Nodes) (r q : Store) → Between s globals held r → parallel l key test body ks r ≡ Ok q → EdgesShown c s.run.graph q
   edges-stay l key test body ks globals held r q between e p d lt o less = between.edges p d lt o less ∙ ap (λ f. f p d) (sym (loop-edges l key test body ks r q e))
 
+-- the body of a loop has types where each of its iterations begins
+typed-start : (s : Setting) (is' : IsSetting s) (its : List ℕ) (k : Key) (place : Place) (h : Head) (test : Expr) (body : Stmt) (state : State) → IsPoint s its (S.Foreach k place h test body) state
+    → (i : ℕ) → i < node_count s.run.graph → PicksTyped s.frame.layout s.table (h.iterator ∷ its) s.result (phase_loop s h.iterator body) body (begun (write state.store (Scalar h.iterator) (At (Some i))))
+typed-start s is' its k place h test body state point i lt picks =
+    let table = s.table in
+    let is = point.typed.statement in
+    let graph : IsGraphBelow table.limit s.run.graph = record { graph = is'.graph; nodes = is'.below } in
+    let t = both-true _ (is_typed_in table.declarations s.result body) is.typed in
+    let u = split table.declarations (uses_in test) (uses_of body) (split table.declarations (uses_of_head h) (uses_in test ++ uses_of body) is.named).1 in
+    let w = both-true (takes_nodes table h.iterator) (tells table (h.iterator ∷ its) test && tells_in table (h.iterator ∷ its) body) is.tells in
+    record {
+      declarations = is'.types;
+      around = record { graph = graph; types = λ x. type-is s is' x ∙ ap (λ ds. (variable_at ds x).vtype) (sym is'.types) };
+      statement = record { typed = t.1; named = u.1; tells = (both-true (tells table (h.iterator ∷ its) test) (tells_in table (h.iterator ∷ its) body) w.1).1 };
+      iteration = record { store = enter table its h.iterator i s.run.graph state.store graph w.0 lt point.typed.store; with_inner = tt; with_outermost = tt; deferred = tt };
+    }
+
+-- and so has the body of an inner loop where each of its turns begins
+typed-turns : (s : Setting) (is' : IsSetting s) (its : List ℕ) (k : Key) (place : Place) (outer : Head) (mask : Expr) (j : Key) (inner_place : Place) (h : Head) (test : Expr) (body : Stmt) (state : State)
+    → IsPoint s its (S.Foreach k place outer mask (S.Foreach j inner_place h test body)) state
+    → TurnsTyped s.frame.layout s.table (h.iterator ∷ (outer.iterator ∷ its)) s.result (phase_loop s outer.iterator (S.Foreach j inner_place h test body)) h.iterator body state.store
+typed-turns s is' its k place outer mask j inner_place h test body state point a b from to picks =
+    let table = s.table in
+    let inner = S.Foreach j inner_place h test body in
+    let around = outer.iterator ∷ its in
+    let is = point.typed.statement in
+    let graph : IsGraphBelow table.limit s.run.graph = record { graph = is'.graph; nodes = is'.below } in
+    let t = both-true _ (is_typed_in table.declarations s.result body) (both-true _ (is_typed_in table.declarations s.result inner) is.typed).1 in
+    let named = (split table.declarations (uses_in mask) (uses_of inner) (split table.declarations (uses_of_head outer) (uses_in mask ++ uses_of inner) is.named).1).1 in
+    let u = split table.declarations (uses_in test) (uses_of body) (split table.declarations (uses_of_head h) (uses_in test ++ uses_of body) named).1 in
+    let w = both-true (takes_nodes table outer.iterator) (tells table around mask && tells_in table around inner) is.tells in
+    let told = (both-true (tells table around mask) (tells_in table around inner) w.1).1 in
+    let w2 = both-true (takes_nodes table h.iterator) (tells table (h.iterator ∷ around) test && tells_in table (h.iterator ∷ around) body) told in
+    let entered = enter table its outer.iterator a s.run.graph state.store graph w.0 from point.typed.store in
+    record {
+      declarations = is'.types;
+      around = record { graph = graph; types = λ x. type-is s is' x ∙ ap (λ ds. (variable_at ds x).vtype) (sym is'.types) };
+      statement = record { typed = t.1; named = u.1; tells = (both-true (tells table (h.iterator ∷ around) test) (tells_in table (h.iterator ∷ around) body) w2.1).1 };
+      iteration = record {
+        store = enter table around h.iterator b s.run.graph (write state.store (Scalar outer.iterator) (At (Some a))) graph w2.0 to entered;
+        with_inner = tt;
+        with_outermost = tt;
+        deferred = tt;
+      };
+    }
+
 pub own-loops-go : OwnLoopsGo
-own-loops-go s at k place h test body is' own apart =
+own-loops-go s at k place h test body is' own spares apart =
     subst (λ l. GoesAs s at l k place h test body) (sym lowered-is) (λ blocks places globals held its state between point.
     step-is s (own_env c seg n) at.place spots refl places own.shows globals (parallel loop' k test body (nodes s.run.graph) state.store) (superstep s.image s.run.graph at.block globals held)
     between.count (λ r e. edges-stay s is' loop' k test body (nodes s.run.graph) globals held state.store r between e)
-    (own-loops c s.image (length s.image.fields) at.place at.block at.kind loop' k test body globals held state.store able (globals-apart s is' globals between.count) (have-room s.image.places at.place spots places)
+    (own-loops c s.image (length s.image.fields) at.place at.block at.kind loop' k test body globals held state.store s.table (n ∷ its) s.result able (λ i lt. typed-start s is' its k place h test body state point i lt) (globals-apart s is' globals between.count) (have-room s.image.places at.place spots places)
     (block-found s.image at.block (own_block c seg n at.kind k test body) blocks) between.shown point.in_graph (apart its state point))) where
       c : Layout
       c = s.frame.layout
@@ -305,13 +372,13 @@ own-loops-go s at k place h test body is' own apart =
       seg = segment at.place spots
 
       able : IsOwnLoop c s.image.registers (length s.image.fields) loop' test body
-      able = record { apart = is'.rows; iterator = own.iterator; types = type-is s is'; depths = depth-is s is'; found = own.found; fits = own.fits }
+      able = record { apart = is'.rows; iterator = own.iterator; types = type-is s is'; depths = depth-is s is'; found = own.found; fits = own.fits; spares = spares }
 
       lowered-is : loop c at.place at.kind n k test body ≡ record { blocks = own_block c seg n at.kind k test body ∷ []; segment = seg }
       lowered-is =
-          own-is c at.place at.kind n k test (own_finds c n) (own_sets c n) (puts_to_scalars c (own_finds c n)) body own.fits
+          own-is c at.place at.kind n k test (own_finds c n) (own_sets c n) (own_gives c n (own_finds c n)) body own.fits
           ∙ ap (λ ys. record { blocks = own_block c seg n at.kind k test body ∷ taking_blocks c seg at.kind ys; segment = seg })
-          (sends-nothing c n (own_finds c n) (own_sets c n) (puts_to_scalars c (own_finds c n)) (puts-nothing-away c n (own_finds c n)) body own.fits)
+          (sends-nothing c n (own_finds c n) (own_sets c n) (own_gives c n (own_finds c n)) (own-nothing-away c n) body own.fits)
 
 module _ (s : Setting) (at : L.At) (k : Key) (place : Place) (outer : Head) (mask : Expr) (j : Key) (inner_place : Place) (h : Head) (test : Expr) (body : Stmt) (is' : IsSetting s) where
   abbrev c' : Layout
@@ -335,15 +402,15 @@ module _ (s : Setting) (at : L.At) (k : Key) (place : Place) (outer : Head) (mas
   abbrev meant : State → Result Store Fault
   meant state = parallel loops k mask inner (nodes g) state.store
 
-  message-goes : IsMessage c' n k mask j h test body → ((its : List ℕ) (state : State) → IsPoint s its (S.Foreach k place outer mask inner) state → GivesApart (given_in loops k mask inner state.store))
+  message-goes : IsMessage c' n k mask j h test body → HasBodySpares s body → ((its : List ℕ) (state : State) → IsPoint s its (S.Foreach k place outer mask inner) state → GivesApart (given_in loops k mask inner state.store))
       → LoopGoes s at k place outer mask inner
-  message-goes m apart =
+  message-goes m spares apart =
       subst AsLoop (sym lowered-is) (λ blocks places globals held its state between point.
       let first = superstep s.image g at.block globals held in
       let second = superstep s.image g (suc at.block) first.globals first.nodes in
       let law =
-      message-loops c' s.image (length s.image.fields) at.place at.block (suc at.block) at.kind spots loops k mask j inner_place h test body loads globals held state.store
-      (record { neighbours = m.nested.neighbours; owner = m.nested.owner; found = m.masked; quiet = m.quiet; readable = m.readable }) able (globals-apart s is' globals between.count) refl (have-room s.image.places at.place spots places)
+      message-loops c' s.image (length s.image.fields) at.place at.block (suc at.block) at.kind spots loops k mask j inner_place h test body loads globals held state.store s.table (h.iterator ∷ (outer.iterator ∷ its)) s.result
+      (record { neighbours = m.nested.neighbours; owner = m.nested.owner; found = m.masked; quiet = m.quiet; readable = m.readable }) able (typed-turns s is' its k place outer mask j inner_place h test body state point) (globals-apart s is' globals between.count) refl (have-room s.image.places at.place spots places)
       (get-is-index_or s.image.blocks at.block send _ blocks.0) (get-is-index_or s.image.blocks (suc at.block) receive _ blocks.1.0) between.shown between.edges point.in_graph (steps-inside g h.domain is'.graph) (apart its state point) in
       subst (λ o. StepsAre s globals (meant state) (step_ends o (λ f. first) (step_ends second.fault (λ f. second) (rest_of second)))) (sym law.0)
       (step-is s (receiver_env c' seg n h.iterator loads) at.place spots refl places m.shows globals (meant state) second between.count (λ r e. edges-stay s is' loops k mask inner (nodes g) globals held state.store r between e) law.2)) where
@@ -363,13 +430,13 @@ module _ (s : Setting) (at : L.At) (k : Key) (place : Place) (outer : Head) (mas
         receive = receive_block c' seg n h.iterator loads at.kind j test body
 
         able : IsMessageLoop c' s.image.registers (length s.image.fields) loops h.iterator loads test body
-        able = record { apart = is'.rows; outer = m.nested.outer; inner = m.nested.inner; two = m.nested.two; types = type-is s is'; depths = depth-is s is'; found = m.found; fits = m.fits }
+        able = record { apart = is'.rows; outer = m.nested.outer; inner = m.nested.inner; two = m.nested.two; types = type-is s is'; depths = depth-is s is'; found = m.found; fits = m.fits; spares = spares }
 
         lowered-is : loop c' at.place at.kind n k mask inner ≡ record { blocks = send ∷ receive ∷ []; segment = seg }
         lowered-is =
             ap (λ b. if b then each_loop c' at.place at.kind n k mask j h test body else message_loop c' at.place at.kind n k mask j h test body) m.away
             ∙ ap (λ ys. record { blocks = send ∷ (receive ∷ taking_blocks c' seg (suc at.kind) ys); segment = seg })
-            (sends-nothing c' h.iterator (receiver_finds c' n h.iterator loads) sets_nothing (receiver_gives c' h.iterator (receiver_finds c' n h.iterator loads)) (gives-nothing-away c' h.iterator (receiver_finds c' n h.iterator loads)) body m.fits)
+            (sends-nothing c' h.iterator (receiver_finds c' n h.iterator loads) sets_nothing (message_gives c' h.iterator (receiver_finds c' n h.iterator loads)) (message-nothing-away c' loops (depth-is s is') h.iterator (receiver_finds c' n h.iterator loads)) body m.fits)
 
   home-goes : IsHome c' n k mask j h test body → ((its : List ℕ) (state : State) → IsPoint s its (S.Foreach k place outer mask inner) state → GivesApart (given_in loops k mask inner state.store))
       → ((its : List ℕ) (state : State) (i : ℕ) → IsPoint s its (S.Foreach k place outer mask inner) state → i < node_count g → GivesApart (given_inside (home_turns loops h j test body state.store i)))
@@ -481,7 +548,7 @@ module _ (s : Setting) (at : L.At) (k : Key) (place : Place) (outer : Head) (mas
             ∙ ap (λ bs. record { blocks = block ∷ bs; segment = seg }) (one-taking (aways c'.declarations n body) m.sends)
 
 pub message-loops-go : MessageLoopsGo
-message-loops-go s at k place outer mask j inner_place h test body is' m apart = message-goes s at k place outer mask j inner_place h test body is' m apart
+message-loops-go s at k place outer mask j inner_place h test body is' m spares apart = message-goes s at k place outer mask j inner_place h test body is' m spares apart
 
 pub home-loops-go : HomeLoopsGo
 home-loops-go s at k place outer mask j inner_place h test body is' m apart inside = home-goes s at k place outer mask j inner_place h test body is' m apart inside

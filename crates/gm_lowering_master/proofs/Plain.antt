@@ -1,6 +1,6 @@
 -- Plain loops go, and so plain programs run.
 use Rattle.std.proofs.Common.{◌≡◌, ◌<◌, ◌≤◌, ◌⊎◌, inl, inr, ℕ, zero, suc, ◌+◌, Bool, true, false, List, [], ◌∷◌, ◌++◌, length, refl, ap, ◌∙◌, sym, arith, ⊎_elim, ◌≢◌}
-use Rattle.std.specs.Prelude.{◌&&◌, ◌||◌, not, nat_eq, nat_lt}
+use Rattle.std.specs.Prelude.{◌&&◌, ◌||◌, not, nat_eq, nat_lt, max}
 use Rattle.std.specs.List.{list_all, list_any}
 use Rattle.std.proofs.lemmas.Bool.{both_ways, eqb-true, not-true, ltb-true, eqb-false}
 use Rattle.gm_base.specs.declared.places.Place.{Place}
@@ -15,15 +15,15 @@ use Rattle.gm_ast.specs.Program.{Expr, Stmt}
 use Rattle.gm_forms.proofs.Named.{both-true}
 use Rattle.gm_semantics.specs.Levels.{numbers_from}
 use Rattle.gm_semantics.specs.Statements.{variable_at}
-use Rattle.gm_lowering.specs.Layouts.{Layout, is_register}
+use Rattle.gm_lowering.specs.Layouts.{Layout, is_register, body_positions}
 use Rattle.gm_lowering.specs.Plans.{carried, is_here, Away, aways}
 use Rattle.gm_lowering.specs.Places.{Spot, spot_lt, spot_of_total, segment, spot_at, spots_in, shown_places}
 use Rattle.gm_lowering.specs.Terms.{master_env, term}
 use Rattle.gm_lowering.specs.Blocks.{reads_scalar}
 use Rattle.gm_lowering.specs.Sites.{is_body, is_local}
-use Rattle.gm_lowering.specs.OwnLoops.{are_any, own_finds, own_sets, puts_to_scalars}
+use Rattle.gm_lowering.specs.OwnLoops.{are_any, own_finds, own_sets, own_gives, is_kept_property, HasSpares}
 use Rattle.gm_lowering.specs.Phases.{own_spots}
-use Rattle.gm_lowering.specs.MessageLoops.{is_kept_property, receiver_finds, sets_nothing, receiver_gives}
+use Rattle.gm_lowering.specs.MessageLoops.{receiver_finds, sets_nothing, receiver_gives, message_gives}
 use Rattle.gm_lowering.specs.Receiving.{inner_spots}
 use Rattle.gm_lowering.specs.TwoSupersteps.{is_readable}
 use Rattle.gm_lowering.specs.HomeTurns.{home_finds}
@@ -39,12 +39,14 @@ use Rattle.gm_lowering.proofs.Orders.{lt-itself, lt-tie}
 use Rattle.gm_lowering.proofs.Receiving.{or-cases}
 use Rattle.gm_lowering_master.specs.Cells.{Setting, IsSetting}
 use Rattle.gm_lowering_master.specs.Follows.{LoopGoes, LoopsGo}
-use Rattle.gm_lowering_master.specs.Going.{phase_loop, GiveApart, AreNested}
+use Rattle.gm_lowering_master.specs.Going.{phase_loop, GiveApart, AreNested, HasBodySpares}
 use Rattle.gm_lowering_master.specs.Whole.{setting}
 use Rattle.gm_lowering_master.specs.Plain.{same_place, shows_with, all_show_one, is_neighbours, reads_no_local, own_goes, are_nested, message_goes, home_goes, is_same_spot, is_last_among, is_sent_last, sending_goes, loop_goes, is_plain, PlainLoopsGo, PlainProgramsRun}
 use Rattle.gm_lowering_master.proofs.Going.{own-loops-go, message-loops-go, home-loops-go, last-sending-loops-go}
 use Rattle.gm_lowering_master.proofs.Inside.{runs-are-followed}
 use Rattle.gm_lowering_master.proofs.Ranks.{layouts-are-settings}
+use Rattle.gm_lowering.proofs.TupleFacts.{fewer-spares}
+use Rattle.gm_lowering.proofs.Ranks.{layouts-have-spares}
 
 -- places that are the same
 place-same : (a b : Place) → same_place a b ≡ true → a ≡ b
@@ -147,15 +149,15 @@ module _ (s : Setting) (is' : IsSetting s) where
   give-apart : (k : Key) (place : Place) (h : Head) (test : Expr) (body : Stmt) → gives_apart c.declarations h.iterator body ≡ true → GiveApart s k place h test body
   give-apart k place h test body o its state point = loops-give-apart c.declarations (phase_loop s h.iterator body) k test body state.store depth-is o
 
-  own-goes : (at : L.At) (k : Key) (place : Place) (h : Head) (test : Expr) (body : Stmt) → own_goes c h.iterator k test body ≡ true → LoopGoes s at k place h test body
-  own-goes at k place h test body o =
+  own-goes : (at : L.At) (k : Key) (place : Place) (h : Head) (test : Expr) (body : Stmt) → HasBodySpares s body → own_goes c h.iterator k test body ≡ true → LoopGoes s at k place h test body
+  own-goes at k place h test body spares o =
       let n = h.iterator in
-      let a = both-true (not (is_register (variable_at c.declarations n))) (own_finds c n test && (is_body c (own_finds c n) (own_sets c n) (puts_to_scalars c (own_finds c n)) body && (all_show_one (own_spots c n k test body) && gives_apart c.declarations n body))) o in
-      let b = both-true (own_finds c n test) (is_body c (own_finds c n) (own_sets c n) (puts_to_scalars c (own_finds c n)) body && (all_show_one (own_spots c n k test body) && gives_apart c.declarations n body)) a.1 in
-      let d = both-true (is_body c (own_finds c n) (own_sets c n) (puts_to_scalars c (own_finds c n)) body) (all_show_one (own_spots c n k test body) && gives_apart c.declarations n body) b.1 in
+      let a = both-true (not (is_register (variable_at c.declarations n))) (own_finds c n test && (is_body c (own_finds c n) (own_sets c n) (own_gives c n (own_finds c n)) body && (all_show_one (own_spots c n k test body) && gives_apart c.declarations n body))) o in
+      let b = both-true (own_finds c n test) (is_body c (own_finds c n) (own_sets c n) (own_gives c n (own_finds c n)) body && (all_show_one (own_spots c n k test body) && gives_apart c.declarations n body)) a.1 in
+      let d = both-true (is_body c (own_finds c n) (own_sets c n) (own_gives c n (own_finds c n)) body) (all_show_one (own_spots c n k test body) && gives_apart c.declarations n body) b.1 in
       let e = both-true (all_show_one (own_spots c n k test body)) (gives_apart c.declarations n body) d.1 in
       own-loops-go s at k place h test body is'
-      (record { iterator = not-true (is_register (variable_at c.declarations n)) a.0; found = b.0; fits = d.0; shows = show-one (own_spots c n k test body) e.0 })
+      (record { iterator = not-true (is_register (variable_at c.declarations n)) a.0; found = b.0; fits = d.0; shows = show-one (own_spots c n k test body) e.0 }) spares
       (give-apart k place h test body e.1)
 
   nested-are : (n : ℕ) (h : Head) → are_nested c n h ≡ true → AreNested c n h
@@ -179,11 +181,11 @@ module _ (s : Setting) (is' : IsSetting s) where
     abbrev inner : Stmt
     inner = S.Foreach j inner_place h test body
 
-    message-goes : AreNested c n h → gives_apart c.declarations n inner ≡ true → message_goes c n k mask j h test body ≡ true → LoopGoes s at k place outer mask inner
-    message-goes nested apart o =
+    message-goes : AreNested c n h → HasBodySpares s body → gives_apart c.declarations n inner ≡ true → message_goes c n k mask j h test body ≡ true → LoopGoes s at k place outer mask inner
+    message-goes nested spares apart o =
         let loads = carried n test body in
         let found = receiver_finds c n h.iterator loads in
-        let fits = is_body c found sets_nothing (receiver_gives c h.iterator found) body in
+        let fits = is_body c found sets_nothing (message_gives c h.iterator found) body in
         let spots = spots_in mask k ++ inner_spots c n h.iterator j test body in
         let a1 = both-true (not (is_here c.declarations n h test body)) (own_finds c n mask && (not (are_any (spots_in mask k)) && (list_all (is_readable c) loads && (found test && (fits && all_show_one spots))))) o in
         let a2 = both-true (own_finds c n mask) (not (are_any (spots_in mask k)) && (list_all (is_readable c) loads && (found test && (fits && all_show_one spots)))) a1.1 in
@@ -202,6 +204,7 @@ module _ (s : Setting) (is' : IsSetting s) where
           fits = a6.0;
           shows = show-one spots a6.1;
         })
+        spares
         (give-apart k place outer mask inner apart)
 
     home-goes : AreNested c n h → gives_apart c.declarations n inner ≡ true → home_goes c n k mask j h test body ≡ true → LoopGoes s at k place outer mask inner
@@ -248,39 +251,46 @@ module _ (s : Setting) (is' : IsSetting s) where
         (give-apart k place outer mask inner apart)
         (λ a i z l. (sent-last c h.iterator spots a (all-in (is_sent_last c h.iterator spots) sends a a7.1 i)).1 z l)
 
-    inner-goes : loop_goes c n k mask inner ≡ true → LoopGoes s at k place outer mask inner
-    inner-goes o =
+    inner-goes : HasBodySpares s body → loop_goes c n k mask inner ≡ true → LoopGoes s at k place outer mask inner
+    inner-goes spares o =
         let messages = message_goes c n k mask j h test body in
         let home = home_goes c n k mask j h test body in
         let sending = sending_goes c n k mask j h test body in
         let a = both-true (are_nested c n h) (gives_apart c.declarations n inner && (messages || (home || sending))) o in
         let b = both-true (gives_apart c.declarations n inner) (messages || (home || sending)) a.1 in
         let nested = nested-are n h a.0 in
-        or-cases messages (home || sending) b.1 (message-goes nested b.0) (λ r. or-cases home sending r (home-goes nested b.0) (sending-goes nested b.0))
+        or-cases messages (home || sending) b.1 (message-goes nested spares b.0) (λ r. or-cases home sending r (home-goes nested b.0) (sending-goes nested b.0))
 
-  loop-goes : (at : L.At) (k : Key) (place : Place) (h : Head) (test : Expr) (body : Stmt) → loop_goes c h.iterator k test body ≡ true → LoopGoes s at k place h test body
-  loop-goes at k place h test (S.Foreach j inner_place i e b) o = inner-goes at k place h test j inner_place i e b o
-  loop-goes at k place h test body o = own-goes at k place h test body o
+  loop-goes : (at : L.At) (k : Key) (place : Place) (h : Head) (test : Expr) (body : Stmt) → HasBodySpares s body → loop_goes c h.iterator k test body ≡ true → LoopGoes s at k place h test body
+  loop-goes at k place h test (S.Foreach j inner_place i e b) spares o = inner-goes at k place h test j inner_place i e b spares o
+  loop-goes at k place h test body spares o = own-goes at k place h test body spares o
 
-  plain-goes : (st : Stmt) (at : L.At) → is_plain c st ≡ true → LoopsGo s st at
-  plain-goes (S.Then a b) at h =
-      let q = both-true (is_plain c a) (is_plain c b) h in (plain-goes a at q.0, plain-goes b (past s.frame at a (part s.frame a at)) q.1)
-  plain-goes (S.Combine k total r ts es) at h = absurd (both_ways false refl h)
-  plain-goes (S.Foreach k place f test body) at h = loop-goes at k place f test body h
-  plain-goes (S.If k test a b) at h =
+  -- spare registers of two statements are there for each
+  spares-first : (a b : Stmt) → HasSpares c (length s.image.registers) (max (body_positions c.declarations a) (body_positions c.declarations b)) → HasBodySpares s a
+  spares-first a b h = fewer-spares c (length s.image.registers) (max (body_positions c.declarations a) (body_positions c.declarations b)) (body_positions c.declarations a) (omega arith) h
+
+  spares-second : (a b : Stmt) → HasSpares c (length s.image.registers) (max (body_positions c.declarations a) (body_positions c.declarations b)) → HasBodySpares s b
+  spares-second a b h = fewer-spares c (length s.image.registers) (max (body_positions c.declarations a) (body_positions c.declarations b)) (body_positions c.declarations b) (omega arith) h
+
+  plain-goes : (st : Stmt) (at : L.At) → HasBodySpares s st → is_plain c st ≡ true → LoopsGo s st at
+  plain-goes (S.Then a b) at m h =
+      let q = both-true (is_plain c a) (is_plain c b) h in (plain-goes a at (spares-first a b m) q.0, plain-goes b (past s.frame at a (part s.frame a at)) (spares-second a b m) q.1)
+  plain-goes (S.Combine k total r ts es) at m h = absurd (both_ways false refl h)
+  plain-goes (S.Foreach k place f test body) at m h = loop-goes at k place f test body m h
+  plain-goes (S.If k test a b) at m h =
       let q = both-true (is_plain c a) (is_plain c b) h in
       let start = lines_on 1 (places_on (shown_places (segment at.place (spots_in test k))) at) in
-      (plain-goes a start q.0, plain-goes b (lines_on 1 (past s.frame start a (part s.frame a start))) q.1)
-  plain-goes (S.While k place test body) at h = plain-goes body (lines_on 1 (places_on (shown_places (segment at.place (spots_in test k))) at)) h
-  plain-goes (S.Do k place body test) at h = plain-goes body (lines_on 3 (deeper (places_on (shown_places (segment at.place (spots_in test k))) at))) h
-  plain-goes (S.For k place f test body) at h =
+      (plain-goes a start (spares-first a b m) q.0, plain-goes b (lines_on 1 (past s.frame start a (part s.frame a start))) (spares-second a b m) q.1)
+  plain-goes (S.While k place test body) at m h = plain-goes body (lines_on 1 (places_on (shown_places (segment at.place (spots_in test k))) at)) m h
+  plain-goes (S.Do k place body test) at m h = plain-goes body (lines_on 3 (deeper (places_on (shown_places (segment at.place (spots_in test k))) at))) m h
+  plain-goes (S.For k place f test body) at m h =
       let g = segment at.place (spot_at k place ∷ spots_in test k) in
-      plain-goes body (lines_on (4 + length (test_lines 0 (term (master_env c g) k test))) (deeper (places_on (shown_places g) at))) h
-  plain-goes _ at h = tt
+      plain-goes body (lines_on (4 + length (test_lines 0 (term (master_env c g) k test))) (deeper (places_on (shown_places g) at))) m h
+  plain-goes _ at m h = tt
 
 pub plain-loops-go : PlainLoopsGo
-plain-loops-go s st at is' h = plain-goes s is' st at h
+plain-loops-go s st at is' spares h = plain-goes s is' st at spares h
 
 pub plain-programs-run : PlainProgramsRun
 plain-programs-run p g args bound face typed fits columns h plain =
-    runs-are-followed p g args bound face typed fits columns h (plain-loops-go (setting p g bound) p.body L.start (layouts-are-settings p g bound fits.graph.graph) plain)
+    runs-are-followed p g args bound face typed fits columns h (plain-loops-go (setting p g bound) p.body L.start (layouts-are-settings p g bound fits.graph.graph) (layouts-have-spares p) plain)

@@ -1,14 +1,16 @@
 -- Programs of plain loops, and some whose loops are not.
-use Rattle.std.specs.Prelude.{◌≡◌, ℕ, Bool, true, false, List, [], ◌∷◌, refl}
+use Rattle.std.specs.Prelude.{◌≡◌, ℕ, Bool, true, false, List, [], ◌∷◌, refl, Some}
 use Rattle.gm_value.specs.declared.operations.Op2.TheVariants as two
+use Rattle.gm_value.specs.declared.reductions.Reduce.{Reduce}
 use Rattle.gm_value.specs.declared.reductions.Reduce.TheVariants as reduce
-use Rattle.gm_ast.specs.Program.{Program, Binary}
+use Rattle.gm_ast.specs.Program.{always, Program, Binary, sequence, Combine, Declare}
 use Rattle.gm_lowering.specs.Layouts.{layout}
-use Rattle.gm_lowering.proofs.Samples.{at, key, neighbours, reduces, property, variable, to_property, int, sum, weigh, hops}
-use Rattle.gm_lowering.proofs.MoreSamples.{home, random, picks}
+use Rattle.gm_lowering.proofs.Samples.{at, key, neighbours, reduces, property, variable, to_property, int, sum, weigh, hops, total, scalar}
+use Rattle.gm_lowering.proofs.MoreSamples.{home, random, picks, folds, bounds, caps, pairs}
 use Rattle.gm_lowering_master.specs.Follows.{is_followed}
 use Rattle.gm_lowering_master.specs.Whole.{has_result}
 use Rattle.gm_lowering_master.specs.Plain.{loop_goes, is_plain}
+use Rattle.gm_ast.specs.declared.tree.Target.{Target}
 
 -- whether the master list follows a program, and whether its loops are plain
 abbrev facts : Program → List Bool
@@ -23,16 +25,65 @@ weigh_facts = refl
 home_facts : facts home ≡ true ∷ true ∷ []
 home_facts = refl
 
+-- what is reduced to a node's own properties at once is plain
+folds_facts : facts folds ≡ true ∷ true ∷ []
+folds_facts = refl
+
+-- but by And and Or, which do not ask for their value where what is held decides
+abbrev folds_by : Reduce → Bool
+folds_by r = loop_goes (layout folds) 9 (key 2) always (sequence (reduces 3 (at 1 3) r (to_property 9 3) (property 9 1) ∷ []))
+
+sums : folds_by reduce.Sum ≡ true
+sums = refl
+
+ands : folds_by reduce.And ≡ false
+ands = refl
+
+-- what is reduced to a local at once is plain
+bounds_facts : facts bounds ≡ true ∷ true ∷ []
+bounds_facts = refl
+
 -- what is sent along edges is plain
 hops_facts : facts hops ≡ true ∷ true ∷ []
 hops_facts = refl
 
--- what is sent through a node variable, and what picks at once is not
+-- and so is a tuple that locals and properties of a node keep at once
+picks_facts : facts picks ≡ true ∷ true ∷ []
+picks_facts = refl
+
+-- but each target once
+abbrev tuple_of : List Target → Bool
+tuple_of ts = loop_goes (layout picks) 9 (key 3) always (sequence (Combine (key 8) (total 8 (at 1 8)) reduce.Max ts (property 9 1 ∷ int 1 ∷ []) ∷ []))
+
+two_locals : tuple_of (scalar 14 ∷ scalar 15 ∷ []) ≡ true
+two_locals = refl
+
+one_local_twice : tuple_of (scalar 14 ∷ scalar 14 ∷ []) ≡ false
+one_local_twice = refl
+
+-- what is reduced at once to a local of an inner loop is plain where receivers of messages evaluate it
+caps_facts : facts caps ≡ true ∷ true ∷ []
+caps_facts = refl
+
+-- and so is a tuple of such locals
+pairs_facts : facts pairs ≡ true ∷ true ∷ []
+pairs_facts = refl
+
+-- but by Min and Max alone
+abbrev caps_by : Reduce → Bool
+caps_by r =
+    loop_goes (layout caps) 9 (key 2) always (neighbours 3 10 9 always (
+    Declare (key 4) 12 (Some (property 10 1)) ∷ reduces 5 (at 1 6) r (scalar 12) (int 8) ∷ reduces 6 (at 1 7) reduce.Sum (to_property 10 3) (variable 12) ∷ []))
+
+least_values : caps_by reduce.Min ≡ true
+least_values = refl
+
+totals : caps_by reduce.Sum ≡ false
+totals = refl
+
+-- what is sent through a node variable is not plain
 random_facts : facts random ≡ true ∷ false ∷ []
 random_facts = refl
-
-picks_facts : facts picks ≡ true ∷ false ∷ []
-picks_facts = refl
 
 -- the filter of a loop that sends may fault, where its number is below that of the totals
 abbrev goes : ℕ → Bool

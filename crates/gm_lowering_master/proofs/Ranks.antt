@@ -16,6 +16,7 @@ use Rattle.gm_lowering.specs.Sites.{IsApart}
 use Rattle.gm_lowering_master.specs.Cells.{Cell, OfScalar, OfResult, CounterOf, FlagOf, cell_number, is_cell, AreCells}
 use Rattle.gm_lowering_master.specs.Whole.{has_result, LayoutsAreSettings}
 use Rattle.gm_lowering.proofs.Registers.{registers-begin}
+use Rattle.gm_model.specs.Graphs.{node_count}
 
 -- the member at the rank of a number
 found : (test : ℕ → Bool) (k n j : ℕ) → j < n → test (k + j) ≡ true → slice_get (filter test (numbers_from k n)) (length (filter test (numbers_from k j))) ≡ Some (k + j)
@@ -151,4 +152,4 @@ module _ (p : Program) where
     apart (FlagOf d) (FlagOf i) e h same = ap FlagOf (let z : d ≡ i = omega (arith, same) in z)
 
 pub layouts-are-settings : LayoutsAreSettings
-layouts-are-settings p g bound graph = record { cells = cells-apart p; rows = rows-apart p; declarations = refl; firsts = registers-begin p; graph = graph }
+layouts-are-settings p g bound graph = record { cells = cells-apart p; rows = rows-apart p; declarations = refl; firsts = registers-begin p; graph = graph; types = refl; below = (let z : node_count g ≤ node_count g = omega arith in z) }

@@ -3,7 +3,7 @@ use Rattle.std.specs.Prelude.{◌≡◌, ◌<◌, ◌≤◌, ℕ, ◌+◌, nat_l
 use Rattle.gm_value.specs.declared.values.VType.{VType}
 use Rattle.gm_value.specs.declared.values.Value.{Value}
 use Rattle.gm_value.specs.Numbers.{zero_of}
-use Rattle.gm_model.specs.Graphs.{IsGraph}
+use Rattle.gm_model.specs.Graphs.{IsGraph, node_count}
 use Rattle.gm_semantics.specs.Statements.{Run, State, variable_at}
 use Rattle.gm_semantics.specs.Stores.{Store}
 use Rattle.gm_typed_stores.specs.Tells.{TypeTable}
@@ -62,13 +62,15 @@ pub record Setting : Type 0 where
   pub returns : Bool
   pub depth : ℕ
 
--- a setting in which things lie apart and registers begin with the first values of their locals, on a graph
+-- a setting in which things lie apart and registers begin with the first values of their locals, on a graph whose nodes are below the limit; values are judged by the types of the declarations
 pub record IsSetting (s : Setting) : Type 0 where
   pub cells : AreCells s.frame.layout s.returns s.depth (length s.image.globals)
   pub rows : IsApart s.frame.layout (length s.image.registers) (length s.image.fields)
   pub declarations : s.run.declarations ≡ s.frame.layout.declarations
   pub firsts : (x : ℕ) → is_local s.frame.layout x ≡ true → value_at (map zero_of s.image.registers) (s.frame.layout.register x) ≡ zero_of (type_at s.frame.layout.declarations x)
   pub graph : IsGraph s.run.graph
+  pub types : s.table.declarations ≡ s.frame.layout.declarations
+  pub below : node_count s.run.graph ≤ s.table.limit
 
 -- globals and nodes show a store, and the graph its edge properties
 pub record Between (s : Setting) (globals : List Value) (nodes : Nodes) (r : Store) : Type 0 where

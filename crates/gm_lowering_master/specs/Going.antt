@@ -1,5 +1,5 @@
 -- Loops of each kind go in the master list: their supersteps are the loop.
-use Rattle.std.specs.Prelude.{◌≡◌, ◌<◌, ◌⊎◌, ℕ, nat_eq, true, false, List, [], ◌++◌, map}
+use Rattle.std.specs.Prelude.{◌≡◌, ◌<◌, ◌⊎◌, ℕ, nat_eq, true, false, List, [], ◌++◌, map, length}
 use Rattle.std.specs.List.{list_all}
 use Rattle.gm_base.specs.declared.places.Place.{Place}
 use Rattle.gm_value.specs.Bag.{IsIn}
@@ -13,14 +13,14 @@ use Rattle.gm_semantics.specs.Iterations.{Loop}
 use Rattle.gm_semantics.specs.Levels.{no_levels, nodes}
 use Rattle.gm_semantics.specs.Loops.{iteration}
 use Rattle.gm_semantics.specs.Statements.{State, variable_at, loop_of}
-use Rattle.gm_lowering.specs.Layouts.{Layout, is_register}
-use Rattle.gm_lowering.specs.Plans.{Load, carried, is_here, Away, aways}
-use Rattle.gm_lowering.specs.Places.{Spot, spots_in}
+use Rattle.gm_lowering.specs.Layouts.{Layout, is_register, body_positions}
+use Rattle.gm_lowering.specs.Plans.{carried, is_here, Away, aways}
+use Rattle.gm_lowering.specs.Places.{spots_in}
 use Rattle.gm_lowering.specs.Blocks.{reads_scalar}
 use Rattle.gm_lowering.specs.Sites.{is_body, is_local}
-use Rattle.gm_lowering.specs.OwnLoops.{own_finds, own_sets, puts_to_scalars, are_any}
+use Rattle.gm_lowering.specs.OwnLoops.{own_finds, own_sets, own_gives, are_any, HasSpares}
 use Rattle.gm_lowering.specs.Phases.{GivesApart, given_in, own_spots}
-use Rattle.gm_lowering.specs.MessageLoops.{receiver_finds, sets_nothing, receiver_gives}
+use Rattle.gm_lowering.specs.MessageLoops.{receiver_finds, sets_nothing, receiver_gives, message_gives}
 use Rattle.gm_lowering.specs.Receiving.{inner_spots}
 use Rattle.gm_lowering.specs.TwoSupersteps.{is_readable}
 use Rattle.gm_lowering.specs.HomeTurns.{home_finds}
@@ -43,18 +43,22 @@ GiveApart s k place h test body =
     (its : List ℕ) (state : State) → IsPoint s its (Foreach k place h test body) state
     → GivesApart (given_in (phase_loop s h.iterator body) k test body state.store)
 
--- a loop of own statements: its iterator is no local; filter and body are found at its node; and it reduces to scalars of the procedure
+-- there are spare registers for the tuples that loops of a statement keep
+abbrev pub HasBodySpares : Setting → Stmt → Type 0
+HasBodySpares s st = HasSpares s.frame.layout (length s.image.registers) (body_positions s.frame.layout.declarations st)
+
+-- a loop of own statements: its iterator is no local; filter and body are found at its node; and it reduces to scalars of the procedure, and at once to properties of its node and to its locals
 pub record IsOwn (c : Layout) (n : ℕ) (k : Key) (test : Expr) (body : Stmt) : Type 0 where
   pub iterator : is_register (variable_at c.declarations n) ≡ false
   pub found : own_finds c n test ≡ true
-  pub fits : is_body c (own_finds c n) (own_sets c n) (puts_to_scalars c (own_finds c n)) body ≡ true
+  pub fits : is_body c (own_finds c n) (own_sets c n) (own_gives c n (own_finds c n)) body ≡ true
   pub shows : ShowOne (own_spots c n k test body)
 
--- the superstep of such a loop is the loop
+-- the superstep of such a loop is the loop, where there are spare registers for its tuples
 abbrev pub OwnLoopsGo : Type 0
 OwnLoopsGo =
     (s : Setting) (at : L.At) (k : Key) (place : Place) (h : Head) (test : Expr) (body : Stmt)
-    → IsSetting s → IsOwn s.frame.layout h.iterator k test body → GiveApart s k place h test body
+    → IsSetting s → IsOwn s.frame.layout h.iterator k test body → HasBodySpares s body → GiveApart s k place h test body
     → LoopGoes s at k place h test body
 
 -- two iterators that are no locals, of a loop over nodes and of one over the neighbours of its node
@@ -65,7 +69,7 @@ pub record AreNested (c : Layout) (n : ℕ) (h : Head) : Type 0 where
   pub neighbours : (h.domain ≡ OutNbrs) ⊎ (h.domain ≡ InNbrs)
   pub owner : h.owner ≡ n
 
--- a message loop: the mask is found at the sender and has nothing that can fault; the sender can read what messages carry; and filter and body are found at the receiver, which reduces to scalars of the procedure and to its own properties
+-- a message loop: the mask is found at the sender and has nothing that can fault; the sender can read what messages carry; and filter and body are found at the receiver, which reduces to scalars of the procedure and to its own properties, and at once to its locals
 pub record IsMessage (c : Layout) (n : ℕ) (k : Key) (mask : Expr) (j : Key) (h : Head) (test : Expr) (body : Stmt) : Type 0 where
   pub nested : AreNested c n h
   pub away : is_here c.declarations n h test body ≡ false
@@ -73,15 +77,15 @@ pub record IsMessage (c : Layout) (n : ℕ) (k : Key) (mask : Expr) (j : Key) (h
   pub quiet : spots_in mask k ≡ []
   pub readable : list_all (is_readable c) (carried n test body) ≡ true
   pub found : receiver_finds c n h.iterator (carried n test body) test ≡ true
-  pub fits : is_body c (receiver_finds c n h.iterator (carried n test body)) sets_nothing (receiver_gives c h.iterator (receiver_finds c n h.iterator (carried n test body))) body ≡ true
+  pub fits : is_body c (receiver_finds c n h.iterator (carried n test body)) sets_nothing (message_gives c h.iterator (receiver_finds c n h.iterator (carried n test body))) body ≡ true
   pub shows : ShowOne (spots_in mask k ++ inner_spots c n h.iterator j test body)
 
--- the two supersteps of such a loop are the loop
+-- the two supersteps of such a loop are the loop, where there are spare registers for its tuples
 abbrev pub MessageLoopsGo : Type 0
 MessageLoopsGo =
     (s : Setting) (at : L.At) (k : Key) (place : Place) (outer : Head) (mask : Expr) (j : Key) (inner_place : Place) (h : Head) (test : Expr) (body : Stmt)
     → let inner = Foreach j inner_place h test body in
-    IsSetting s → IsMessage s.frame.layout outer.iterator k mask j h test body → GiveApart s k place outer mask inner
+    IsSetting s → IsMessage s.frame.layout outer.iterator k mask j h test body → HasBodySpares s body → GiveApart s k place outer mask inner
     → LoopGoes s at k place outer mask inner
 
 -- a home loop: the mask is found at the node; the filter reads no locals; and filter and body are found at the node, but for the neighbour itself and the edge's values. It reduces to scalars of the procedure and to the node's own properties

@@ -19,9 +19,9 @@ use Rattle.gm_lowering.specs.Plans.{carried, is_here, Away, aways}
 use Rattle.gm_lowering.specs.Places.{Spot, spot_lt, spot_of_total, spots_in}
 use Rattle.gm_lowering.specs.Blocks.{reads_scalar}
 use Rattle.gm_lowering.specs.Sites.{is_body, is_local}
-use Rattle.gm_lowering.specs.OwnLoops.{are_any, own_finds, own_sets, puts_to_scalars}
+use Rattle.gm_lowering.specs.OwnLoops.{are_any, own_finds, own_sets, own_gives, is_kept_property}
 use Rattle.gm_lowering.specs.Phases.{own_spots}
-use Rattle.gm_lowering.specs.MessageLoops.{is_kept_property, receiver_finds, sets_nothing, receiver_gives}
+use Rattle.gm_lowering.specs.MessageLoops.{receiver_finds, sets_nothing, receiver_gives, message_gives}
 use Rattle.gm_lowering.specs.Receiving.{inner_spots}
 use Rattle.gm_lowering.specs.TwoSupersteps.{is_readable}
 use Rattle.gm_lowering.specs.HomeTurns.{home_finds}
@@ -31,6 +31,7 @@ use Rattle.gm_lowering.specs.Lowered.{lowered}
 use Rattle.gm_lowering.specs.Made.{gives_apart}
 use Rattle.gm_lowering_master.specs.Cells.{Setting, IsSetting}
 use Rattle.gm_lowering_master.specs.Follows.{is_followed, LoopsGo}
+use Rattle.gm_lowering_master.specs.Going.{HasBodySpares}
 use Rattle.gm_lowering_master.specs.Whole.{has_result, HasInterface, HasEdgeColumns}
 
 -- whether two spots stand apart in the order of faults, or show one place
@@ -58,7 +59,7 @@ reads_no_local c e = list_all (λ x. not (is_local c x && reads_scalar x e)) (nu
 abbrev pub own_goes : Layout → ℕ → Key → Expr → Stmt → Bool
 own_goes c n k test body =
     not (is_register (variable_at c.declarations n)) && (own_finds c n test
-    && (is_body c (own_finds c n) (own_sets c n) (puts_to_scalars c (own_finds c n)) body
+    && (is_body c (own_finds c n) (own_sets c n) (own_gives c n (own_finds c n)) body
     && (all_show_one (own_spots c n k test body) && gives_apart c.declarations n body)))
 
 -- whether two iterators are nested: no locals, and the inner one is of neighbours of the outer one
@@ -73,7 +74,7 @@ message_goes c n k mask j h test body =
     let loads = carried n test body in
     let found = receiver_finds c n h.iterator loads in
     not (is_here c.declarations n h test body) && (own_finds c n mask && (not (are_any (spots_in mask k)) && (list_all (is_readable c) loads
-    && (found test && (is_body c found sets_nothing (receiver_gives c h.iterator found) body && all_show_one (spots_in mask k ++ inner_spots c n h.iterator j test body))))))
+    && (found test && (is_body c found sets_nothing (message_gives c h.iterator found) body && all_show_one (spots_in mask k ++ inner_spots c n h.iterator j test body))))))
 
 -- whether it goes at the outer node
 abbrev pub home_goes : Layout → ℕ → Key → Expr → Key → Head → Expr → Stmt → Bool
@@ -121,9 +122,9 @@ is_plain c (While k place test body) = is_plain c body
 is_plain c (Do k place body test) = is_plain c body
 is_plain c _ = true
 
--- then its loops go
+-- then its loops go, where there are spare registers for their tuples
 abbrev pub PlainLoopsGo : Type 0
-PlainLoopsGo = (s : Setting) (st : Stmt) (at : L.At) → IsSetting s → is_plain s.frame.layout st ≡ true → LoopsGo s st at
+PlainLoopsGo = (s : Setting) (st : Stmt) (at : L.At) → IsSetting s → HasBodySpares s st → is_plain s.frame.layout st ≡ true → LoopsGo s st at
 
 -- the machine on the image of a program of plain loops has the program's outcome
 abbrev pub PlainProgramsRun : Type 0

@@ -54,9 +54,10 @@ pub fn loops_go()
 
 /// The machine on the image of a program of plain loops has the program's outcome, with its turns, or its fault and place, or
 /// the cut: on every graph with the edge columns that the image declares, for all arguments and every bound. A loop is plain
-/// where a test of its text says so: it is of own statements that reduce to scalars of the procedure, or is one inner loop
-/// along edges that reduces to these and to properties of one node, that at which it is evaluated, or its neighbour, where no
-/// other fault comes behind the totals of what it sends.
+/// where a test of its text says so: it is of own statements that reduce to scalars of the procedure, and at once to
+/// properties of their node and to locals, of values or tuples, or is one inner loop along edges that reduces to scalars of
+/// the procedure and to properties of one node, that at which it is evaluated, or its neighbour, where no other fault comes
+/// behind the totals of what it sends; one that receivers of messages evaluate may reduce to its locals at once.
 pub fn plain_programs_run()
     ensures loops { PlainLoopsGo }
     ensures runs { PlainProgramsRun }
