@@ -1,0 +1,3 @@
+pub mod Pointwise
+pub mod Typed
+pub mod Folding
