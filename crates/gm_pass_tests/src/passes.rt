@@ -1,0 +1,129 @@
+//! The passes of the compiler by their public calls, and the orders in which tests run them.
+
+use gm_ast::forms::Work;
+use gm_base::NoMemory;
+use gm_bfs::levelled::bfs_out;
+use gm_cut::pieces::cut_bodies;
+use gm_desugar::compounds::compounds_out;
+use gm_desugar::conditions::conditions_out;
+use gm_desugar::groups::groups_out;
+use gm_desugar::literals::literals_out;
+use gm_desugar::reads::reads_out;
+use gm_desugaring::desugar::desugar;
+use gm_desugaring::phases::desugar_phases;
+use gm_dissect::all_deferred::deferred_out;
+use gm_dissect::conditions::save_conditions;
+use gm_flip::flip::flip;
+use gm_hoisting::hoisting::inner_folds_out;
+use gm_picks::picks::picks_out;
+use gm_reductions::accesses::accesses_out;
+use gm_reductions::folds::folds_out;
+use std::alloc::Global;
+
+/// A pass, or several in one call.
+#[derive(Clone, Copy, Debug, PartialEq, Eq)]
+pub enum Pass {
+    GroupsOut,
+    CompoundsOut,
+    LiteralsOut,
+    ConditionsOut,
+    ReadsOut,
+    PicksOut,
+    AccessesOut,
+    FoldsOut,
+    InnerFoldsOut,
+    DesugarPhases,
+    Desugar,
+    BfsOut,
+    DeferredOut,
+    SaveConditions,
+    CutBodies,
+    Flip,
+}
+
+// What a pass, or several in one call, makes of a program.
+fn after_one(alloc: Global, pass: Pass, program: Work) -> Result<Work, NoMemory> {
+    match pass {
+        Pass::GroupsOut => groups_out(alloc, program),
+        Pass::CompoundsOut => compounds_out(alloc, program),
+        Pass::LiteralsOut => literals_out(alloc, program),
+        Pass::ConditionsOut => conditions_out(alloc, program),
+        Pass::ReadsOut => reads_out(alloc, program),
+        Pass::PicksOut => picks_out(alloc, program),
+        Pass::AccessesOut => accesses_out(alloc, program),
+        Pass::FoldsOut => folds_out(alloc, program),
+        _ => after_more(alloc, pass, program),
+    }
+}
+
+// The same of the passes behind the loops of the sequential phase, and of those in one call.
+fn after_more(alloc: Global, pass: Pass, program: Work) -> Result<Work, NoMemory> {
+    match pass {
+        Pass::InnerFoldsOut => inner_folds_out(alloc, program),
+        Pass::DesugarPhases => desugar_phases(alloc, program),
+        Pass::Desugar => desugar(alloc, program),
+        Pass::BfsOut => bfs_out(alloc, program),
+        Pass::DeferredOut => deferred_out(alloc, program),
+        Pass::SaveConditions => save_conditions(alloc, program),
+        Pass::CutBodies => cut_bodies(alloc, program),
+        Pass::Flip => flip(alloc, program),
+        _ => Ok(program),
+    }
+}
+
+/// What some passes, one after another, make of a program.
+pub fn after(alloc: Global, passes: &[Pass], program: Work) -> Result<Work, NoMemory> {
+    let mut program = program;
+    for pass in passes {
+        program = after_one(alloc, *pass, program)?;
+    }
+    Ok(program)
+}
+
+/// The passes of desugaring, one after another, but for picks.
+pub const STEPS: [Pass; 8] = [
+    Pass::GroupsOut,
+    Pass::CompoundsOut,
+    Pass::LiteralsOut,
+    Pass::ConditionsOut,
+    Pass::ReadsOut,
+    Pass::AccessesOut,
+    Pass::FoldsOut,
+    Pass::InnerFoldsOut,
+];
+
+/// All passes up to cutting, one after another.
+pub const ALL_STEPS: [Pass; 12] = [
+    Pass::GroupsOut,
+    Pass::CompoundsOut,
+    Pass::LiteralsOut,
+    Pass::ConditionsOut,
+    Pass::ReadsOut,
+    Pass::PicksOut,
+    Pass::AccessesOut,
+    Pass::FoldsOut,
+    Pass::InnerFoldsOut,
+    Pass::BfsOut,
+    Pass::DeferredOut,
+    Pass::SaveConditions,
+];
+
+/// The passes of the sequential phase in one call, then those behind them.
+pub const PHASES: [Pass; 3] = [Pass::DesugarPhases, Pass::InnerFoldsOut, Pass::BfsOut];
+
+/// Desugaring in one call, then the passes up to cutting.
+pub const WHOLE: [Pass; 4] = [
+    Pass::Desugar,
+    Pass::BfsOut,
+    Pass::DeferredOut,
+    Pass::SaveConditions,
+];
+
+/// Deferred writes and conditions of what is cut, written out.
+pub const CUTTING: [Pass; 2] = [Pass::DeferredOut, Pass::SaveConditions];
+
+/// Bodies in pieces.
+pub const PIECES: [Pass; 2] = [Pass::DeferredOut, Pass::CutBodies];
+
+/// Bodies in pieces, then loops that pull turned round.
+pub const FLIPPED: [Pass; 2] = [Pass::CutBodies, Pass::Flip];
