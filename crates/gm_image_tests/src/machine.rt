@@ -8,7 +8,7 @@ ghost use Rattle.gm_machine.specs.Masters.{FitsGraph};
 use crate::texts::{text_of, verified};
 use gm_base::{Items, NoMemory};
 use gm_columns::Values;
-use gm_graph::{Graph, RawGraph, Shape, Walks, build};
+use gm_graph::{Graph, NodeNumbers, RawGraph, Shape, Walks, build};
 use gm_image::Image;
 use gm_image_text::read_image;
 use gm_machine::{Master, inboxes_have_no_order, master_run, run_one};
@@ -37,10 +37,10 @@ fn two_nodes(alloc: Global) -> Result<RawGraph, NoMemory>
             edges: Items::new(Vec::new(alloc)),
             walks: Walks::BothWays,
         },
-        from: Items::new(vec![in alloc; 7u64]?),
-        to: Items::new(vec![in alloc; 3u64]?),
+        from: NodeNumbers::from_slice(alloc, &[7])?,
+        to: NodeNumbers::from_slice(alloc, &[3])?,
         edge_columns: Items::new(Vec::new(alloc)),
-        extra: Items::new(Vec::new(alloc)),
+        extra: NodeNumbers::new(alloc),
         node_columns: Items::new(Vec::new(alloc)),
     })
 }
@@ -56,10 +56,10 @@ pub(crate) fn four_nodes(alloc: Global) -> Result<RawGraph, NoMemory>
             edges: Items::new(Vec::new(alloc)),
             walks: Walks::BothWays,
         },
-        from: Items::new(vec![in alloc; 1u64, 2, 3, 3]?),
-        to: Items::new(vec![in alloc; 4u64, 4, 4, 1]?),
+        from: NodeNumbers::from_slice(alloc, &[1, 2, 3, 3])?,
+        to: NodeNumbers::from_slice(alloc, &[4, 4, 4, 1])?,
         edge_columns: Items::new(Vec::new(alloc)),
-        extra: Items::new(Vec::new(alloc)),
+        extra: NodeNumbers::new(alloc),
         node_columns: Items::new(Vec::new(alloc)),
     })
 }
