@@ -6,3 +6,4 @@ pub mod PicksOut
 pub mod Gathering
 pub mod InPlace
 pub mod Steps
+mod Samples

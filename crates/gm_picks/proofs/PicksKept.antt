@@ -4,6 +4,7 @@ use Rattle.std.specs.Prelude.{◌&&◌, nat_lt, nat_le}
 use Rattle.std.specs.List.{list_all}
 use Rattle.std.proofs.lemmas.Bool.{both_ways, lt-ltb}
 use Rattle.std.proofs.lemmas.List.{length-append}
+use Rattle.gm_base.specs.declared.places.Place.{Place}
 use Rattle.gm_value.specs.declared.reductions.Reduce.{Reduce}
 use Rattle.gm_value.specs.declared.values.VType.{VType}
 use Rattle.gm_value.specs.declared.values.VType.TheVariants as V
@@ -15,6 +16,7 @@ use Rattle.gm_ast.specs.declared.tree.Target.{Target}
 use Rattle.gm_ast.specs.declared.tree.Target.TheVariants as T
 use Rattle.gm_ast.specs.declared.tree.TotalKey.{TotalKey}
 use Rattle.gm_ast.specs.declared.tree.Variable.{Variable}
+use Rattle.gm_ast.specs.Ways.{is_in}
 use Rattle.gm_ast.specs.Program.{Expr, Property, Live, Stmt, Skip, Then, Assign, Combine, For, If, While, Do, sequence}
 use Rattle.gm_semantics.specs.Frames.{AllReadBelow, TargetsBelow, NamesBelow}
 use Rattle.gm_semantics.specs.Statements.{variable_at}
@@ -34,7 +36,7 @@ use Rattle.gm_desugar.proofs.ReadsKept.{length-read, Placed, placed-both, Sound,
 use Rattle.gm_desugar.proofs.Replacing.{append-true, is-type, type-itself}
 use Rattle.gm_reductions.specs.Keys.{rises}
 use Rattle.gm_reductions.proofs.Known.{Kept, then-parts, then-kept, if-parts, if-kept, while-parts, while-kept, do-parts, do-kept, for-parts, for-kept}
-use Rattle.gm_picks.specs.Picks.{count_all, types_all, all_set, all_told, count_held, types_held, held_set, held, written_back, picked, count_picks, types_picked, onto_scalars}
+use Rattle.gm_picks.specs.Picks.{taken, node_variable, value_variable, property_types, property_set, count_all, types_all, all_set, all_told, count_held, types_held, held_set, held, written_back, picked, count_picks, types_picked, onto_scalars}
 use Rattle.gm_picks.proofs.ReadsRise.{reads-rise, told-rises}
 use Rattle.gm_picks.proofs.ReadsTell.{behind-inputs, reads-tell, told-tells}
 
@@ -44,22 +46,27 @@ length-all : (ds : List Declaration) (vs : List Expr) → length (types_all ds v
 length-all ds [] = refl
 length-all ds (e ∷ vs) = length-append (types_read ds e) (types_all ds vs) ∙ ap (λ n. n + length (types_all ds vs)) (length-read ds e) ∙ ap (λ n. count_read e + n) (length-all ds vs)
 
-length-held : (ds : List Declaration) (ts : List Target) → length (types_held ds ts) ≡ count_held ts
-length-held ds [] = refl
-length-held ds (T.Scalar x at ∷ ts) = length-held ds ts
-length-held ds (T.Property y p at ∷ ts) = let e = length-held ds ts in omega (arith, e)
+length-types : (i : Bool) (t : VType) → length (property_types i t) ≡ taken i
+length-types true t = refl
+length-types false t = refl
 
 length-both : {A : Type 0} (xs ys : List A) (n m : ℕ) → length xs ≡ n → length ys ≡ m → length (xs ++ ys) ≡ n + m
 length-both xs ys n m p q = length-append xs ys ∙ ap (λ z. z + length ys) p ∙ ap (λ z. n + z) q
 
-pub length-picked : (ds : List Declaration) (s : Stmt) → length (types_picked ds s) ≡ count_picks s
-length-picked ds (Then a b) = length-both (types_picked ds a) (types_picked ds b) (count_picks a) (count_picks b) (length-picked ds a) (length-picked ds b)
-length-picked ds (Combine k total r ts es) = length-both (types_held ds ts) (types_all ds es) (count_held ts) (count_all es) (length-held ds ts) (length-all ds es)
-length-picked ds (For k at h e s) = length-picked ds s
-length-picked ds (If k e a b) = length-both (types_picked ds a) (types_picked ds b) (count_picks a) (count_picks b) (length-picked ds a) (length-picked ds b)
-length-picked ds (While k at e s) = length-picked ds s
-length-picked ds (Do k at s e) = length-picked ds s
-length-picked ds s = refl
+length-held : (ds : List Declaration) (its : List ℕ) (ts : List Target) → length (types_held ds its ts) ≡ count_held its ts
+length-held ds its [] = refl
+length-held ds its (T.Scalar x at ∷ ts) = length-held ds its ts
+length-held ds its (T.Property y p at ∷ ts) =
+    let i = is_in its y in let t = type_at ds p in length-both (property_types i t) (types_held ds its ts) (taken i) (count_held its ts) (length-types i t) (length-held ds its ts)
+
+pub length-picked : (ds : List Declaration) (its : List ℕ) (s : Stmt) → length (types_picked ds its s) ≡ count_picks its s
+length-picked ds its (Then a b) = length-both (types_picked ds its a) (types_picked ds its b) (count_picks its a) (count_picks its b) (length-picked ds its a) (length-picked ds its b)
+length-picked ds its (Combine k total r ts es) = length-both (types_held ds its ts) (types_all ds es) (count_held its ts) (count_all es) (length-held ds its ts) (length-all ds es)
+length-picked ds its (For k at h e s) = length-picked ds (h.iterator ∷ its) s
+length-picked ds its (If k e a b) = length-both (types_picked ds its a) (types_picked ds its b) (count_picks its a) (count_picks its b) (length-picked ds its a) (length-picked ds its b)
+length-picked ds its (While k at e s) = length-picked ds its s
+length-picked ds its (Do k at s e) = length-picked ds its s
+length-picked ds its s = refl
 
 -- ---- types of targets
 
@@ -193,16 +200,46 @@ module _ (table : TypeTable) (res : Option VType) (ds : List Declaration) (few :
 
   -- ---- targets
 
-  -- what is held of a property: its node, checked, and its value
-  held-kept : (its : List ℕ) (key : Key) (ts : List Target) (n : ℕ) → TargetsBelow k ts → list_all (suits es) (uses_of_targets ts) ≡ true → Placed ds es n (types_held ds ts) → Kept table res its (sequence (held_set n key ts))
-  held-kept its key [] n b h p = skip-kept its
-  held-kept its key (T.Scalar x at ∷ ts) n b h p = held-kept its key ts n b.1 (all-append (suits es) (use_as Written x) (uses_of_targets ts) h).1 p
-  held-kept its key (T.Property y q at ∷ ts) n b h p =
-      let u = all-append (suits es) (use_as Owner y ++ use_as NodeValue q) (uses_of_targets ts) h in
-      let owner = all-append (suits es) (use_as Owner y) (use_as NodeValue q) u.0 in
+  -- a property's variables, and those of the targets behind it
+  placed-held : (its : List ℕ) (i : Bool) (t : VType) (ts : List Target) (n : ℕ) → Placed ds es n (property_types i t ++ types_held ds its ts) → Placed ds es n (property_types i t) × Placed ds es (n + taken i) (types_held ds its ts)
+  placed-held its i t ts n p =
+      let q = placed-both ds es n (property_types i t) (types_held ds its ts) p in (q.0, subst (λ m. Placed ds es (n + m) (types_held ds its ts)) (length-types i t) q.1)
+
+  -- the variable with the value
+  abbrev StandsAt : ℕ → VType → Type 0
+  StandsAt x t = (x < length es) × (variable_at es x ≡ (fresh t).variable)
+
+  value-stands : (i : Bool) (t : VType) (n : ℕ) → Placed ds es n (property_types i t) → StandsAt (value_variable i n) t
+  value-stands true t n p = p.0
+  value-stands false t n p = p.1.0
+
+  -- the read of a property's value
+  read-kept : (its : List ℕ) (key : Key) (x y q : ℕ) (at : Place) → q < k → StandsAt x (type_at ds q) → list_all (suits es) (use_as Owner y ++ use_as NodeValue q) ≡ true → Kept table res its (set_to x key (Property y q at))
+  read-kept its key x y q at low p u =
       let t = type_at ds q in
-      let value = Property y q at in
-      then-kept table res its (set_to n key (Live y at)) (sequence (set_to (n + 1) key value ∷ held_set (n + 2) key ts))
+      record {
+        named = append-true (suits es) (use_as Written x) (use_as Owner y ++ use_as NodeValue q) (suited x t Written p.0 p.1 refl) u;
+        typed = ap (λ (v : Variable). is_type v.vtype (Some (type_at es q))) p.1 ∙ ap (λ z. is_type t (Some z)) (type-below q low) ∙ type-itself t;
+        ordered = refl;
+        share = refl;
+        form = and-true (nat_le (depth_at es x) 0) true (ap (λ (v : Variable). nat_le v.depth 0) p.1) refl;
+        groups = refl;
+        compounds = refl;
+        literals = refl;
+        conditions = refl;
+        apart = refl;
+        rising = refl;
+        tells = refl;
+      }
+
+  -- what is held of a property: its node, checked, unless an iterator holds it, and its value
+  property-kept : (i : Bool) (its : List ℕ) (key : Key) (y q : ℕ) (at : Place) (n : ℕ) (rest : List Stmt) → q < k → list_all (suits es) (use_as Owner y ++ use_as NodeValue q) ≡ true → Placed ds es n (property_types i (type_at ds q))
+      → Kept table res its (sequence rest) → Kept table res its (sequence (property_set i n key y q at ++ rest))
+  property-kept true its key y q at n rest low u p h = then-kept table res its (set_to n key (Property y q at)) (sequence rest) (read-kept its key n y q at low p.0 u) h
+  property-kept false its key y q at n rest low u p h =
+      let owner = all-append (suits es) (use_as Owner y) (use_as NodeValue q) u in
+      let value = set_to (n + 1) key (Property y q at) in
+      then-kept table res its (set_to n key (Live y at)) (sequence (value ∷ rest))
       (record {
         named = append-true (suits es) (use_as Written n) (use_as Owner y) (suited n V.Node Written p.0.0 p.0.1 refl) owner.0;
         typed = ap (λ (v : Variable). is_type v.vtype (Some V.Node)) p.0.1;
@@ -217,58 +254,73 @@ module _ (table : TypeTable) (res : Option VType) (ds : List Declaration) (few :
         rising = refl;
         tells = refl;
       })
-      (then-kept table res its (set_to (n + 1) key value) (sequence (held_set (n + 2) key ts))
-      (record {
-        named = append-true (suits es) (use_as Written (n + 1)) (use_as Owner y ++ use_as NodeValue q) (suited (n + 1) t Written p.1.0.0 p.1.0.1 refl) u.0;
-        typed = ap (λ (v : Variable). is_type v.vtype (Some (type_at es q))) p.1.0.1 ∙ ap (λ z. is_type t (Some z)) (type-below q b.0.1) ∙ type-itself t;
-        ordered = refl;
-        share = refl;
-        form = and-true (nat_le (depth_at es (n + 1)) 0) true (ap (λ (v : Variable). nat_le v.depth 0) p.1.0.1) refl;
-        groups = refl;
-        compounds = refl;
-        literals = refl;
-        conditions = refl;
-        apart = refl;
-        rising = refl;
-        tells = refl;
-      })
-      (held-kept its key ts (n + 2) b.1 u.1 (subst (λ m. Placed ds es m (types_held ds ts)) (let e : (n + 1) + 1 ≡ n + 2 = omega arith in e) p.1.1)))
+      (then-kept table res its value (sequence rest) (read-kept its key (n + 1) y q at low p.1.0 u) h)
+
+  held-kept : (its : List ℕ) (key : Key) (ts : List Target) (n : ℕ) → TargetsBelow k ts → list_all (suits es) (uses_of_targets ts) ≡ true → Placed ds es n (types_held ds its ts) → Kept table res its (sequence (held_set its n key ts))
+  held-kept its key [] n b h p = skip-kept its
+  held-kept its key (T.Scalar x at ∷ ts) n b h p = held-kept its key ts n b.1 (all-append (suits es) (use_as Written x) (uses_of_targets ts) h).1 p
+  held-kept its key (T.Property y q at ∷ ts) n b h p =
+      let i = is_in its y in
+      let u = all-append (suits es) (use_as Owner y ++ use_as NodeValue q) (uses_of_targets ts) h in
+      let z = placed-held its i (type_at ds q) ts n p in
+      property-kept i its key y q at n (held_set its (n + taken i) key ts) b.0.1 u.0 z.0 (held-kept its key ts (n + taken i) b.1 u.1 z.1)
 
   -- the scalars that take the pick
-  held-types : (ts : List Target) (n : ℕ) → TargetsBelow k ts → Placed ds es n (types_held ds ts) → map (target_type es) (held n ts) ≡ map (target_type es) ts
-  held-types [] n b p = refl
-  held-types (T.Scalar x at ∷ ts) n b p = ap (λ l. type_at es x ∷ l) (held-types ts n b.1 p)
-  held-types (T.Property y q at ∷ ts) n b p =
-      ap (λ z. z ∷ map (target_type es) (held (n + 2) ts)) (ap (λ (v : Variable). v.vtype) p.1.0.1 ∙ sym (type-below q b.0.1))
-      ∙ ap (λ l. type_at es q ∷ l) (held-types ts (n + 2) b.1 (subst (λ m. Placed ds es m (types_held ds ts)) (let e : (n + 1) + 1 ≡ n + 2 = omega arith in e) p.1.1))
+  held-types : (its : List ℕ) (ts : List Target) (n : ℕ) → TargetsBelow k ts → Placed ds es n (types_held ds its ts) → map (target_type es) (held its n ts) ≡ map (target_type es) ts
+  held-types its [] n b p = refl
+  held-types its (T.Scalar x at ∷ ts) n b p = ap (λ l. type_at es x ∷ l) (held-types its ts n b.1 p)
+  held-types its (T.Property y q at ∷ ts) n b p =
+      let i = is_in its y in
+      let z = placed-held its i (type_at ds q) ts n p in
+      let value = value-stands i (type_at ds q) n z.0 in
+      ap (λ w. w ∷ map (target_type es) (held its (n + taken i) ts)) (ap (λ (v : Variable). v.vtype) value.1 ∙ sym (type-below q b.0.1)) ∙ ap (λ l. type_at es q ∷ l) (held-types its ts (n + taken i) b.1 z.1)
 
-  held-named : (ts : List Target) (n : ℕ) → list_all (suits es) (uses_of_targets ts) ≡ true → Placed ds es n (types_held ds ts) → list_all (suits es) (uses_of_targets (held n ts)) ≡ true
-  held-named [] n h p = refl
-  held-named (T.Scalar x at ∷ ts) n h p = let u = all-append (suits es) (use_as Written x) (uses_of_targets ts) h in append-true (suits es) (use_as Written x) (uses_of_targets (held n ts)) u.0 (held-named ts n u.1 p)
-  held-named (T.Property y q at ∷ ts) n h p =
+  held-named : (its : List ℕ) (ts : List Target) (n : ℕ) → list_all (suits es) (uses_of_targets ts) ≡ true → Placed ds es n (types_held ds its ts) → list_all (suits es) (uses_of_targets (held its n ts)) ≡ true
+  held-named its [] n h p = refl
+  held-named its (T.Scalar x at ∷ ts) n h p = let u = all-append (suits es) (use_as Written x) (uses_of_targets ts) h in append-true (suits es) (use_as Written x) (uses_of_targets (held its n ts)) u.0 (held-named its ts n u.1 p)
+  held-named its (T.Property y q at ∷ ts) n h p =
+      let i = is_in its y in
+      let x = value_variable i n in
       let u = all-append (suits es) (use_as Owner y ++ use_as NodeValue q) (uses_of_targets ts) h in
-      append-true (suits es) (use_as Written (n + 1)) (uses_of_targets (held (n + 2) ts)) (suited (n + 1) (type_at ds q) Written p.1.0.0 p.1.0.1 refl)
-      (held-named ts (n + 2) u.1 (subst (λ m. Placed ds es m (types_held ds ts)) (let e : (n + 1) + 1 ≡ n + 2 = omega arith in e) p.1.1))
+      let z = placed-held its i (type_at ds q) ts n p in
+      let value = value-stands i (type_at ds q) n z.0 in
+      append-true (suits es) (use_as Written x) (uses_of_targets (held its (n + taken i) ts)) (suited x (type_at ds q) Written value.0 value.1 refl) (held-named its ts (n + taken i) u.1 z.1)
 
-  held-within : (ts : List Target) (n : ℕ) → list_all (is_within es 0) ts ≡ true → Placed ds es n (types_held ds ts) → list_all (is_within es 0) (held n ts) ≡ true
-  held-within [] n h p = refl
-  held-within (T.Scalar x at ∷ ts) n h p = let u = both-true (is_within es 0 (T.Scalar x at)) (list_all (is_within es 0) ts) h in and-true (is_within es 0 (T.Scalar x at)) (list_all (is_within es 0) (held n ts)) u.0 (held-within ts n u.1 p)
-  held-within (T.Property y q at ∷ ts) n h p =
-      and-true (nat_le (depth_at es (n + 1)) 0) (list_all (is_within es 0) (held (n + 2) ts)) (ap (λ (v : Variable). nat_le v.depth 0) p.1.0.1)
-      (held-within ts (n + 2) h (subst (λ m. Placed ds es m (types_held ds ts)) (let e : (n + 1) + 1 ≡ n + 2 = omega arith in e) p.1.1))
+  held-within : (its : List ℕ) (ts : List Target) (n : ℕ) → list_all (is_within es 0) ts ≡ true → Placed ds es n (types_held ds its ts) → list_all (is_within es 0) (held its n ts) ≡ true
+  held-within its [] n h p = refl
+  held-within its (T.Scalar x at ∷ ts) n h p =
+      let u = both-true (is_within es 0 (T.Scalar x at)) (list_all (is_within es 0) ts) h in and-true (is_within es 0 (T.Scalar x at)) (list_all (is_within es 0) (held its n ts)) u.0 (held-within its ts n u.1 p)
+  held-within its (T.Property y q at ∷ ts) n h p =
+      let i = is_in its y in
+      let z = placed-held its i (type_at ds q) ts n p in
+      let value = value-stands i (type_at ds q) n z.0 in
+      and-true (nat_le (depth_at es (value_variable i n)) 0) (list_all (is_within es 0) (held its (n + taken i) ts)) (ap (λ (v : Variable). nat_le v.depth 0) value.1) (held-within its ts (n + taken i) h z.1)
 
-  -- and what is written back
-  back-kept : (its : List ℕ) (key : Key) (ts : List Target) (n : ℕ) → k ≤ n → TargetsBelow k ts → list_all (suits es) (uses_of_targets ts) ≡ true → Placed ds es n (types_held ds ts) → Kept table res its (sequence (written_back n key ts))
+  -- and what is written back, at the node that was checked or that an iterator holds
+  node-named : (i : Bool) (t : VType) (y n : ℕ) → list_all (suits es) (use_as Owner y) ≡ true → Placed ds es n (property_types i t) → list_all (suits es) (use_as Owner (node_variable i n y)) ≡ true
+  node-named true t y n h p = h
+  node-named false t y n h p = suited n V.Node Owner p.0.0 p.0.1 refl
+
+  value-after : (i : Bool) (n : ℕ) → k ≤ n → k ≤ value_variable i n
+  value-after true n l = l
+  value-after false n l = omega (arith, l)
+
+  back-kept : (its : List ℕ) (key : Key) (ts : List Target) (n : ℕ) → k ≤ n → TargetsBelow k ts → list_all (suits es) (uses_of_targets ts) ≡ true → Placed ds es n (types_held ds its ts) → Kept table res its (sequence (written_back its n key ts))
   back-kept its key [] n l b h p = skip-kept its
   back-kept its key (T.Scalar x at ∷ ts) n l b h p = back-kept its key ts n l b.1 (all-append (suits es) (use_as Written x) (uses_of_targets ts) h).1 p
   back-kept its key (T.Property y q at ∷ ts) n l b h p =
+      let i = is_in its y in
+      let c = node_variable i n y in
+      let x = value_variable i n in
       let u = all-append (suits es) (use_as Owner y ++ use_as NodeValue q) (uses_of_targets ts) h in
       let owner = all-append (suits es) (use_as Owner y) (use_as NodeValue q) u.0 in
       let t = type_at ds q in
-      then-kept table res its (Assign key (T.Property n q at) (asked (n + 1))) (sequence (written_back (n + 2) key ts))
+      let z = placed-held its i t ts n p in
+      let value = value-stands i t n z.0 in
+      then-kept table res its (Assign key (T.Property c q at) (asked x)) (sequence (written_back its (n + taken i) key ts))
       (record {
-        named = append-true (suits es) (use_as Owner n ++ use_as NodeValue q) (use_as Uses.Told (n + 1)) (append-true (suits es) (use_as Owner n) (use_as NodeValue q) (suited n V.Node Owner p.0.0 p.0.1 refl) owner.1) (suited (n + 1) t Uses.Told p.1.0.0 p.1.0.1 refl);
-        typed = ap (λ (v : Variable). is_type (type_at es q) (Some v.vtype)) p.1.0.1 ∙ ap (λ z. is_type z (Some t)) (type-below q b.0.1) ∙ type-itself t;
+        named = append-true (suits es) (use_as Owner c ++ use_as NodeValue q) (use_as Uses.Told x) (append-true (suits es) (use_as Owner c) (use_as NodeValue q) (node-named i t y n owner.0 z.0) owner.1) (suited x t Uses.Told value.0 value.1 refl);
+        typed = ap (λ (v : Variable). is_type (type_at es q) (Some v.vtype)) value.1 ∙ ap (λ z. is_type z (Some t)) (type-below q b.0.1) ∙ type-itself t;
         ordered = refl;
         share = refl;
         form = refl;
@@ -278,37 +330,37 @@ module _ (table : TypeTable) (res : Option VType) (ds : List Declaration) (few :
         conditions = refl;
         apart = refl;
         rising = refl;
-        tells = behind-inputs table its (n + 1) (omega (arith, l, few));
+        tells = behind-inputs table its x (let above = value-after i n l in omega (arith, above, few));
       })
-      (back-kept its key ts (n + 2) (omega (arith, l)) b.1 u.1 (subst (λ m. Placed ds es m (types_held ds ts)) (let e : (n + 1) + 1 ≡ n + 2 = omega arith in e) p.1.1))
+      (back-kept its key ts (n + taken i) (omega (arith, l)) b.1 u.1 z.1)
 
   -- ---- a pick
 
-  pick-kept : (its : List ℕ) (key : Key) (total : TotalKey) (r : Reduce) (ts : List Target) (vs : List Expr) (n : ℕ) → k ≤ n → TargetsBelow k ts → AllReadBelow k vs → Placed ds es n (types_held ds ts ++ types_all ds vs)
-      → Kept table res its (Combine key total r ts vs) → Kept table res its (picked n key total r ts vs)
+  pick-kept : (its : List ℕ) (key : Key) (total : TotalKey) (r : Reduce) (ts : List Target) (vs : List Expr) (n : ℕ) → k ≤ n → TargetsBelow k ts → AllReadBelow k vs → Placed ds es n (types_held ds its ts ++ types_all ds vs)
+      → Kept table res its (Combine key total r ts vs) → Kept table res its (picked its n key total r ts vs)
   pick-kept its key total r ts vs n l b c p h =
-      let m = n + count_held ts in
+      let m = n + count_held its ts in
       let more : k ≤ m = omega (arith, l) in
-      let q = placed-both ds es n (types_held ds ts) (types_all ds vs) p in
-      let behind : Placed ds es m (types_all ds vs) = subst (λ z. Placed ds es (n + z) (types_all ds vs)) (length-held ds ts) q.1 in
+      let q = placed-both ds es n (types_held ds its ts) (types_all ds vs) p in
+      let behind : Placed ds es m (types_all ds vs) = subst (λ z. Placed ds es (n + z) (types_all ds vs)) (length-held ds its ts) q.1 in
       let named = all-append (suits es) (uses_of_targets ts) (uses_in_all vs) h.named in
       let typed = both-true (all_have_types es ts vs) (fits_targets es r ts) h.typed in
       let form = both-true (list_all (is_within es 0) ts) (list_all is_phase_expr vs) h.form in
       let sound = all-sound ts vs named.1 typed.0 h.ordered form.1 h.literals in
       let told = all-told-kept its vs m more c behind sound h.tells in
       let us = all_told m vs in
-      let gs = held n ts in
-      both-sequences its (held_set n key ts) (all_set m key vs ++ (Combine key total r gs us ∷ written_back n key ts)) (held-kept its key ts n b named.0 q.0)
-      (both-sequences its (all_set m key vs) (Combine key total r gs us ∷ written_back n key ts) (all-set-kept its key vs m more c behind sound h.rising h.tells)
-      (then-kept table res its (Combine key total r gs us) (sequence (written_back n key ts))
+      let gs = held its n ts in
+      both-sequences its (held_set its n key ts) (all_set m key vs ++ (Combine key total r gs us ∷ written_back its n key ts)) (held-kept its key ts n b named.0 q.0)
+      (both-sequences its (all_set m key vs) (Combine key total r gs us ∷ written_back its n key ts) (all-set-kept its key vs m more c behind sound h.rising h.tells)
+      (then-kept table res its (Combine key total r gs us) (sequence (written_back its n key ts))
       (record {
-        named = append-true (suits es) (uses_of_targets gs) (uses_in_all us) (held-named ts n named.0 q.0) told.named;
+        named = append-true (suits es) (uses_of_targets gs) (uses_in_all us) (held-named its ts n named.0 q.0) told.named;
         typed = and-true (all_have_types es gs us) (fits_targets es r gs)
-            (have-types es gs us ∙ ap (λ z. have_types es z us) (held-types ts n b q.0) ∙ told.typed (map (target_type es) ts) (sym (have-types es ts vs) ∙ typed.0))
-            (fits-types es r gs ∙ ap (fits_types r) (held-types ts n b q.0) ∙ sym (fits-types es r ts) ∙ typed.1);
+            (have-types es gs us ∙ ap (λ z. have_types es z us) (held-types its ts n b q.0) ∙ told.typed (map (target_type es) ts) (sym (have-types es ts vs) ∙ typed.0))
+            (fits-types es r gs ∙ ap (fits_types r) (held-types its ts n b q.0) ∙ sym (fits-types es r ts) ∙ typed.1);
         ordered = told.folds;
         share = refl;
-        form = and-true (list_all (is_within es 0) gs) (list_all is_phase_expr us) (held-within ts n form.0 q.0) told.phase;
+        form = and-true (list_all (is_within es 0) gs) (list_all is_phase_expr us) (held-within its ts n form.0 q.0) told.phase;
         groups = refl;
         compounds = h.compounds;
         literals = told.literals;
@@ -319,20 +371,21 @@ module _ (table : TypeTable) (res : Option VType) (ds : List Declaration) (few :
       })
       (back-kept its key ts n l b named.0 q.0)))
 
-  placed-parts : (n : ℕ) (a b : Stmt) → Placed ds es n (types_picked ds a ++ types_picked ds b) → Placed ds es n (types_picked ds a) × Placed ds es (n + count_picks a) (types_picked ds b)
-  placed-parts n a b h = let q = placed-both ds es n (types_picked ds a) (types_picked ds b) h in (q.0, subst (λ m. Placed ds es (n + m) (types_picked ds b)) (length-picked ds a) q.1)
+  placed-parts : (n : ℕ) (its : List ℕ) (a b : Stmt) → Placed ds es n (types_picked ds its a ++ types_picked ds its b) → Placed ds es n (types_picked ds its a) × Placed ds es (n + count_picks its a) (types_picked ds its b)
+  placed-parts n its a b h = let q = placed-both ds es n (types_picked ds its a) (types_picked ds its b) h in (q.0, subst (λ m. Placed ds es (n + m) (types_picked ds its b)) (length-picked ds its a) q.1)
 
-  pub onto-kept : (s : Stmt) (n : ℕ) (its : List ℕ) → k ≤ n → NamesBelow k s → Placed ds es n (types_picked ds s) → Kept table res its s → Kept table res its (onto_scalars n s)
+  pub onto-kept : (s : Stmt) (n : ℕ) (its : List ℕ) → k ≤ n → NamesBelow k s → Placed ds es n (types_picked ds its s) → Kept table res its s → Kept table res its (onto_scalars its n s)
   onto-kept (Then a b) n its l w p h =
       let q = then-parts table res its a b h in
-      let z = placed-parts n a b p in
-      then-kept table res its (onto_scalars n a) (onto_scalars (n + count_picks a) b) (onto-kept a n its l w.0 z.0 q.0) (onto-kept b (n + count_picks a) its (omega (arith, l)) w.1 z.1 q.1)
+      let z = placed-parts n its a b p in
+      then-kept table res its (onto_scalars its n a) (onto_scalars its (n + count_picks its a) b) (onto-kept a n its l w.0 z.0 q.0) (onto-kept b (n + count_picks its a) its (omega (arith, l)) w.1 z.1 q.1)
   onto-kept (Combine key total r ts vs) n its l w p h = pick-kept its key total r ts vs n l w.0 w.1 p h
-  onto-kept (For key at hd e s) n its l w p h = let q = for-parts table res its key at hd e s h in for-kept table res its key at hd e (onto_scalars n s) q.0 q.1 (onto-kept s n (hd.iterator ∷ its) l w.3 p q.2)
+  onto-kept (For key at hd e s) n its l w p h =
+      let more = hd.iterator ∷ its in let q = for-parts table res its key at hd e s h in for-kept table res its key at hd e (onto_scalars more n s) q.0 q.1 (onto-kept s n more l w.3 p q.2)
   onto-kept (If key e a b) n its l w p h =
       let q = if-parts table res its key e a b h in
-      let z = placed-parts n a b p in
-      if-kept table res its key e (onto_scalars n a) (onto_scalars (n + count_picks a) b) q.0 (onto-kept a n its l w.1 z.0 q.1) (onto-kept b (n + count_picks a) its (omega (arith, l)) w.2 z.1 q.2)
-  onto-kept (While key at e s) n its l w p h = let q = while-parts table res its key at e s h in while-kept table res its key at e (onto_scalars n s) q.0 (onto-kept s n its l w.1 p q.1)
-  onto-kept (Do key at s e) n its l w p h = let q = do-parts table res its key at e s h in do-kept table res its key at e (onto_scalars n s) q.0 (onto-kept s n its l w.0 p q.1)
+      let z = placed-parts n its a b p in
+      if-kept table res its key e (onto_scalars its n a) (onto_scalars its (n + count_picks its a) b) q.0 (onto-kept a n its l w.1 z.0 q.1) (onto-kept b (n + count_picks its a) its (omega (arith, l)) w.2 z.1 q.2)
+  onto-kept (While key at e s) n its l w p h = let q = while-parts table res its key at e s h in while-kept table res its key at e (onto_scalars its n s) q.0 (onto-kept s n its l w.1 p q.1)
+  onto-kept (Do key at s e) n its l w p h = let q = do-parts table res its key at e s h in do-kept table res its key at e (onto_scalars its n s) q.0 (onto-kept s n its l w.0 p q.1)
   onto-kept s n its l w p h = h

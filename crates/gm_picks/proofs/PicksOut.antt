@@ -1,14 +1,16 @@
 -- A program with its picks onto scalars is ready for the next pass.
-use Rattle.std.proofs.Common.{◌≡◌, ◌≤◌, ◌+◌, ◌++◌, ℕ, true, false, List, [], ◌∷◌, length, map, refl, subst, ◌∙◌, arith, append_assoc}
+use Rattle.std.proofs.Common.{◌≡◌, ◌≤◌, ◌+◌, ◌++◌, ℕ, Bool, true, false, List, [], ◌∷◌, length, map, refl, subst, ◌∙◌, arith, append_assoc}
 use Rattle.std.specs.Prelude.{◌&&◌, nat_le}
 use Rattle.std.specs.List.{list_all}
 use Rattle.std.proofs.lemmas.Bool.{both_ways, leb-true, le-leb}
 use Rattle.std.proofs.lemmas.List.{length-append}
+use Rattle.gm_base.specs.declared.places.Place.{Place}
 use Rattle.gm_value.specs.declared.values.VType.{VType}
 use Rattle.gm_ast.specs.declared.tree.Declaration.{Declaration}
 use Rattle.gm_ast.specs.declared.tree.Target.{Target}
 use Rattle.gm_ast.specs.declared.tree.Target.TheVariants as T
 use Rattle.gm_ast.specs.Loops.{is_nodes}
+use Rattle.gm_ast.specs.Ways.{is_in}
 use Rattle.gm_ast.specs.Program.{Expr, Const, Var, Property, EdgeProperty, Degree, NodeCount, EdgeCount, Live, Unary, Binary, Both, Either, Choose, Folded, Stmt, Then, Combine, For, If, While, Do, Program, sequence}
 use Rattle.gm_semantics.specs.Frames.{NamesBelow}
 use Rattle.gm_forms.specs.Forms.{is_within, is_told}
@@ -27,7 +29,7 @@ use Rattle.gm_ast.specs.declared.tree.Key.{Key}
 use Rattle.gm_reductions.specs.Stages.{all_below, WithTypedRuns}
 use Rattle.gm_reductions.proofs.Known.{Kept}
 use Rattle.gm_reductions.proofs.Telling.{tells_in-longer}
-use Rattle.gm_picks.specs.Picks.{all_set, all_told, count_held, held_set, held, written_back, count_picks, types_picked, onto_scalars, with_plain_picks, is_scalar, has_plain_picks}
+use Rattle.gm_picks.specs.Picks.{taken, property_set, all_set, all_told, count_held, held_set, held, written_back, count_picks, types_picked, onto_scalars, with_plain_picks, is_scalar, has_plain_picks}
 use Rattle.gm_picks.specs.Laws.{WithPlainPicks}
 use Rattle.gm_picks.proofs.PicksKept.{onto-kept}
 
@@ -57,10 +59,10 @@ all-plain : (es : List Expr) (n : ℕ) → list_all is_phase_expr es ≡ true �
 all-plain [] n h = refl
 all-plain (e ∷ es) n h = let q = both-true (is_phase_expr e) (list_all is_phase_expr es) h in and-true (is_told (told_from n e)) (list_all is_told (all_told (n + count_read e) es)) (told-from e n q.0) (all-plain es (n + count_read e) q.1)
 
-held-scalars : (ts : List Target) (n : ℕ) → list_all is_scalar (held n ts) ≡ true
-held-scalars [] n = refl
-held-scalars (T.Scalar x at ∷ ts) n = held-scalars ts n
-held-scalars (T.Property y p at ∷ ts) n = held-scalars ts (n + 2)
+held-scalars : (its : List ℕ) (ts : List Target) (n : ℕ) → list_all is_scalar (held its n ts) ≡ true
+held-scalars its [] n = refl
+held-scalars its (T.Scalar x at ∷ ts) n = held-scalars its ts n
+held-scalars its (T.Property y p at ∷ ts) n = held-scalars its ts (n + taken (is_in its y))
 
 plain-both : (xs ys : List Stmt) → has_plain_picks (sequence xs) ≡ true → has_plain_picks (sequence ys) ≡ true → has_plain_picks (sequence (xs ++ ys)) ≡ true
 plain-both [] ys h k = k
@@ -88,36 +90,44 @@ plain-set : (es : List Expr) (n : ℕ) (k : Key) → has_plain_picks (sequence (
 plain-set [] n k = refl
 plain-set (e ∷ es) n k = plain-both (reads_set n k e) (all_set (n + count_read e) k es) (plain-read e n k) (plain-set es (n + count_read e) k)
 
-plain-held : (ts : List Target) (n : ℕ) (k : Key) → has_plain_picks (sequence (held_set n k ts)) ≡ true
-plain-held [] n k = refl
-plain-held (T.Scalar x at ∷ ts) n k = plain-held ts n k
-plain-held (T.Property y p at ∷ ts) n k = plain-held ts (n + 2) k
+plain-property : (i : Bool) (n : ℕ) (k : Key) (y p : ℕ) (at : Place) (rest : List Stmt) → has_plain_picks (sequence rest) ≡ true → has_plain_picks (sequence (property_set i n k y p at ++ rest)) ≡ true
+plain-property true n k y p at rest h = h
+plain-property false n k y p at rest h = h
 
-plain-back : (ts : List Target) (n : ℕ) (k : Key) → has_plain_picks (sequence (written_back n k ts)) ≡ true
-plain-back [] n k = refl
-plain-back (T.Scalar x at ∷ ts) n k = plain-back ts n k
-plain-back (T.Property y p at ∷ ts) n k = plain-back ts (n + 2) k
+plain-held : (its : List ℕ) (ts : List Target) (n : ℕ) (k : Key) → has_plain_picks (sequence (held_set its n k ts)) ≡ true
+plain-held its [] n k = refl
+plain-held its (T.Scalar x at ∷ ts) n k = plain-held its ts n k
+plain-held its (T.Property y p at ∷ ts) n k = let i = is_in its y in plain-property i n k y p at (held_set its (n + taken i) k ts) (plain-held its ts (n + taken i) k)
 
-onto-plain : (ds : List Declaration) (s : Stmt) (n : ℕ) → is_phase_code ds s ≡ true → has_plain_picks (onto_scalars n s) ≡ true
-onto-plain ds (Then a b) n h =
+plain-back : (its : List ℕ) (ts : List Target) (n : ℕ) (k : Key) → has_plain_picks (sequence (written_back its n k ts)) ≡ true
+plain-back its [] n k = refl
+plain-back its (T.Scalar x at ∷ ts) n k = plain-back its ts n k
+plain-back its (T.Property y p at ∷ ts) n k = plain-back its ts (n + taken (is_in its y)) k
+
+onto-plain : (ds : List Declaration) (s : Stmt) (its : List ℕ) (n : ℕ) → is_phase_code ds s ≡ true → has_plain_picks (onto_scalars its n s) ≡ true
+onto-plain ds (Then a b) its n h =
     let q = both-true (is_phase_code ds a) (is_phase_code ds b) h in
-    and-true (has_plain_picks (onto_scalars n a)) (has_plain_picks (onto_scalars (n + count_picks a) b)) (onto-plain ds a n q.0) (onto-plain ds b (n + count_picks a) q.1)
-onto-plain ds (Combine k total r ts es) n h =
-    let m = n + count_held ts in
+    let m = n + count_picks its a in
+    and-true (has_plain_picks (onto_scalars its n a)) (has_plain_picks (onto_scalars its m b)) (onto-plain ds a its n q.0) (onto-plain ds b its m q.1)
+onto-plain ds (Combine k total r ts es) its n h =
+    let m = n + count_held its ts in
     let q = both-true (list_all (is_within ds 0) ts) (list_all is_phase_expr es) h in
-    let gs = held n ts in
+    let gs = held its n ts in
     let us = all_told m es in
-    plain-both (held_set n k ts) (all_set m k es ++ (Combine k total r gs us ∷ written_back n k ts)) (plain-held ts n k)
-    (plain-both (all_set m k es) (Combine k total r gs us ∷ written_back n k ts) (plain-set es m k)
-    (and-true (list_all is_scalar gs && list_all is_told us) (has_plain_picks (sequence (written_back n k ts))) (and-true (list_all is_scalar gs) (list_all is_told us) (held-scalars ts n) (all-plain es m q.1)) (plain-back ts n k)))
-onto-plain ds (For k at hd e s) n h = onto-plain ds s n (both-true (is_phase_expr e) (is_phase_code ds s) (both-true (is_nodes hd.domain) (is_phase_expr e && is_phase_code ds s) h).1).1
-onto-plain ds (If k e a b) n h =
+    let back = written_back its n k ts in
+    plain-both (held_set its n k ts) (all_set m k es ++ (Combine k total r gs us ∷ back)) (plain-held its ts n k)
+    (plain-both (all_set m k es) (Combine k total r gs us ∷ back) (plain-set es m k)
+    (and-true (list_all is_scalar gs && list_all is_told us) (has_plain_picks (sequence back)) (and-true (list_all is_scalar gs) (list_all is_told us) (held-scalars its ts n) (all-plain es m q.1)) (plain-back its ts n k)))
+onto-plain ds (For k at hd e s) its n h =
+    onto-plain ds s (hd.iterator ∷ its) n (both-true (is_phase_expr e) (is_phase_code ds s) (both-true (is_nodes hd.domain) (is_phase_expr e && is_phase_code ds s) h).1).1
+onto-plain ds (If k e a b) its n h =
     let p = both-true (is_phase_expr e) (is_phase_code ds a && is_phase_code ds b) h in
     let q = both-true (is_phase_code ds a) (is_phase_code ds b) p.1 in
-    and-true (has_plain_picks (onto_scalars n a)) (has_plain_picks (onto_scalars (n + count_picks a) b)) (onto-plain ds a n q.0) (onto-plain ds b (n + count_picks a) q.1)
-onto-plain ds (While k at e s) n h = onto-plain ds s n (both-true (is_phase_expr e) (is_phase_code ds s) h).1
-onto-plain ds (Do k at s e) n h = onto-plain ds s n (both-true (is_phase_code ds s) (is_phase_expr e) h).0
-onto-plain ds s n h = refl
+    let m = n + count_picks its a in
+    and-true (has_plain_picks (onto_scalars its n a)) (has_plain_picks (onto_scalars its m b)) (onto-plain ds a its n q.0) (onto-plain ds b its m q.1)
+onto-plain ds (While k at e s) its n h = onto-plain ds s its n (both-true (is_phase_expr e) (is_phase_code ds s) h).1
+onto-plain ds (Do k at s e) its n h = onto-plain ds s its n (both-true (is_phase_code ds s) (is_phase_expr e) h).0
+onto-plain ds s its n h = refl
 
 -- ---- variables of some types at the end of a table
 
@@ -136,7 +146,7 @@ module _ (p : Program) (r : WithTypedRuns p) where
   ds = p.declarations
 
   abbrev others : List Declaration
-  others = map fresh (types_picked ds p.body)
+  others = map fresh (types_picked ds [] p.body)
 
   abbrev es : List Declaration
   es = ds ++ others
@@ -175,11 +185,11 @@ module _ (p : Program) (r : WithTypedRuns p) where
         tells = tells_in-longer all_below p.inputs ds es same p.body [] parts.1 ∙ r.tells;
       }
 
-  kept-all : Kept table p.result [] (onto_scalars k p.body)
+  kept-all : Kept table p.result [] (onto_scalars [] k p.body)
   kept-all =
       let few : p.inputs ≤ k = (let b = leb-true (p.inputs + p.outputs) k parts.0 in omega arith) in
       let least : k ≤ k = omega arith in
-      onto-kept table p.result ds few (variable-appended ds others) p.body k [] least names (placed-at-end ds ds (types_picked ds p.body)) known
+      onto-kept table p.result ds few (variable-appended ds others) p.body k [] least names (placed-at-end ds ds (types_picked ds [] p.body)) known
 
   pub picks-kept : WithPlainPicks (with_plain_picks p)
   picks-kept =
@@ -195,7 +205,7 @@ module _ (p : Program) (r : WithTypedRuns p) where
                     without_groups = record {
                       ready = record {
                         sane = record {
-                          named = and-true (nat_le (p.inputs + p.outputs) (length es)) (list_all (suits es) (uses_of (onto_scalars k p.body))) (le-leb (p.inputs + p.outputs) (length es) within) s.named;
+                          named = and-true (nat_le (p.inputs + p.outputs) (length es)) (list_all (suits es) (uses_of (onto_scalars [] k p.body))) (le-leb (p.inputs + p.outputs) (length es) within) s.named;
                           typed = s.typed;
                           ordered = s.ordered;
                           race_free = s.share;
@@ -216,5 +226,5 @@ module _ (p : Program) (r : WithTypedRuns p) where
           };
           tells = s.tells;
         };
-        plain = onto-plain ds p.body k r.with_rising_keys.with_reads_apart.with_conditions.with_literals.without_compounds.without_groups.ready.form;
+        plain = onto-plain ds p.body [] k r.with_rising_keys.with_reads_apart.with_conditions.with_literals.without_compounds.without_groups.ready.form;
       }

@@ -9,13 +9,15 @@ use Rattle.gm_picks.proofs.picks.pick_alone.Goals as goal
 pub returns-in-Block-clause-picked : goal.returns-in-Block-clause-picked
 returns-in-Block-clause-picked c =
     let n = c.args.next.now in
+    let its = c.args.around.now in
     let ss : List Stmt = map stmt_of c.in-Block.field-0.items in
     let block : stmt_of c.args.s.now ≡ sequence ss = ap stmt_of c.in-Block.is ∙ stmt_of-Block c.in-Block.field-0 in
-    block ∙ sym (block_stays n ss) ∙ sym (ap (picked_alone n) block)
+    block ∙ sym (block_stays its n ss) ∙ sym (ap (picked_alone its n) block)
 
 pub returns-in-Block-clause-next : goal.returns-in-Block-clause-next
 returns-in-Block-clause-next c =
     let n = c.args.next.now in
+    let its = c.args.around.now in
     let ss : List Stmt = map stmt_of c.in-Block.field-0.items in
     let block : stmt_of c.args.s.now ≡ sequence ss = ap stmt_of c.in-Block.is ∙ stmt_of-Block c.in-Block.field-0 in
-    nothing n ∙ ap (λ m. n + m) (sym (block_takes_none ss) ∙ sym (ap count_alone block))
+    nothing n ∙ ap (λ m. n + m) (sym (block_takes_none its ss) ∙ sym (ap (count_alone its) block))

@@ -4,4 +4,4 @@ use Rattle.gm_picks.proofs.picks.types_held.Given as goal
 
 -- the types so far and those of the targets that are left are all
 abbrev pub invariant-loop-target : goal.invariant-loop-target
-invariant-loop-target l = l.types.items ++ types_held l.declarations (drop l.target-index l.targets) ≡ l.initial.types.items ++ types_held l.declarations l.targets
+invariant-loop-target l = l.types.items ++ types_held l.declarations l.fn.around (drop l.target-index l.targets) ≡ l.initial.types.items ++ types_held l.declarations l.fn.around l.targets

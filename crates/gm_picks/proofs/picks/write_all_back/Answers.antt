@@ -9,11 +9,13 @@ pub loop-target-preserved : goal.loop-target-preserved
 loop-target-preserved c =
     let at = c.loop-target in
     let k = c.args.key in
-    gathered-more (one_back k) one_held (λ n l. written_back n k l) (λ n. refl) (written_back-step k) c.args.targets.now at.target-index no_target at.next c.write_back.new.next (map stmt_of at.set.items) (map stmt_of c.write_back.new.set.items) _ c.loop-target-test.true at.invariant c.in_ok-write_back.ensures.set c.in_ok-write_back.ensures.next
+    let its = c.args.around.now in
+    gathered-more (one_back its k) (one_held its) (λ n l. written_back its n k l) (λ n. refl) (written_back-step its k) c.args.targets.now at.target-index no_target at.next c.write_back.new.next (map stmt_of at.set.items) (map stmt_of c.write_back.new.set.items) _ c.loop-target-test.true at.invariant c.in_ok-write_back.ensures.set c.in_ok-write_back.ensures.next
 
 pub returns : goal.returns
 returns c =
     let at = c.loop-target in
     let k = c.args.key in
+    let its = c.args.around.now in
     let end : length c.args.targets.now ≤ at.target-index = omega (arith, c.loop-target-test.false) in
-    gathered-all (one_back k) one_held (λ n l. written_back n k l) (λ n. refl) (written_back-step k) c.args.targets.now at.target-index at.next (map stmt_of at.set.items) _ end at.invariant
+    gathered-all (one_back its k) (one_held its) (λ n l. written_back its n k l) (λ n. refl) (written_back-step its k) c.args.targets.now at.target-index at.next (map stmt_of at.set.items) _ end at.invariant
