@@ -1,6 +1,6 @@
 -- Names, types and forms of bodies, loops and phases with their reductions as loops.
 use Rattle.std.proofs.Common.{◌≡◌, ◌+◌, ◌++◌, ℕ, Bool, true, false, List, [], ◌∷◌, length, refl, ap, subst, ◌∙◌, arith, Option, Some}
-use Rattle.std.specs.Prelude.{◌&&◌, nat_eq, nat_le, nat_lt}
+use Rattle.std.specs.Prelude.{◌||◌, ◌&&◌, nat_eq, nat_le, nat_lt}
 use Rattle.std.specs.List.{list_all}
 use Rattle.std.proofs.lemmas.Bool.{both_ways, lt-ltb, eqb-true}
 use Rattle.gm_value.specs.declared.values.VType.{VType}
@@ -12,6 +12,7 @@ use Rattle.gm_ast.specs.declared.tree.Target.{Target}
 use Rattle.gm_ast.specs.declared.tree.Target.TheVariants as T
 use Rattle.gm_ast.specs.declared.tree.Variable.{Variable}
 use Rattle.gm_ast.specs.Loops.{is_nodes}
+use Rattle.gm_ast.specs.Ways.{is_in}
 use Rattle.gm_ast.specs.Program.{Expr, Live, Stmt, Skip, Then, Declare, Assign, Defer, Combine, Foreach, For, If, While, Do, InBfs, InBfsBoth}
 use Rattle.gm_semantics.specs.Statements.{variable_at}
 use Rattle.gm_forms.specs.Forms.{depth_at, is_flat, is_within}
@@ -22,7 +23,7 @@ use Rattle.gm_forms.proofs.Named.{both-true, all-append}
 use Rattle.gm_forms.proofs.Weaker.{and-true}
 use Rattle.gm_desugar.specs.Conditions.{nowhere}
 use Rattle.gm_desugar.proofs.Replacing.{append-true, is-type}
-use Rattle.gm_hoisting.specs.Hoisting.{count_folds, count_all, fold_types, all_types, count_body, body_types, has_none, folds_set, all_set, told_from, all_told, body_out, filter_left, search_key, under, opened, root_checked, count_check, check_added, count_loop, loop_added, count_phase, phase_added, phase_out}
+use Rattle.gm_hoisting.specs.Hoisting.{count_folds, count_all, fold_types, all_types, count_body, body_types, is_sure, has_none, folds_set, all_set, told_from, all_told, body_out, filter_left, search_key, under, opened, root_checked, count_check, check_added, count_loop, loop_added, count_phase, phase_added, phase_out}
 use Rattle.gm_hoisting.proofs.Loops.{none-told}
 use Rattle.gm_hoisting.proofs.Phases.{expr-levels}
 use Rattle.gm_hoisting.proofs.Placed.{length-folds, length-body, length-loop, length-check, length-phase, Placed, placed-both}
@@ -199,26 +200,26 @@ module _ (es : List Declaration) (res : Option VType) (levels : Bool) (outer : �
 
 -- a sequential phase
 module _ (es : List Declaration) (res : Option VType) where
-  pub record GoodPhase (s : Stmt) : Type 0 where
+  pub record GoodPhase (its : List ℕ) (s : Stmt) : Type 0 where
     pub named : list_all (suits es) (uses_of s) ≡ true
     pub typed : is_typed_in es res s ≡ true
     pub form : is_phase_code es s ≡ true
-    pub none : count_phase s ≡ 0
+    pub none : count_phase its s ≡ 0
 
-  phase-then : (a b : Stmt) → GoodPhase a → GoodPhase b → GoodPhase (Then a b)
-  phase-then a b p q = record {
+  phase-then : (its : List ℕ) (a b : Stmt) → GoodPhase its a → GoodPhase its b → GoodPhase its (Then a b)
+  phase-then its a b p q = record {
     named = append-true (suits es) (uses_of a) (uses_of b) p.named q.named;
     typed = and-true (is_typed_in es res a) (is_typed_in es res b) p.typed q.typed;
     form = and-true (is_phase_code es a) (is_phase_code es b) p.form q.form;
-    none = no-more (count_phase a) (count_phase b) p.none q.none;
+    none = no-more (count_phase its a) (count_phase its b) p.none q.none;
   }
 
   -- a check before a search
-  checked-good : (b : Bool) (n : ℕ) (k : Key) (s : Search) (t : Stmt) → Placed es n (check_added b) → list_all (suits es) (use_as Owner s.root) ≡ true → GoodPhase t → GoodPhase (root_checked b n k s t)
-  checked-good true n k s t h named p = p
-  checked-good false n k s t h named p =
+  checked-good : (its : List ℕ) (b : Bool) (n : ℕ) (k : Key) (s : Search) (t : Stmt) → Placed es n (check_added b) → list_all (suits es) (use_as Owner s.root) ≡ true → GoodPhase its t → GoodPhase its (root_checked b n k s t)
+  checked-good its true n k s t h named p = p
+  checked-good its false n k s t h named p =
       let at_n = h.0 in
-      phase-then (Assign k (T.Scalar n nowhere) (Live s.root s.place)) (Then t Skip)
+      phase-then its (Assign k (T.Scalar n nowhere) (Live s.root s.place)) (Then t Skip)
       (record {
         named = append-true (suits es) (use_as Written n) (use_as Owner s.root)
             (and-true (suits es (record { variable = n; role = Written })) true (and-true (nat_lt n (length es)) (has_role (variable_at es n) Written) (lt-ltb n (length es) at_n.0) (ap (λ v. has_role v Written) at_n.1)) refl) named;
@@ -226,16 +227,16 @@ module _ (es : List Declaration) (res : Option VType) where
         form = and-true (nat_le (depth_at es n) 0) true (ap (λ (v : Variable). nat_le v.depth 0) at_n.1) refl;
         none = refl;
       })
-      (phase-then t Skip p (record { named = refl; typed = refl; form = refl; none = refl }))
+      (phase-then its t Skip p (record { named = refl; typed = refl; form = refl; none = refl }))
 
-  pub phase-good : (s : Stmt) (n : ℕ) → Placed es n (phase_added s) → list_all (suits es) (uses_of s) ≡ true → is_typed_in es res s ≡ true → is_phase_code es s ≡ true → GoodPhase (phase_out n s)
-  phase-good (Then a b) n h named typed form =
+  pub phase-good : (s : Stmt) (its : List ℕ) (n : ℕ) → Placed es n (phase_added its s) → list_all (suits es) (uses_of s) ≡ true → is_typed_in es res s ≡ true → is_phase_code es s ≡ true → GoodPhase its (phase_out its n s)
+  phase-good (Then a b) its n h named typed form =
       let names = all-append (suits es) (uses_of a) (uses_of b) named in
       let types = both-true (is_typed_in es res a) (is_typed_in es res b) typed in
       let forms = both-true (is_phase_code es a) (is_phase_code es b) form in
-      let l = placed-both es n (phase_added a) (phase_added b) h in
-      phase-then (phase_out n a) (phase_out (n + count_phase a) b) (phase-good a n l.0 names.0 types.0 forms.0) (phase-good b (n + count_phase a) (subst (λ c. Placed es (n + c) (phase_added b)) (length-phase a) l.1) names.1 types.1 forms.1)
-  phase-good (Foreach k at hd test body) n h named typed form =
+      let l = placed-both es n (phase_added its a) (phase_added its b) h in
+      phase-then its (phase_out its n a) (phase_out its (n + count_phase its a) b) (phase-good a its n l.0 names.0 types.0 forms.0) (phase-good b its (n + count_phase its a) (subst (λ c. Placed es (n + c) (phase_added its b)) (length-phase a its) l.1) names.1 types.1 forms.1)
+  phase-good (Foreach k at hd test body) its n h named typed form =
       let names = all-append (suits es) (uses_of_head hd) (uses_in test ++ uses_of body) named in
       let parts = all-append (suits es) (uses_in test) (uses_of body) names.1 in
       let types = both-true (has_type es V.Flag test) (is_typed_in es res body) typed in
@@ -250,64 +251,65 @@ module _ (es : List Declaration) (res : Option VType) where
         form = and-true (is_nodes hd.domain) (is_outer_loop es false hd.iterator test' body') forms.0 (and-true (is_outer_expr false hd.iterator test') (is_outer_code es false hd.iterator body') (flat-outer false hd.iterator test' g.flat) g.inside.form);
         none = no-more (count_folds test') (count_body body') g.none g.inside.none;
       }
-  phase-good (For k at hd test body) n h named typed form =
+  phase-good (For k at hd test body) its n h named typed form =
       let names = all-append (suits es) (uses_of_head hd) (uses_in test ++ uses_of body) named in
       let parts = all-append (suits es) (uses_in test) (uses_of body) names.1 in
       let types = both-true (has_type es V.Flag test) (is_typed_in es res body) typed in
       let forms = both-true (is_nodes hd.domain) (is_phase_expr test && is_phase_code es body) form in
       let inner = both-true (is_phase_expr test) (is_phase_code es body) forms.1 in
-      let g = phase-good body n h parts.1 types.1 inner.1 in
+      let g = phase-good body (hd.iterator ∷ its) n h parts.1 types.1 inner.1 in
       record {
-        named = append-true (suits es) (uses_of_head hd) (uses_in test ++ uses_of (phase_out n body)) names.0 (append-true (suits es) (uses_in test) (uses_of (phase_out n body)) parts.0 g.named);
-        typed = and-true (has_type es V.Flag test) (is_typed_in es res (phase_out n body)) types.0 g.typed;
-        form = and-true (is_nodes hd.domain) (is_phase_expr test && is_phase_code es (phase_out n body)) forms.0 (and-true (is_phase_expr test) (is_phase_code es (phase_out n body)) inner.0 g.form);
+        named = append-true (suits es) (uses_of_head hd) (uses_in test ++ uses_of (phase_out (hd.iterator ∷ its) n body)) names.0 (append-true (suits es) (uses_in test) (uses_of (phase_out (hd.iterator ∷ its) n body)) parts.0 g.named);
+        typed = and-true (has_type es V.Flag test) (is_typed_in es res (phase_out (hd.iterator ∷ its) n body)) types.0 g.typed;
+        form = and-true (is_nodes hd.domain) (is_phase_expr test && is_phase_code es (phase_out (hd.iterator ∷ its) n body)) forms.0 (and-true (is_phase_expr test) (is_phase_code es (phase_out (hd.iterator ∷ its) n body)) inner.0 g.form);
         none = g.none;
       }
-  phase-good (If k c a b) n h named typed form =
+  phase-good (If k c a b) its n h named typed form =
       let names = all-append (suits es) (uses_in c) (uses_of a ++ uses_of b) named in
       let parts = all-append (suits es) (uses_of a) (uses_of b) names.1 in
       let types = both-true (has_type es V.Flag c) (is_typed_in es res a && is_typed_in es res b) typed in
       let branch_types = both-true (is_typed_in es res a) (is_typed_in es res b) types.1 in
       let forms = both-true (is_phase_expr c) (is_phase_code es a && is_phase_code es b) form in
       let branch_forms = both-true (is_phase_code es a) (is_phase_code es b) forms.1 in
-      let l = placed-both es n (phase_added a) (phase_added b) h in
-      let p = phase-good a n l.0 parts.0 branch_types.0 branch_forms.0 in
-      let q = phase-good b (n + count_phase a) (subst (λ c. Placed es (n + c) (phase_added b)) (length-phase a) l.1) parts.1 branch_types.1 branch_forms.1 in
-      let a' = phase_out n a in
-      let b' = phase_out (n + count_phase a) b in
+      let l = placed-both es n (phase_added its a) (phase_added its b) h in
+      let p = phase-good a its n l.0 parts.0 branch_types.0 branch_forms.0 in
+      let q = phase-good b its (n + count_phase its a) (subst (λ c. Placed es (n + c) (phase_added its b)) (length-phase a its) l.1) parts.1 branch_types.1 branch_forms.1 in
+      let a' = phase_out its n a in
+      let b' = phase_out its (n + count_phase its a) b in
       record {
         named = append-true (suits es) (uses_in c) (uses_of a' ++ uses_of b') names.0 (append-true (suits es) (uses_of a') (uses_of b') p.named q.named);
         typed = and-true (has_type es V.Flag c) (is_typed_in es res a' && is_typed_in es res b') types.0 (and-true (is_typed_in es res a') (is_typed_in es res b') p.typed q.typed);
         form = and-true (is_phase_expr c) (is_phase_code es a' && is_phase_code es b') forms.0 (and-true (is_phase_code es a') (is_phase_code es b') p.form q.form);
-        none = no-more (count_phase a') (count_phase b') p.none q.none;
+        none = no-more (count_phase its a') (count_phase its b') p.none q.none;
       }
-  phase-good (While k at c body) n h named typed form =
+  phase-good (While k at c body) its n h named typed form =
       let names = all-append (suits es) (uses_in c) (uses_of body) named in
       let types = both-true (has_type es V.Flag c) (is_typed_in es res body) typed in
       let forms = both-true (is_phase_expr c) (is_phase_code es body) form in
-      let g = phase-good body n h names.1 types.1 forms.1 in
+      let g = phase-good body its n h names.1 types.1 forms.1 in
       record {
-        named = append-true (suits es) (uses_in c) (uses_of (phase_out n body)) names.0 g.named;
-        typed = and-true (has_type es V.Flag c) (is_typed_in es res (phase_out n body)) types.0 g.typed;
-        form = and-true (is_phase_expr c) (is_phase_code es (phase_out n body)) forms.0 g.form;
+        named = append-true (suits es) (uses_in c) (uses_of (phase_out its n body)) names.0 g.named;
+        typed = and-true (has_type es V.Flag c) (is_typed_in es res (phase_out its n body)) types.0 g.typed;
+        form = and-true (is_phase_expr c) (is_phase_code es (phase_out its n body)) forms.0 g.form;
         none = g.none;
       }
-  phase-good (Do k at body c) n h named typed form =
+  phase-good (Do k at body c) its n h named typed form =
       let names = all-append (suits es) (uses_of body) (uses_in c) named in
       let types = both-true (is_typed_in es res body) (has_type es V.Flag c) typed in
       let forms = both-true (is_phase_code es body) (is_phase_expr c) form in
-      let g = phase-good body n h names.0 types.0 forms.0 in
+      let g = phase-good body its n h names.0 types.0 forms.0 in
       record {
-        named = append-true (suits es) (uses_of (phase_out n body)) (uses_in c) g.named names.1;
-        typed = and-true (is_typed_in es res (phase_out n body)) (has_type es V.Flag c) g.typed types.1;
-        form = and-true (is_phase_code es (phase_out n body)) (is_phase_expr c) g.form forms.1;
+        named = append-true (suits es) (uses_of (phase_out its n body)) (uses_in c) g.named names.1;
+        typed = and-true (is_typed_in es res (phase_out its n body)) (has_type es V.Flag c) g.typed types.1;
+        form = and-true (is_phase_code es (phase_out its n body)) (is_phase_expr c) g.form forms.1;
         none = g.none;
       }
-  phase-good (InBfs k at s test body) n h named typed form =
+  phase-good (InBfs k at s test body) its n h named typed form =
       let none = has_none test in
-      let m = n + count_check none in
-      let l = placed-both es n (check_added none) (loop_added test body) h in
-      let there = subst (λ c. Placed es (n + c) (loop_added test body)) (length-check none) l.1 in
+      let sure = is_sure its s test in
+      let m = n + count_check sure in
+      let l = placed-both es n (check_added sure) (loop_added test body) h in
+      let there = subst (λ c. Placed es (n + c) (loop_added test body)) (length-check sure) l.1 in
       let names = all-append (suits es) (uses_of_search s) (uses_in test ++ uses_of body) named in
       let parts = all-append (suits es) (uses_in test) (uses_of body) names.1 in
       let root = (all-append (suits es) (use_as Anything s.graph) (use_as Owner s.root) (all-append (suits es) (use_as Iterates s.iterator) (use_as Anything s.graph ++ use_as Owner s.root) names.0).1).1 in
@@ -316,23 +318,24 @@ module _ (es : List Declaration) (res : Option VType) where
       let g = loop-good es res true s.iterator m k test body there parts.0 types.0 (expr-levels s.iterator test forms.0) parts.1 types.1 forms.1 in
       let test' = filter_left none test in
       let body' = opened m k test body in
-      checked-good none n k s (InBfs (search_key none k) at s test' body') l.0 root
+      checked-good its sure n k s (InBfs (search_key none k) at s test' body') l.0 root
       (record {
         named = append-true (suits es) (uses_of_search s) (uses_in test' ++ uses_of body') names.0 (append-true (suits es) (uses_in test') (uses_of body') g.named g.inside.named);
         typed = and-true (has_type es V.Flag test') (is_typed_in es res body') g.typed g.inside.typed;
         form = and-true (is_outer_expr false s.iterator test') (is_outer_code es true s.iterator body') (flat-outer false s.iterator test' g.flat) g.inside.form;
-        none = no-more (count_check (has_none test')) (count_loop test' body') (check-none test' g.none) (no-more (count_folds test') (count_body body') g.none g.inside.none);
+        none = no-more (count_check (is_sure its s test')) (count_loop test' body') (check-none test' g.none) (no-more (count_folds test') (count_body body') g.none g.inside.none);
       })
     where
-      check-none : (e : Expr) → count_folds e ≡ 0 → count_check (has_none e) ≡ 0
-      check-none e z = ap (λ c. count_check (nat_eq c 0)) z
-  phase-good (InBfsBoth k at s test body back_key back_test back) n h named typed form =
+      check-none : (e : Expr) → count_folds e ≡ 0 → count_check (is_sure its s e) ≡ 0
+      check-none e z = ap (λ c. count_check (nat_eq c 0 || is_in its s.root)) z
+  phase-good (InBfsBoth k at s test body back_key back_test back) its n h named typed form =
       let none = has_none test in
+      let sure = is_sure its s test in
       let back_none = has_none back_test in
-      let m = n + count_check none in
+      let m = n + count_check sure in
       let m2 = m + count_loop test body in
-      let l = placed-both es n (check_added none) (loop_added test body ++ loop_added back_test back) h in
-      let l2 = placed-both es m (loop_added test body) (loop_added back_test back) (subst (λ c. Placed es (n + c) (loop_added test body ++ loop_added back_test back)) (length-check none) l.1) in
+      let l = placed-both es n (check_added sure) (loop_added test body ++ loop_added back_test back) h in
+      let l2 = placed-both es m (loop_added test body) (loop_added back_test back) (subst (λ c. Placed es (n + c) (loop_added test body ++ loop_added back_test back)) (length-check sure) l.1) in
       let there = subst (λ c. Placed es (m + c) (loop_added back_test back)) (length-loop test body) l2.1 in
       let names = all-append (suits es) (uses_of_search s) (uses_in test ++ (uses_of body ++ (uses_in back_test ++ uses_of back))) named in
       let n1 = all-append (suits es) (uses_in test) (uses_of body ++ (uses_in back_test ++ uses_of back)) names.1 in
@@ -351,7 +354,7 @@ module _ (es : List Declaration) (res : Option VType) where
       let body' = opened m k test body in
       let back_test' = filter_left back_none back_test in
       let back' = opened m2 back_key back_test back in
-      checked-good none n k s (InBfsBoth (search_key none k) at s test' body' (search_key back_none back_key) back_test' back') l.0 root
+      checked-good its sure n k s (InBfsBoth (search_key none k) at s test' body' (search_key back_none back_key) back_test' back') l.0 root
       (record {
         named = append-true (suits es) (uses_of_search s) (uses_in test' ++ (uses_of body' ++ (uses_in back_test' ++ uses_of back'))) names.0
             (append-true (suits es) (uses_in test') (uses_of body' ++ (uses_in back_test' ++ uses_of back')) g.named
@@ -361,10 +364,10 @@ module _ (es : List Declaration) (res : Option VType) where
         form = and-true (is_outer_expr false s.iterator test') (is_outer_code es true s.iterator body' && (is_outer_expr false s.iterator back_test' && is_outer_code es true s.iterator back')) (flat-outer false s.iterator test' g.flat)
             (and-true (is_outer_code es true s.iterator body') (is_outer_expr false s.iterator back_test' && is_outer_code es true s.iterator back') g.inside.form
             (and-true (is_outer_expr false s.iterator back_test') (is_outer_code es true s.iterator back') (flat-outer false s.iterator back_test' b.flat) b.inside.form));
-        none = no-more (count_check (has_none test')) (count_loop test' body' + count_loop back_test' back') (check-none test' g.none)
+        none = no-more (count_check (is_sure its s test')) (count_loop test' body' + count_loop back_test' back') (check-none test' g.none)
             (no-more (count_loop test' body') (count_loop back_test' back') (no-more (count_folds test') (count_body body') g.none g.inside.none) (no-more (count_folds back_test') (count_body back') b.none b.inside.none));
       })
     where
-      check-none : (e : Expr) → count_folds e ≡ 0 → count_check (has_none e) ≡ 0
-      check-none e z = ap (λ c. count_check (nat_eq c 0)) z
-  phase-good s n h named typed form = record { named = named; typed = typed; form = form; none = refl }
+      check-none : (e : Expr) → count_folds e ≡ 0 → count_check (is_sure its s e) ≡ 0
+      check-none e z = ap (λ c. count_check (nat_eq c 0 || is_in its s.root)) z
+  phase-good s its n h named typed form = record { named = named; typed = typed; form = form; none = refl }

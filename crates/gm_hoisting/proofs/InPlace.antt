@@ -15,7 +15,7 @@ use Rattle.gm_ast.specs.declared.tree.TotalKey.{TotalKey}
 use Rattle.gm_ast.specs.Program.{Expr, Stmt, Assign, Defer, Combine, If, InBfs, InBfsBoth}
 use Rattle.gm_ast.specs.Tree.{expr_of, stmt_of}
 use Rattle.gm_desugar.proofs.Trees.{stmt_of-Defer, stmt_of-InBfs, stmt_of-InBfsBoth}
-use Rattle.gm_hoisting.specs.Hoisting.{count_folds, count_loop, count_check, count_body, has_none, folds_set, all_set, told_from, all_told, behind, body_out, search_key, filter_left, opened, root_checked, phase_out}
+use Rattle.gm_hoisting.specs.Hoisting.{is_sure, count_folds, count_loop, count_check, count_body, has_none, folds_set, all_set, told_from, all_told, behind, body_out, search_key, filter_left, opened, root_checked, phase_out}
 
 -- what a statement is whose parts are known by equations
 pub defer-is : {s : S.Stmt} {k j : Key} {t u : Target} {e d : E.Expr} → j ≡ k → u ≡ t → d ≡ e → s ≡ S.Defer k t e → stmt_of s ≡ Defer j u (expr_of d)
@@ -52,13 +52,13 @@ pub if-out : (n : ℕ) (k : Key) (e d : Expr) (a b x y : Stmt) (first : List Stm
 if-out n k e d a b x y first set told one other = rw (set, told, one, other) refl
 
 -- and of a search in a sequential phase
-pub search-out : (n m x : ℕ) (none : Bool) (k j : Key) (at : Place) (h : Search) (e d : Expr) (s b : Stmt) →
-    none ≡ has_none e → x ≡ n → m ≡ n + count_check (has_none e) → j ≡ search_key (has_none e) k → d ≡ filter_left (has_none e) e → b ≡ opened m k e s →
-    root_checked none x k h (InBfs j at h d b) ≡ phase_out n (InBfs k at h e s)
-search-out n m x none k j at h e d s b is root more key test body = rw (is, root, body, more, key, test) refl
+pub search-out : (its : List ℕ) (n m x : ℕ) (sure : Bool) (k j : Key) (at : Place) (h : Search) (e d : Expr) (s b : Stmt) →
+    sure ≡ is_sure its h e → x ≡ n → m ≡ n + count_check (is_sure its h e) → j ≡ search_key (has_none e) k → d ≡ filter_left (has_none e) e → b ≡ opened m k e s →
+    root_checked sure x k h (InBfs j at h d b) ≡ phase_out its n (InBfs k at h e s)
+search-out its n m x sure k j at h e d s b is root more key test body = rw (is, root, body, more, key, test) refl
 
-pub both-out : (n m l x : ℕ) (none : Bool) (k j : Key) (at : Place) (h : Search) (e d : Expr) (s b : Stmt) (k' j' : Key) (e' d' : Expr) (s' b' : Stmt) →
-    none ≡ has_none e → x ≡ n → m ≡ n + count_check (has_none e) → l ≡ m + count_loop e s → j ≡ search_key (has_none e) k → d ≡ filter_left (has_none e) e → b ≡ opened m k e s →
+pub both-out : (its : List ℕ) (n m l x : ℕ) (sure : Bool) (k j : Key) (at : Place) (h : Search) (e d : Expr) (s b : Stmt) (k' j' : Key) (e' d' : Expr) (s' b' : Stmt) →
+    sure ≡ is_sure its h e → x ≡ n → m ≡ n + count_check (is_sure its h e) → l ≡ m + count_loop e s → j ≡ search_key (has_none e) k → d ≡ filter_left (has_none e) e → b ≡ opened m k e s →
     j' ≡ search_key (has_none e') k' → d' ≡ filter_left (has_none e') e' → b' ≡ opened l k' e' s' →
-    root_checked none x k h (InBfsBoth j at h d b j' d' b') ≡ phase_out n (InBfsBoth k at h e s k' e' s')
-both-out n m l x none k j at h e d s b k' j' e' d' s' b' is root more last key test body key' test' body' = rw (is, root, body', last, body, more, key, test, key', test') refl
+    root_checked sure x k h (InBfsBoth j at h d b j' d' b') ≡ phase_out its n (InBfsBoth k at h e s k' e' s')
+both-out its n m l x sure k j at h e d s b k' j' e' d' s' b' is root more last key test body key' test' body' = rw (is, root, body', last, body, more, key, test, key', test') refl

@@ -84,13 +84,13 @@ pub count_body-sequence : (ss : List Stmt) → count_body (sequence ss) ≡ coun
 count_body-sequence [] = refl
 count_body-sequence (s ∷ ss) = ap (λ m. count_body s + m) (count_body-sequence ss)
 
-pub phase_out-sequence : (n : ℕ) (ss : List Stmt) → phase_out n (sequence ss) ≡ sequence (each phase_out count_phase n ss)
-phase_out-sequence n [] = refl
-phase_out-sequence n (s ∷ ss) = ap (Then (phase_out n s)) (phase_out-sequence (n + count_phase s) ss)
+pub phase_out-sequence : (its : List ℕ) (n : ℕ) (ss : List Stmt) → phase_out its n (sequence ss) ≡ sequence (each (phase_out its) (count_phase its) n ss)
+phase_out-sequence its n [] = refl
+phase_out-sequence its n (s ∷ ss) = ap (Then (phase_out its n s)) (phase_out-sequence its (n + count_phase its s) ss)
 
-pub count_phase-sequence : (ss : List Stmt) → count_phase (sequence ss) ≡ counts count_phase ss
-count_phase-sequence [] = refl
-count_phase-sequence (s ∷ ss) = ap (λ m. count_phase s + m) (count_phase-sequence ss)
+pub count_phase-sequence : (its : List ℕ) (ss : List Stmt) → count_phase its (sequence ss) ≡ counts (count_phase its) ss
+count_phase-sequence its [] = refl
+count_phase-sequence its (s ∷ ss) = ap (λ m. count_phase its s + m) (count_phase-sequence its ss)
 
 -- ---- values
 

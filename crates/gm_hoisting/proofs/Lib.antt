@@ -8,6 +8,7 @@ pub mod Bodies
 pub mod Bare
 pub mod Placed
 pub mod Loops
+pub mod Around
 pub mod Phases
 pub mod Late
 pub mod Same

@@ -20,7 +20,7 @@ use Rattle.gm_forms.proofs.Leading.{numbered-both, numbered-first, numbered-seco
 use Rattle.gm_forms.proofs.Named.{both-true}
 use Rattle.gm_forms.proofs.Weaker.{and-true}
 use Rattle.gm_desugar.proofs.Fewer.{Fewer, lie-from, lie-fewer, fewer-both, numbered-fewer, nothing-before}
-use Rattle.gm_hoisting.specs.Hoisting.{count_folds, has_none, folds_set, told_from, behind, body_out, filter_left, loop_key, search_key, under, opened, root_checked, count_check, count_loop, count_phase, phase_out}
+use Rattle.gm_hoisting.specs.Hoisting.{count_folds, is_sure, has_none, folds_set, told_from, behind, body_out, filter_left, loop_key, search_key, under, opened, root_checked, count_check, count_loop, count_phase, phase_out}
 use Rattle.gm_hoisting.specs.Totals.{as_sums, body_as_sums, loops_as_sums, values_stand, search_stands, loops_stand}
 use Rattle.gm_hoisting.proofs.OrderKept.{InOrder, body-ordered, if-behind}
 use Rattle.gm_hoisting.proofs.Phases.{outer-again}
@@ -220,43 +220,43 @@ module _ (ds : List Declaration) where
   checked-ordered true n k s t h = h
   checked-ordered false n k s t h = and-true (loops_in_order t) true h refl
 
-  pub phase-ordered : (s : Stmt) (n : ℕ) → is_phase_code ds s ≡ true → loops_in_order (loops_as_sums s) ≡ true → loops_stand s ≡ true → loops_in_order (phase_out n s) ≡ true
-  phase-ordered (Then a b) n form order stand =
+  pub phase-ordered : (s : Stmt) (its : List ℕ) (n : ℕ) → is_phase_code ds s ≡ true → loops_in_order (loops_as_sums s) ≡ true → loops_stand s ≡ true → loops_in_order (phase_out its n s) ≡ true
+  phase-ordered (Then a b) its n form order stand =
       let f = both-true (is_phase_code ds a) (is_phase_code ds b) form in
       let o = both-true (loops_in_order (loops_as_sums a)) (loops_in_order (loops_as_sums b)) order in
       let z = both-true (loops_stand a) (loops_stand b) stand in
-      and-true (loops_in_order (phase_out n a)) (loops_in_order (phase_out (n + count_phase a) b)) (phase-ordered a n f.0 o.0 z.0) (phase-ordered b (n + count_phase a) f.1 o.1 z.1)
-  phase-ordered (Foreach k at hd test body) n form order stand =
+      and-true (loops_in_order (phase_out its n a)) (loops_in_order (phase_out its (n + count_phase its a) b)) (phase-ordered a its n f.0 o.0 z.0) (phase-ordered b its (n + count_phase its a) f.1 o.1 z.1)
+  phase-ordered (Foreach k at hd test body) its n form order stand =
       let f = both-true (is_nodes hd.domain) (is_outer_loop ds false hd.iterator test body) form in
       let o = both-true (begins (hd.iterator ∷ []) k hd.place (as_sums test) (body_as_sums body)) (loop_in_order (hd.iterator ∷ []) k (as_sums test) (body_as_sums body)) order in
       loop-ordered ds false hd.iterator n k hd.place test body (record { form = f.1; begin = o.0; order = o.1; stand = stand })
-  phase-ordered (For k at hd test body) n form order stand =
+  phase-ordered (For k at hd test body) its n form order stand =
       let f = both-true (is_nodes hd.domain) (is_phase_expr test && is_phase_code ds body) form in
       let o = both-true (folds_in_order test) (loops_in_order (loops_as_sums body)) order in
-      and-true (folds_in_order test) (loops_in_order (phase_out n body)) o.0 (phase-ordered body n (both-true (is_phase_expr test) (is_phase_code ds body) f.1).1 o.1 stand)
-  phase-ordered (If k c a b) n form order stand =
+      and-true (folds_in_order test) (loops_in_order (phase_out (hd.iterator ∷ its) n body)) o.0 (phase-ordered body (hd.iterator ∷ its) n (both-true (is_phase_expr test) (is_phase_code ds body) f.1).1 o.1 stand)
+  phase-ordered (If k c a b) its n form order stand =
       let f = both-true (is_phase_code ds a) (is_phase_code ds b) (both-true (is_phase_expr c) (is_phase_code ds a && is_phase_code ds b) form).1 in
       let o = both-true (folds_in_order c) (loops_in_order (loops_as_sums a) && loops_in_order (loops_as_sums b)) order in
       let p = both-true (loops_in_order (loops_as_sums a)) (loops_in_order (loops_as_sums b)) o.1 in
       let z = both-true (loops_stand a) (loops_stand b) stand in
-      and-true (folds_in_order c) _ o.0 (and-true (loops_in_order (phase_out n a)) (loops_in_order (phase_out (n + count_phase a) b)) (phase-ordered a n f.0 p.0 z.0) (phase-ordered b (n + count_phase a) f.1 p.1 z.1))
-  phase-ordered (While k at c body) n form order stand =
+      and-true (folds_in_order c) _ o.0 (and-true (loops_in_order (phase_out its n a)) (loops_in_order (phase_out its (n + count_phase its a) b)) (phase-ordered a its n f.0 p.0 z.0) (phase-ordered b its (n + count_phase its a) f.1 p.1 z.1))
+  phase-ordered (While k at c body) its n form order stand =
       let f = both-true (is_phase_expr c) (is_phase_code ds body) form in
       let o = both-true (folds_in_order c) (loops_in_order (loops_as_sums body)) order in
-      and-true (folds_in_order c) (loops_in_order (phase_out n body)) o.0 (phase-ordered body n f.1 o.1 stand)
-  phase-ordered (Do k at body c) n form order stand =
+      and-true (folds_in_order c) (loops_in_order (phase_out its n body)) o.0 (phase-ordered body its n f.1 o.1 stand)
+  phase-ordered (Do k at body c) its n form order stand =
       let f = both-true (is_phase_code ds body) (is_phase_expr c) form in
       let o = both-true (loops_in_order (loops_as_sums body)) (folds_in_order c) order in
-      and-true (loops_in_order (phase_out n body)) (folds_in_order c) (phase-ordered body n f.0 o.0 stand) o.1
-  phase-ordered (InBfs k at s test body) n form order stand =
-      let m = n + count_check (has_none test) in
+      and-true (loops_in_order (phase_out its n body)) (folds_in_order c) (phase-ordered body its n f.0 o.0 stand) o.1
+  phase-ordered (InBfs k at s test body) its n form order stand =
+      let m = n + count_check (is_sure its s test) in
       let o = both-true (are_numbered (fault_of k s.place ∷ [])) _ order in
       let p = both-true (begins (s.iterator ∷ []) k s.place (as_sums test) (body_as_sums body)) (loop_in_order (s.iterator ∷ []) k (as_sums test) (body_as_sums body)) o.1 in
       let z = both-true (search_stands k s.place test) (values_stand body) stand in
-      checked-ordered (has_none test) n k s (InBfs (search_key (has_none test) k) at s (filter_left (has_none test) test) (opened m k test body))
+      checked-ordered (is_sure its s test) n k s (InBfs (search_key (has_none test) k) at s (filter_left (has_none test) test) (opened m k test body))
       (search-ordered ds true s.iterator m k s.place test body (record { form = outer-again ds s.iterator test body form; begin = p.0; order = p.1; stand = z.1 }) o.0 z.0)
-  phase-ordered (InBfsBoth k at s test body back_key back_test back) n form order stand =
-      let m = n + count_check (has_none test) in
+  phase-ordered (InBfsBoth k at s test body back_key back_test back) its n form order stand =
+      let m = n + count_check (is_sure its s test) in
       let m2 = m + count_loop test body in
       let o = both-true (search_in_order (s.iterator ∷ []) k s.place (as_sums test) (body_as_sums body)) (search_in_order (s.iterator ∷ []) back_key s.place (as_sums back_test) (body_as_sums back)) order in
       let o1 = both-true (are_numbered (fault_of k s.place ∷ [])) _ o.0 in
@@ -271,9 +271,9 @@ module _ (ds : List Declaration) where
       let front = outer-again ds s.iterator test body (and-true (is_outer_expr false s.iterator test) (is_outer_code ds true s.iterator body) f1.0 f2.0) in
       let forward = search_in_order (s.iterator ∷ []) (search_key (has_none test) k) s.place (filter_left (has_none test) test) (opened m k test body) in
       let backward = search_in_order (s.iterator ∷ []) (search_key (has_none back_test) back_key) s.place (filter_left (has_none back_test) back_test) (opened m2 back_key back_test back) in
-      checked-ordered (has_none test) n k s
+      checked-ordered (is_sure its s test) n k s
       (InBfsBoth (search_key (has_none test) k) at s (filter_left (has_none test) test) (opened m k test body) (search_key (has_none back_test) back_key) (filter_left (has_none back_test) back_test) (opened m2 back_key back_test back))
       (and-true forward backward
       (search-ordered ds true s.iterator m k s.place test body (record { form = front; begin = p1.0; order = p1.1; stand = z2.0 }) o1.0 z1.0)
       (search-ordered ds true s.iterator m2 back_key s.place back_test back (record { form = outer-again ds s.iterator back_test back f2.1; begin = p2.0; order = p2.1; stand = z3.1 }) o2.0 z3.0))
-  phase-ordered s n form order stand = order
+  phase-ordered s its n form order stand = order

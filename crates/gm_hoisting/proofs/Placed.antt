@@ -9,7 +9,7 @@ use Rattle.gm_ast.specs.declared.tree.Variable.{Variable}
 use Rattle.gm_ast.specs.Program.{Expr, Const, Var, Property, EdgeProperty, Degree, NodeCount, EdgeCount, Live, Unary, Binary, Both, Either, Choose, Folded, Stmt, Then, Declare, Assign, Defer, Combine, Foreach, For, If, While, Do, InBfs, InBfsBoth}
 use Rattle.gm_semantics.specs.Statements.{variable_at}
 use Rattle.gm_desugar.proofs.Appended.{next-below, variable-next}
-use Rattle.gm_hoisting.specs.Hoisting.{local, count_folds, count_all, fold_types, all_types, count_body, body_types, has_none, count_check, check_added, count_loop, loop_added, count_phase, phase_added}
+use Rattle.gm_hoisting.specs.Hoisting.{local, count_folds, count_all, fold_types, all_types, count_body, body_types, is_sure, count_check, check_added, count_loop, loop_added, count_phase, phase_added}
 
 -- how many there are
 both-lengths : {A : Type 0} (xs ys : List A) (n m : ℕ) → length xs ≡ n → length ys ≡ m → length (xs ++ ys) ≡ n + m
@@ -57,18 +57,18 @@ pub length-check : (b : Bool) → length (check_added b) ≡ count_check b
 length-check true = refl
 length-check false = refl
 
-pub length-phase : (s : Stmt) → length (phase_added s) ≡ count_phase s
-length-phase (Then a b) = both-lengths (phase_added a) (phase_added b) (count_phase a) (count_phase b) (length-phase a) (length-phase b)
-length-phase (Foreach k at h test body) = length-loop test body
-length-phase (For k at h test body) = length-phase body
-length-phase (If k c a b) = both-lengths (phase_added a) (phase_added b) (count_phase a) (count_phase b) (length-phase a) (length-phase b)
-length-phase (While k at c body) = length-phase body
-length-phase (Do k at body c) = length-phase body
-length-phase (InBfs k at s test body) = both-lengths (check_added (has_none test)) (loop_added test body) (count_check (has_none test)) (count_loop test body) (length-check (has_none test)) (length-loop test body)
-length-phase (InBfsBoth k at s test body back_key back_test back) =
-    both-lengths (check_added (has_none test)) (loop_added test body ++ loop_added back_test back) (count_check (has_none test)) (count_loop test body + count_loop back_test back) (length-check (has_none test))
+pub length-phase : (s : Stmt) (its : List ℕ) → length (phase_added its s) ≡ count_phase its s
+length-phase (Then a b) its = both-lengths (phase_added its a) (phase_added its b) (count_phase its a) (count_phase its b) (length-phase a its) (length-phase b its)
+length-phase (Foreach k at h test body) its = length-loop test body
+length-phase (For k at h test body) its = length-phase body (h.iterator ∷ its)
+length-phase (If k c a b) its = both-lengths (phase_added its a) (phase_added its b) (count_phase its a) (count_phase its b) (length-phase a its) (length-phase b its)
+length-phase (While k at c body) its = length-phase body its
+length-phase (Do k at body c) its = length-phase body its
+length-phase (InBfs k at s test body) its = both-lengths (check_added (is_sure its s test)) (loop_added test body) (count_check (is_sure its s test)) (count_loop test body) (length-check (is_sure its s test)) (length-loop test body)
+length-phase (InBfsBoth k at s test body back_key back_test back) its =
+    both-lengths (check_added (is_sure its s test)) (loop_added test body ++ loop_added back_test back) (count_check (is_sure its s test)) (count_loop test body + count_loop back_test back) (length-check (is_sure its s test))
     (both-lengths (loop_added test body) (loop_added back_test back) (count_loop test body) (count_loop back_test back) (length-loop test body) (length-loop back_test back))
-length-phase s = refl
+length-phase s its = refl
 
 -- ---- where they stand
 

@@ -19,7 +19,7 @@ use Rattle.gm_ast.specs.declared.tree.Sort.{Sort}
 use Rattle.gm_ast.specs.declared.tree.Sort.TheVariants as Sorts
 use Rattle.gm_ast.specs.declared.tree.Stage.TheVariants.{Inner, Operator}
 use Rattle.gm_ast.specs.declared.tree.Target.TheVariants as T
-use Rattle.gm_ast.specs.Program.{Expr, always, Const, Property, Live, Binary, Both, Folded, Skip, Declare, Assign, Combine, Foreach, If, InBfs, Program, sequence}
+use Rattle.gm_ast.specs.Program.{Expr, always, Const, Property, Live, Binary, Both, Folded, Skip, Declare, Assign, Combine, Foreach, For, If, InBfs, Stmt, Program, sequence}
 use Rattle.gm_forms.specs.Order.{first_key, is_ordered}
 use Rattle.gm_forms.specs.Ready.{is_checked}
 use Rattle.gm_forms.specs.Sharing.{is_race_free}
@@ -93,7 +93,7 @@ abbrev positive : Expr
 positive = Binary Gt (here 4) sum (Const (I32 (pos 0)))
 
 filtered :
-    phase_out 7 (Foreach (own 2) (here 1) all positive (Assign (own 3) (T.Property 1 4 (here 1)) (Const (I32 (pos 1)))))
+    phase_out [] 7 (Foreach (own 2) (here 1) all positive (Assign (own 3) (T.Property 1 4 (here 1)) (Const (I32 (pos 1)))))
     ≡ Foreach first_key (here 1) all always (sequence (
     Declare (own 2) 7 (Some (Const (I32 (pos 0))))
     ∷ Foreach (inner 2) (here 8) nbrs always (Combine (inner 2) (fold W.Sum V.I32).total R.Sum (T.Scalar 7 nowhere ∷ []) (read ∷ []))
@@ -106,7 +106,7 @@ abbrev search : Search
 search = record { iterator = 1; graph = 0; root = 5; place = here 1 }
 
 searched :
-    phase_out 7 (InBfs (own 2) (here 1) search positive Skip)
+    phase_out [] 7 (InBfs (own 2) (here 1) search positive Skip)
     ≡ sequence (
     Assign (own 2) (T.Scalar 7 nowhere) (Live 5 (here 1))
     ∷ InBfs (inner 2) (here 1) search always (sequence (
@@ -117,10 +117,26 @@ searched :
     )
 searched = refl
 
-added : phase_added (InBfs (own 2) (here 1) search positive Skip) ≡ fresh V.Node ∷ local V.I32 ∷ []
+added : phase_added [] (InBfs (own 2) (here 1) search positive Skip) ≡ fresh V.Node ∷ local V.I32 ∷ []
 added = refl
 
-none-left : count_phase (phase_out 7 (InBfs (own 2) (here 1) search positive Skip)) ≡ 0
+-- from the iterator of a For around, which holds a node, it is not checked: For (s: G.Nodes) { InBFS (n: G.Nodes From s)(..) { } }
+abbrev around : Stmt
+around = For (own 1) (here 1) (record { iterator = 5; domain = Nodes; owner = 0; place = here 1 }) always (InBfs (own 2) (here 1) search positive Skip)
+
+from-an-iterator :
+    phase_out [] 7 around
+    ≡ For (own 1) (here 1) (record { iterator = 5; domain = Nodes; owner = 0; place = here 1 }) always (InBfs (inner 2) (here 1) search always (sequence (
+    Declare (own 2) 7 (Some (Const (I32 (pos 0))))
+    ∷ Foreach (inner 2) (here 8) nbrs always (Combine (inner 2) (fold W.Sum V.I32).total R.Sum (T.Scalar 7 nowhere ∷ []) (read ∷ []))
+    ∷ If (own 2) (Binary Gt (here 4) (asked 7) (Const (I32 (pos 0)))) Skip Skip ∷ []
+    )))
+from-an-iterator = refl
+
+no-check-added : phase_added [] around ≡ local V.I32 ∷ []
+no-check-added = refl
+
+none-left : count_phase [] (phase_out [] 7 (InBfs (own 2) (here 1) search positive Skip)) ≡ 0
 none-left = refl
 
 -- a program is ready wherever the total of a count stands, which cannot fault: n.q = Count(t: n.Nbrs)(t.p > 0){t.p > 0} + 1, with the total in its place

@@ -1,5 +1,5 @@
 -- Reductions in expressions of parallel bodies, each as an inner loop onto a local in front of its statement.
-use Rattle.std.specs.Prelude.{ℕ, suc, if◌then◌else◌, ◌+◌, nat_eq, Bool, true, false, ◌&&◌, pos, List, [], ◌∷◌, ◌++◌, map, length, Some}
+use Rattle.std.specs.Prelude.{ℕ, suc, if◌then◌else◌, ◌+◌, nat_eq, Bool, true, false, ◌&&◌, ◌||◌, pos, List, [], ◌∷◌, ◌++◌, map, length, Some}
 use Rattle.gm_value.specs.declared.reductions.Reduce.TheVariants as R
 use Rattle.gm_value.specs.declared.values.VType.{VType}
 use Rattle.gm_value.specs.declared.values.VType.TheVariants as V
@@ -17,6 +17,7 @@ use Rattle.gm_ast.specs.declared.tree.Sort.TheVariants as Sorts
 use Rattle.gm_ast.specs.declared.tree.Stage.TheVariants.{Inner}
 use Rattle.gm_ast.specs.declared.tree.Target.TheVariants as T
 use Rattle.gm_ast.specs.Keys.{Fault, stage_rank, fault_lt}
+use Rattle.gm_ast.specs.Ways.{is_in}
 use Rattle.gm_ast.specs.Program.{Expr, always, Const, Live, Unary, Binary, Both, Either, Choose, Folded, Stmt, Skip, Then, Declare, Assign, Defer, Combine, Foreach, For, If, While, Do, InBfs, InBfsBoth, Program, sequence}
 use Rattle.gm_semantics.specs.Expressions.{reduce_of}
 use Rattle.gm_forms.specs.Order.{fault_of, first_key, rest_in, takes_conditions}
@@ -204,17 +205,21 @@ under false n k test body = behind (folds_set n k test) (If k (told_from n test)
 abbrev pub opened : ℕ → Key → Expr → Stmt → Stmt
 opened n k test body = under (has_none test) n k test (body_out (n + count_folds test) body)
 
--- a search whose key changes, behind the check of its root under the key that it had
-abbrev pub root_checked : (none : Bool) → ℕ → Key → Search → Stmt → Stmt
+-- whether the root of a search needs no check: where the key stays, and where the root is an iterator of a For around, which always holds a node
+abbrev pub is_sure : List ℕ → Search → (test : Expr) → Bool
+is_sure its s test = has_none test || is_in its s.root
+
+-- a search behind the check of its root, under the key that it had
+abbrev pub root_checked : (sure : Bool) → ℕ → Key → Search → Stmt → Stmt
 root_checked true n k s t = t
 root_checked false n k s t = sequence (Assign k (T.Scalar n nowhere) (Live s.root s.place) ∷ t ∷ [])
 
 -- how many variables the check takes
-abbrev pub count_check : (none : Bool) → ℕ
+abbrev pub count_check : (sure : Bool) → ℕ
 count_check true = 0
 count_check false = 1
 
-abbrev pub check_added : (none : Bool) → List Declaration
+abbrev pub check_added : (sure : Bool) → List Declaration
 check_added true = []
 check_added false = fresh V.Node ∷ []
 
@@ -225,47 +230,47 @@ count_loop test body = count_folds test + count_body body
 abbrev pub loop_added : Expr → Stmt → List Declaration
 loop_added test body = map local (fold_types test ++ body_types body)
 
--- how many variables a sequential phase takes, and which
-abbrev pub count_phase : Stmt → ℕ
-count_phase (Then a b) = count_phase a + count_phase b
-count_phase (Foreach k at h test body) = count_loop test body
-count_phase (For k at h test body) = count_phase body
-count_phase (If k c a b) = count_phase a + count_phase b
-count_phase (While k at c body) = count_phase body
-count_phase (Do k at body c) = count_phase body
-count_phase (InBfs k at s test body) = count_check (has_none test) + count_loop test body
-count_phase (InBfsBoth k at s test body back_key back_test back) = count_check (has_none test) + (count_loop test body + count_loop back_test back)
-count_phase s = 0
+-- how many variables a part of a sequential phase takes inside some Fors, of which the iterators are given, and which
+abbrev pub count_phase : List ℕ → Stmt → ℕ
+count_phase its (Then a b) = count_phase its a + count_phase its b
+count_phase its (Foreach k at h test body) = count_loop test body
+count_phase its (For k at h test body) = count_phase (h.iterator ∷ its) body
+count_phase its (If k c a b) = count_phase its a + count_phase its b
+count_phase its (While k at c body) = count_phase its body
+count_phase its (Do k at body c) = count_phase its body
+count_phase its (InBfs k at s test body) = count_check (is_sure its s test) + count_loop test body
+count_phase its (InBfsBoth k at s test body back_key back_test back) = count_check (is_sure its s test) + (count_loop test body + count_loop back_test back)
+count_phase its s = 0
 
-abbrev pub phase_added : Stmt → List Declaration
-phase_added (Then a b) = phase_added a ++ phase_added b
-phase_added (Foreach k at h test body) = loop_added test body
-phase_added (For k at h test body) = phase_added body
-phase_added (If k c a b) = phase_added a ++ phase_added b
-phase_added (While k at c body) = phase_added body
-phase_added (Do k at body c) = phase_added body
-phase_added (InBfs k at s test body) = check_added (has_none test) ++ loop_added test body
-phase_added (InBfsBoth k at s test body back_key back_test back) = check_added (has_none test) ++ (loop_added test body ++ loop_added back_test back)
-phase_added s = []
+abbrev pub phase_added : List ℕ → Stmt → List Declaration
+phase_added its (Then a b) = phase_added its a ++ phase_added its b
+phase_added its (Foreach k at h test body) = loop_added test body
+phase_added its (For k at h test body) = phase_added (h.iterator ∷ its) body
+phase_added its (If k c a b) = phase_added its a ++ phase_added its b
+phase_added its (While k at c body) = phase_added its body
+phase_added its (Do k at body c) = phase_added its body
+phase_added its (InBfs k at s test body) = check_added (is_sure its s test) ++ loop_added test body
+phase_added its (InBfsBoth k at s test body back_key back_test back) = check_added (is_sure its s test) ++ (loop_added test body ++ loop_added back_test back)
+phase_added its s = []
 
--- a sequential phase with the reductions of its parallel loops and searches as inner loops, onto variables from a number on
-abbrev pub phase_out : ℕ → Stmt → Stmt
-phase_out n (Then a b) = Then (phase_out n a) (phase_out (n + count_phase a) b)
-phase_out n (Foreach k at h test body) = Foreach (loop_key (has_none test) k) at h (filter_left (has_none test) test) (opened n k test body)
-phase_out n (For k at h test body) = For k at h test (phase_out n body)
-phase_out n (If k c a b) = If k c (phase_out n a) (phase_out (n + count_phase a) b)
-phase_out n (While k at c body) = While k at c (phase_out n body)
-phase_out n (Do k at body c) = Do k at (phase_out n body) c
-phase_out n (InBfs k at s test body) =
-    let m = n + count_check (has_none test) in
-    root_checked (has_none test) n k s (InBfs (search_key (has_none test) k) at s (filter_left (has_none test) test) (opened m k test body))
-phase_out n (InBfsBoth k at s test body back_key back_test back) =
-    let m = n + count_check (has_none test) in
-    root_checked (has_none test) n k s
+-- a part of a sequential phase with the reductions of its parallel loops and searches as inner loops, onto variables from a number on
+abbrev pub phase_out : List ℕ → ℕ → Stmt → Stmt
+phase_out its n (Then a b) = Then (phase_out its n a) (phase_out its (n + count_phase its a) b)
+phase_out its n (Foreach k at h test body) = Foreach (loop_key (has_none test) k) at h (filter_left (has_none test) test) (opened n k test body)
+phase_out its n (For k at h test body) = For k at h test (phase_out (h.iterator ∷ its) n body)
+phase_out its n (If k c a b) = If k c (phase_out its n a) (phase_out its (n + count_phase its a) b)
+phase_out its n (While k at c body) = While k at c (phase_out its n body)
+phase_out its n (Do k at body c) = Do k at (phase_out its n body) c
+phase_out its n (InBfs k at s test body) =
+    let m = n + count_check (is_sure its s test) in
+    root_checked (is_sure its s test) n k s (InBfs (search_key (has_none test) k) at s (filter_left (has_none test) test) (opened m k test body))
+phase_out its n (InBfsBoth k at s test body back_key back_test back) =
+    let m = n + count_check (is_sure its s test) in
+    root_checked (is_sure its s test) n k s
     (InBfsBoth (search_key (has_none test) k) at s (filter_left (has_none test) test) (opened m k test body)
     (search_key (has_none back_test) back_key) (filter_left (has_none back_test) back_test) (opened (m + count_loop test body) back_key back_test back))
-phase_out n s = s
+phase_out its n s = s
 
 -- a program without reductions in the filters and bodies of its parallel loops, but for those of group assignments
 abbrev pub without_inner_folds : Program → Program
-without_inner_folds p = record p { declarations = p.declarations ++ phase_added p.body; body = phase_out (length p.declarations) p.body }
+without_inner_folds p = record p { declarations = p.declarations ++ phase_added [] p.body; body = phase_out [] (length p.declarations) p.body }

@@ -2,9 +2,10 @@
 //!
 //! What stands in the filter goes into the body under an If: `Foreach (n: G.Nodes)(f) s` is `Foreach (n: G.Nodes) { ..
 //! If (f') s }`, where the dots are the loops of the reductions of f. Such a loop comes before all other faults. A search
-//! without its filter is behind a check of its root under the key that it had.
+//! without its filter is behind a check of its root under the key that it had, unless the root is an iterator of a For
+//! around, which always holds a node.
 
-ghost use Rattle.std.specs.Prelude.{◌≡◌, ◌+◌, true, false, IfOk, OnOk, map, option_map};
+ghost use Rattle.std.specs.Prelude.{◌≡◌, ◌+◌, ◌∷◌, true, false, IfOk, OnOk, map, option_map};
 ghost use Rattle.gm_base.specs.declared.places.Place.{Place};
 ghost use Rattle.gm_ast.specs.Program as Program;
 ghost use Rattle.gm_ast.specs.Program.{sequence};
@@ -19,7 +20,7 @@ ghost use Rattle.gm_hoisting.specs.Stages.{CanBeHoisted, WithoutInnerFolds};
 ghost use Rattle.gm_hoisting.specs.Totals.{totals_stand};
 
 use crate::expressions::folds_before;
-use crate::locals::{has_none, phase_added};
+use crate::locals::{has_none, inside, is_sure, phase_added};
 use crate::statements::{body_inner, put_behind};
 use gm_ast::forms::Work;
 use gm_ast::tree::{Expr, Key, Search, Stage, Stmt, Tree};
@@ -52,9 +53,9 @@ fn hoist_tree(alloc: Global, tree: &mut Tree) -> Result<(), NoMemory>
     let Ok(first) = u32::try_from(tree.declarations.len()) else {
         return Err(NoMemory);
     };
-    phase_added(alloc, &tree.body, &mut tree.declarations)?;
+    phase_added(alloc, &[], &tree.body, &mut tree.declarations)?;
     let mut next = first;
-    phase_out(alloc, &mut next, &mut tree.body)?;
+    phase_out(alloc, &mut next, &[], &mut tree.body)?;
     Ok(())
 }
 
@@ -212,18 +213,18 @@ fn part_out(
 }
 
 // The variable that the root of a search is checked in, where it is.
-fn take_check(none: bool, next: &mut u32) -> Result<u32, AllocError>
+fn take_check(sure: bool, next: &mut u32) -> Result<u32, AllocError>
     ensures taken { IfOk result (λ n. n ≡ next.old) }
-    ensures next { OnOk result (next.new ≡ next.old + count_check none) }
+    ensures next { OnOk result (next.new ≡ next.old + count_check sure) }
 {
-    if none { Ok(*next) } else { take_next(next) }
+    if sure { Ok(*next) } else { take_next(next) }
 }
 
-// The check of the root of a search whose key changed.
-fn check(none: bool, variable: u32, key: Key, search: Search) -> Option<Stmt>
-    ensures { (s : Program.Stmt) → Places.after (option_map stmt_of result) s ≡ Hoisting.root_checked none variable key search s }
+// The check of the root of a search, where it needs one.
+fn check(sure: bool, variable: u32, key: Key, search: Search) -> Option<Stmt>
+    ensures { (s : Program.Stmt) → Places.after (option_map stmt_of result) s ≡ Hoisting.root_checked sure variable key search s }
 {
-    if none {
+    if sure {
         return None;
     }
     let root = Expr::Live {
@@ -233,29 +234,31 @@ fn check(none: bool, variable: u32, key: Key, search: Search) -> Option<Stmt>
     Some(set_to(variable, key, root))
 }
 
-// The reductions of a search become loops. The check of its root is answered, where its key changes.
+// The reductions of a search become loops. The check of its root is answered, where it needs one.
 fn search_out(
     alloc: Global,
     next: &mut u32,
+    around: &[u32],
     key: &mut Key,
     search: Search,
     filter: &mut Expr,
     body: &mut Box<Stmt>,
 ) -> Result<Option<Stmt>, AllocError>
-    ensures out { IfOk result (λ r. (at : Place) → Places.after (option_map stmt_of r) (Program.InBfs key.new at search (expr_of filter.new) (stmt_of body.new.value)) ≡ phase_out next.old (Program.InBfs key.old at search (expr_of filter.old) (stmt_of body.old.value))) }
-    ensures next { OnOk result (next.new ≡ next.old + (count_check (has_none (expr_of filter.old)) + count_loop (expr_of filter.old) (stmt_of body.old.value))) }
+    ensures out { IfOk result (λ r. (at : Place) → Places.after (option_map stmt_of r) (Program.InBfs key.new at search (expr_of filter.new) (stmt_of body.new.value)) ≡ phase_out around.now next.old (Program.InBfs key.old at search (expr_of filter.old) (stmt_of body.old.value))) }
+    ensures next { OnOk result (next.new ≡ next.old + (count_check (Hoisting.is_sure around.now search (expr_of filter.old)) + count_loop (expr_of filter.old) (stmt_of body.old.value))) }
 {
-    let none = has_none(filter);
+    let sure = is_sure(around, search, filter);
     let outer = *key;
-    let variable = take_check(none, next)?;
+    let variable = take_check(sure, next)?;
     part_out(alloc, next, key, filter, body)?;
-    Ok(check(none, variable, outer, search))
+    Ok(check(sure, variable, outer, search))
 }
 
 // The same of a search with a part that goes back.
 fn both_out(
     alloc: Global,
     next: &mut u32,
+    around: &[u32],
     key: &mut Key,
     search: Search,
     filter: &mut Expr,
@@ -264,47 +267,75 @@ fn both_out(
     back_filter: &mut Expr,
     back: &mut Box<Stmt>,
 ) -> Result<Option<Stmt>, AllocError>
-    ensures out { IfOk result (λ r. (at : Place) → Places.after (option_map stmt_of r) (Program.InBfsBoth key.new at search (expr_of filter.new) (stmt_of body.new.value) back_key.new (expr_of back_filter.new) (stmt_of back.new.value)) ≡ phase_out next.old (Program.InBfsBoth key.old at search (expr_of filter.old) (stmt_of body.old.value) back_key.old (expr_of back_filter.old) (stmt_of back.old.value))) }
-    ensures next { OnOk result (next.new ≡ next.old + (count_check (has_none (expr_of filter.old)) + (count_loop (expr_of filter.old) (stmt_of body.old.value) + count_loop (expr_of back_filter.old) (stmt_of back.old.value)))) }
+    ensures out { IfOk result (λ r. (at : Place) → Places.after (option_map stmt_of r) (Program.InBfsBoth key.new at search (expr_of filter.new) (stmt_of body.new.value) back_key.new (expr_of back_filter.new) (stmt_of back.new.value)) ≡ phase_out around.now next.old (Program.InBfsBoth key.old at search (expr_of filter.old) (stmt_of body.old.value) back_key.old (expr_of back_filter.old) (stmt_of back.old.value))) }
+    ensures next { OnOk result (next.new ≡ next.old + (count_check (Hoisting.is_sure around.now search (expr_of filter.old)) + (count_loop (expr_of filter.old) (stmt_of body.old.value) + count_loop (expr_of back_filter.old) (stmt_of back.old.value)))) }
 {
-    let none = has_none(filter);
+    let sure = is_sure(around, search, filter);
     let outer = *key;
-    let variable = take_check(none, next)?;
+    let variable = take_check(sure, next)?;
     part_out(alloc, next, key, filter, body)?;
     part_out(alloc, next, back_key, back_filter, back)?;
-    Ok(check(none, variable, outer, search))
+    Ok(check(sure, variable, outer, search))
 }
 
 // The reductions of the parallel loops and searches in a block become loops onto the next locals.
 #[cycle(hoisting)]
-fn phase_block(alloc: Global, next: &mut u32, stmts: &mut Vec<Stmt>) -> Result<(), AllocError>
-    ensures out { OnOk result (sequence (map stmt_of stmts.new.items) ≡ phase_out next.old (sequence (map stmt_of stmts.old.items))) }
-    ensures next { OnOk result (next.new ≡ next.old + count_phase (sequence (map stmt_of stmts.old.items))) }
+fn phase_block(
+    alloc: Global,
+    next: &mut u32,
+    around: &[u32],
+    stmts: &mut Vec<Stmt>,
+) -> Result<(), AllocError>
+    ensures out { OnOk result (sequence (map stmt_of stmts.new.items) ≡ phase_out around.now next.old (sequence (map stmt_of stmts.old.items))) }
+    ensures next { OnOk result (next.new ≡ next.old + count_phase around.now (sequence (map stmt_of stmts.old.items))) }
 {
     for i in 0..stmts.len() {
-        phase_out(alloc, next, &mut stmts[i])?;
+        phase_out(alloc, next, around, &mut stmts[i])?;
     }
     Ok(())
 }
 
-// The same of a sequential phase in a box.
+// The same of a part of a sequential phase in a box.
 #[cycle(hoisting)]
-fn phase_inner(alloc: Global, next: &mut u32, s: &mut Box<Stmt>) -> Result<(), AllocError>
-    ensures out { OnOk result (stmt_of s.new.value ≡ phase_out next.old (stmt_of s.old.value)) }
-    ensures next { OnOk result (next.new ≡ next.old + count_phase (stmt_of s.old.value)) }
+fn phase_inner(
+    alloc: Global,
+    next: &mut u32,
+    around: &[u32],
+    s: &mut Box<Stmt>,
+) -> Result<(), AllocError>
+    ensures out { OnOk result (stmt_of s.new.value ≡ phase_out around.now next.old (stmt_of s.old.value)) }
+    ensures next { OnOk result (next.new ≡ next.old + count_phase around.now (stmt_of s.old.value)) }
 {
-    phase_out(alloc, next, s)?;
+    phase_out(alloc, next, around, s)?;
     Ok(())
 }
 
-// The same of a sequential phase.
+// The same of a For's body.
 #[cycle(hoisting)]
-fn phase_out(alloc: Global, next: &mut u32, s: &mut Stmt) -> Result<(), AllocError>
-    ensures out { OnOk result (stmt_of s.new ≡ phase_out next.old (stmt_of s.old)) }
-    ensures next { OnOk result (next.new ≡ next.old + count_phase (stmt_of s.old)) }
+fn phase_inside(
+    alloc: Global,
+    next: &mut u32,
+    around: &[u32],
+    iterator: u32,
+    body: &mut Box<Stmt>,
+) -> Result<(), AllocError>
+    ensures out { OnOk result (stmt_of body.new.value ≡ phase_out (iterator ∷ around.now) next.old (stmt_of body.old.value)) }
+    ensures next { OnOk result (next.new ≡ next.old + count_phase (iterator ∷ around.now) (stmt_of body.old.value)) }
+{
+    let iterators = inside(alloc, iterator, around)?;
+    let changed = phase_inner(alloc, next, &iterators, body);
+    drop(iterators);
+    changed
+}
+
+// The same of a part of a sequential phase.
+#[cycle(hoisting)]
+fn phase_out(alloc: Global, next: &mut u32, around: &[u32], s: &mut Stmt) -> Result<(), AllocError>
+    ensures out { OnOk result (stmt_of s.new ≡ phase_out around.now next.old (stmt_of s.old)) }
+    ensures next { OnOk result (next.new ≡ next.old + count_phase around.now (stmt_of s.old)) }
 {
     match s {
-        Stmt::Block(stmts) => phase_block(alloc, next, stmts),
+        Stmt::Block(stmts) => phase_block(alloc, next, around, stmts),
         Stmt::Foreach {
             key,
             place: _place,
@@ -312,13 +343,13 @@ fn phase_out(alloc: Global, next: &mut u32, s: &mut Stmt) -> Result<(), AllocErr
             filter,
             body,
         } => loop_out(alloc, next, key, filter, body),
-        Stmt::For { body, .. } => phase_inner(alloc, next, body),
+        Stmt::For { head, body, .. } => { phase_inside(alloc, next, around, head.iterator, body) }
         Stmt::If { yes, no, .. } => {
-            phase_inner(alloc, next, yes)?;
-            phase_inner(alloc, next, no)
+            phase_inner(alloc, next, around, yes)?;
+            phase_inner(alloc, next, around, no)
         }
-        Stmt::While { body, .. } => phase_inner(alloc, next, body),
-        Stmt::Do { body, .. } => phase_inner(alloc, next, body),
+        Stmt::While { body, .. } => phase_inner(alloc, next, around, body),
+        Stmt::Do { body, .. } => phase_inner(alloc, next, around, body),
         Stmt::InBfs {
             key,
             place: _place,
@@ -326,7 +357,7 @@ fn phase_out(alloc: Global, next: &mut u32, s: &mut Stmt) -> Result<(), AllocErr
             filter,
             body,
         } => {
-            let check = search_out(alloc, next, key, *search, filter, body)?;
+            let check = search_out(alloc, next, around, key, *search, filter, body)?;
             put_after(alloc, check, s)?;
             Ok(())
         }
@@ -343,6 +374,7 @@ fn phase_out(alloc: Global, next: &mut u32, s: &mut Stmt) -> Result<(), AllocErr
             let check = both_out(
                 alloc,
                 next,
+                around,
                 key,
                 *search,
                 filter,

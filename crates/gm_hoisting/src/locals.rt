@@ -1,14 +1,15 @@
 //! The variables that hoisting adds to the table: a local for each reduction, and a node for each search whose root is
 //! checked before it.
 
-ghost use Rattle.std.specs.Prelude.{◌≡◌, ◌++◌, true, false, [], ◌∷◌, OnOk, map};
+ghost use Rattle.std.specs.Prelude.{◌≡◌, ◌++◌, true, false, [], ◌∷◌, IfOk, OnOk, map};
 ghost use Rattle.gm_ast.specs.Program as Program;
 ghost use Rattle.gm_ast.specs.Tree.{expr_of, stmt_of};
+ghost use Rattle.gm_ast.specs.Ways as Ways;
 ghost use Rattle.gm_ast.specs.declared.tree.Sort.TheVariants as Sorts;
 ghost use Rattle.gm_hoisting.specs.Hoisting as Hoisting;
 ghost use Rattle.gm_hoisting.specs.Hoisting.{has_none};
 
-use gm_ast::tree::{Declaration, Expr, Sort, Stmt, Variable};
+use gm_ast::tree::{Declaration, Expr, Search, Sort, Stmt, Variable};
 use gm_base::Items;
 use gm_value::VType;
 use std::alloc::{AllocError, Global};
@@ -161,15 +162,44 @@ fn loop_added(
     add_locals(alloc, types, declarations)
 }
 
-// Adds the node that the root of a search is checked in, where its filter has reductions.
+// Whether a variable is among some.
+fn is_in(variables: &[u32], variable: u32) -> bool
+    ensures { result ≡ Ways.is_in variables.now variable }
+{
+    for other in variables {
+        if variable == *other {
+            return true;
+        }
+    }
+    false
+}
+
+// The iterator of a For and those around it.
+pub(crate) fn inside(alloc: Global, iterator: u32, around: &[u32]) -> Result<Vec<u32>, AllocError>
+    ensures { IfOk result (λ r. r.items ≡ iterator ∷ around.now) }
+{
+    let mut iterators = Vec::new(alloc);
+    iterators.push(iterator)?;
+    iterators.extend_from_slice(around)?;
+    Ok(iterators)
+}
+
+// Whether the root of a search needs no check.
+pub(crate) fn is_sure(around: &[u32], search: Search, filter: &Expr) -> bool
+    ensures { result ≡ Hoisting.is_sure around.now search (expr_of filter.now) }
+{
+    has_none(filter) || is_in(around, search.root)
+}
+
+// Adds the node that the root of a search is checked in, where it needs a check.
 fn check_added(
     alloc: Global,
-    filter: &Expr,
+    sure: bool,
     declarations: &mut Vec<Declaration>,
 ) -> Result<(), AllocError>
-    ensures { OnOk result (declarations.new.items ≡ declarations.old.items ++ Hoisting.check_added (has_none (expr_of filter.now))) }
+    ensures { OnOk result (declarations.new.items ≡ declarations.old.items ++ Hoisting.check_added sure) }
 {
-    if has_none(filter) {
+    if sure {
         return Ok(());
     }
     declarations.push(unnamed(alloc, VType::Node, 0))?;
@@ -180,48 +210,75 @@ fn check_added(
 #[cycle(adding)]
 fn added_among(
     alloc: Global,
+    around: &[u32],
     stmts: &Vec<Stmt>,
     declarations: &mut Vec<Declaration>,
 ) -> Result<(), AllocError>
-    ensures { OnOk result (declarations.new.items ≡ declarations.old.items ++ Hoisting.phase_added (Program.sequence (map stmt_of stmts.now.items))) }
+    ensures { OnOk result (declarations.new.items ≡ declarations.old.items ++ Hoisting.phase_added around.now (Program.sequence (map stmt_of stmts.now.items))) }
 {
     for stmt in stmts {
-        phase_added(alloc, stmt, declarations)?;
+        phase_added(alloc, around, stmt, declarations)?;
     }
     Ok(())
 }
 
-// Adds the variables of the parallel loops and searches of a sequential phase.
+// Adds the variables of the parallel loops and searches in a For's body.
+#[cycle(adding)]
+fn added_inside(
+    alloc: Global,
+    around: &[u32],
+    iterator: u32,
+    body: &Stmt,
+    declarations: &mut Vec<Declaration>,
+) -> Result<(), AllocError>
+    ensures { OnOk result (declarations.new.items ≡ declarations.old.items ++ Hoisting.phase_added (iterator ∷ around.now) (stmt_of body.now)) }
+{
+    let iterators = inside(alloc, iterator, around)?;
+    let added = phase_added(alloc, &iterators, body, declarations);
+    drop(iterators);
+    added
+}
+
+// Adds the variables of the parallel loops and searches in a part of a sequential phase.
 #[cycle(adding)]
 pub(crate) fn phase_added(
     alloc: Global,
+    around: &[u32],
     s: &Stmt,
     declarations: &mut Vec<Declaration>,
 ) -> Result<(), AllocError>
-    ensures { OnOk result (declarations.new.items ≡ declarations.old.items ++ Hoisting.phase_added (stmt_of s.now)) }
+    ensures { OnOk result (declarations.new.items ≡ declarations.old.items ++ Hoisting.phase_added around.now (stmt_of s.now)) }
 {
     match s {
-        Stmt::Block(stmts) => added_among(alloc, stmts, declarations),
+        Stmt::Block(stmts) => added_among(alloc, around, stmts, declarations),
         Stmt::Foreach { filter, body, .. } => loop_added(alloc, filter, body, declarations),
-        Stmt::For { body, .. } => phase_added(alloc, body, declarations),
-        Stmt::If { yes, no, .. } => {
-            phase_added(alloc, yes, declarations)?;
-            phase_added(alloc, no, declarations)
+        Stmt::For { head, body, .. } => {
+            added_inside(alloc, around, head.iterator, body, declarations)
         }
-        Stmt::While { body, .. } => phase_added(alloc, body, declarations),
-        Stmt::Do { body, .. } => phase_added(alloc, body, declarations),
-        Stmt::InBfs { filter, body, .. } => {
-            check_added(alloc, filter, declarations)?;
+        Stmt::If { yes, no, .. } => {
+            phase_added(alloc, around, yes, declarations)?;
+            phase_added(alloc, around, no, declarations)
+        }
+        Stmt::While { body, .. } => phase_added(alloc, around, body, declarations),
+        Stmt::Do { body, .. } => phase_added(alloc, around, body, declarations),
+        Stmt::InBfs {
+            search,
+            filter,
+            body,
+            ..
+        } => {
+            check_added(alloc, is_sure(around, *search, filter), declarations)?;
             loop_added(alloc, filter, body, declarations)
         }
         Stmt::InBfsBoth {
+            search,
             filter,
             body,
             back_filter,
             back,
             ..
         } => {
-            check_added(alloc, filter, declarations)?;
+            check_added(alloc, is_sure(around, *search, filter), declarations)?;
             loop_added(alloc, filter, body, declarations)?;
             loop_added(alloc, back_filter, back, declarations)
         }

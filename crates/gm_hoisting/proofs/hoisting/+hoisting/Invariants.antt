@@ -6,5 +6,5 @@ use Rattle.gm_hoisting.proofs.hoisting.+hoisting.Given as goal
 
 abbrev pub invariant-phase_block-loop-i : goal.invariant-phase_block-loop-i
 invariant-phase_block-loop-i l = goal.unvisited-phase_block-loop-i l
-    × (map stmt_of l.stmts.items ≡ partly phase_out count_phase l.i l.fn.next (map stmt_of l.initial.stmts.items))
-    × (l.next ≡ l.fn.next + counts_before count_phase l.i (map stmt_of l.initial.stmts.items))
+    × (map stmt_of l.stmts.items ≡ partly (phase_out l.fn.around) (count_phase l.fn.around) l.i l.fn.next (map stmt_of l.initial.stmts.items))
+    × (l.next ≡ l.fn.next + counts_before (count_phase l.fn.around) l.i (map stmt_of l.initial.stmts.items))
