@@ -29,7 +29,7 @@ use Rattle.gm_desugar.proofs.Appended.{variable-appended}
 use Rattle.gm_reductions.specs.Phases.{has_no_picks, has_flat_loops, is_search_code, is_desugared_outside}
 use Rattle.gm_reductions.specs.Stages.{WithLoopsAlone}
 use Rattle.gm_reductions.proofs.PhasesLaws.{flat}
-use Rattle.gm_hoisting.specs.Hoisting.{count_folds, count_all, count_body, has_none, filter_left, search_key, opened, root_checked, count_check, check_added, count_loop, loop_added, count_phase, phase_added, phase_out, without_inner_folds}
+use Rattle.gm_hoisting.specs.Hoisting.{count_folds, count_all, count_body, is_sure, has_none, filter_left, search_key, opened, root_checked, count_check, check_added, count_loop, loop_added, count_phase, phase_added, phase_out, without_inner_folds}
 use Rattle.gm_hoisting.specs.Stages.{CanBeHoisted}
 use Rattle.gm_hoisting.proofs.Kept as Inner
 use Rattle.gm_hoisting.proofs.Loops.{none-told}
@@ -178,48 +178,48 @@ module _ (ds : List Declaration) where
     abbrev Types : Stmt → Bool
     Types s = is_typed_in ds res s
 
-    phase-flat : (s : Stmt) → is_phase_code ds s ≡ true → Types s ≡ true → has_no_compounds ds s ≡ true → count_phase s ≡ 0 → has_flat_loops ds s ≡ true
-    phase-flat (Then a b) h typed once zero =
+    phase-flat : (s : Stmt) (its : List ℕ) → is_phase_code ds s ≡ true → Types s ≡ true → has_no_compounds ds s ≡ true → count_phase its s ≡ 0 → has_flat_loops ds s ≡ true
+    phase-flat (Then a b) its h typed once zero =
         let q = both-true (is_phase_code ds a) (is_phase_code ds b) h in
         let t = both-true (Types a) (Types b) typed in
         let o = both-true (has_no_compounds ds a) (has_no_compounds ds b) once in
-        let z = sum-zero (count_phase a) (count_phase b) zero in
-        and-true (has_flat_loops ds a) (has_flat_loops ds b) (phase-flat a q.0 t.0 o.0 z.0) (phase-flat b q.1 t.1 o.1 z.1)
-    phase-flat (Foreach k at hd test body) h typed once zero =
+        let z = sum-zero (count_phase its a) (count_phase its b) zero in
+        and-true (has_flat_loops ds a) (has_flat_loops ds b) (phase-flat a its q.0 t.0 o.0 z.0) (phase-flat b its q.1 t.1 o.1 z.1)
+    phase-flat (Foreach k at hd test body) its h typed once zero =
         loop-flat res hd.iterator false test body (both-true (is_nodes hd.domain) (is_outer_loop ds false hd.iterator test body) h).1 (both-true (has_type ds V.Flag test) (Types body) typed).1 once zero
-    phase-flat (For k at hd test s) h typed once zero =
+    phase-flat (For k at hd test s) its h typed once zero =
         let q = both-true (is_phase_expr test) (is_phase_code ds s) (both-true (is_nodes hd.domain) (is_phase_expr test && is_phase_code ds s) h).1 in
-        phase-flat s q.1 (both-true (has_type ds V.Flag test) (Types s) typed).1 once zero
-    phase-flat (If k c a b) h typed once zero =
+        phase-flat s (hd.iterator ∷ its) q.1 (both-true (has_type ds V.Flag test) (Types s) typed).1 once zero
+    phase-flat (If k c a b) its h typed once zero =
         let q = both-true (is_phase_code ds a) (is_phase_code ds b) (both-true (is_phase_expr c) (is_phase_code ds a && is_phase_code ds b) h).1 in
         let t = both-true (Types a) (Types b) (both-true (has_type ds V.Flag c) (Types a && Types b) typed).1 in
         let o = both-true (has_no_compounds ds a) (has_no_compounds ds b) once in
-        let z = sum-zero (count_phase a) (count_phase b) zero in
-        and-true (has_flat_loops ds a) (has_flat_loops ds b) (phase-flat a q.0 t.0 o.0 z.0) (phase-flat b q.1 t.1 o.1 z.1)
-    phase-flat (While k at c s) h typed once zero = phase-flat s (both-true (is_phase_expr c) (is_phase_code ds s) h).1 (both-true (has_type ds V.Flag c) (Types s) typed).1 once zero
-    phase-flat (Do k at s c) h typed once zero = phase-flat s (both-true (is_phase_code ds s) (is_phase_expr c) h).0 (both-true (Types s) (has_type ds V.Flag c) typed).0 once zero
-    phase-flat (InBfs k at s test body) h typed once zero =
-        loop-flat res s.iterator true test body h (both-true (has_type ds V.Flag test) (Types body) typed).1 once (sum-zero (count_check (has_none test)) (count_loop test body) zero).1
-    phase-flat (InBfsBoth k at s test body back_key back_test back) h typed once zero =
+        let z = sum-zero (count_phase its a) (count_phase its b) zero in
+        and-true (has_flat_loops ds a) (has_flat_loops ds b) (phase-flat a its q.0 t.0 o.0 z.0) (phase-flat b its q.1 t.1 o.1 z.1)
+    phase-flat (While k at c s) its h typed once zero = phase-flat s its (both-true (is_phase_expr c) (is_phase_code ds s) h).1 (both-true (has_type ds V.Flag c) (Types s) typed).1 once zero
+    phase-flat (Do k at s c) its h typed once zero = phase-flat s its (both-true (is_phase_code ds s) (is_phase_expr c) h).0 (both-true (Types s) (has_type ds V.Flag c) typed).0 once zero
+    phase-flat (InBfs k at s test body) its h typed once zero =
+        loop-flat res s.iterator true test body h (both-true (has_type ds V.Flag test) (Types body) typed).1 once (sum-zero (count_check (is_sure its s test)) (count_loop test body) zero).1
+    phase-flat (InBfsBoth k at s test body back_key back_test back) its h typed once zero =
         let i = s.iterator in
         let p = both-true (is_outer_expr false i test) (is_outer_code ds true i body && (is_outer_expr false i back_test && is_outer_code ds true i back)) h in
         let q = both-true (is_outer_code ds true i body) (is_outer_expr false i back_test && is_outer_code ds true i back) p.1 in
         let t = both-true (Types body) (has_type ds V.Flag back_test && Types back) (both-true (has_type ds V.Flag test) (Types body && (has_type ds V.Flag back_test && Types back)) typed).1 in
         let u = both-true (has_type ds V.Flag back_test) (Types back) t.1 in
         let o = both-true (has_no_compounds_in ds i false body) (has_no_compounds_in ds i false back) once in
-        let z = sum-zero (count_loop test body) (count_loop back_test back) (sum-zero (count_check (has_none test)) (count_loop test body + count_loop back_test back) zero).1 in
+        let z = sum-zero (count_loop test body) (count_loop back_test back) (sum-zero (count_check (is_sure its s test)) (count_loop test body + count_loop back_test back) zero).1 in
         and-true (is_flat_loop ds true i test body) (is_flat_loop ds true i back_test back) (loop-flat res i true test body (and-true (is_outer_expr false i test) (is_outer_code ds true i body) p.0 q.0) t.0 o.0 z.0)
         (loop-flat res i true back_test back q.1 u.1 o.1 z.1)
-    phase-flat s h typed once zero = refl
+    phase-flat s its h typed once zero = refl
 
 -- ---- programs
 
 -- no reduction is left in the loops and searches of a program whose sequential phase has none: they are flat
-pub flat-loops : (p : Program) → WithLoopsAlone p → count_phase p.body ≡ 0 → has_flat_loops p.declarations p.body ≡ true
+pub flat-loops : (p : Program) → WithLoopsAlone p → count_phase [] p.body ≡ 0 → has_flat_loops p.declarations p.body ≡ true
 flat-loops p r zero =
     let compounds = r.without_folds.with_reads_apart.with_conditions.with_literals.without_compounds in
     let ready = compounds.without_groups.ready in
-    phase-flat p.declarations p.result p.body ready.form ready.sane.typed compounds.no_compounds zero
+    phase-flat p.declarations p.result p.body [] ready.form ready.sane.typed compounds.no_compounds zero
 
 -- so they are once their reductions are inner loops
 pub hoisted-flat : (p : Program) → CanBeHoisted p → WithLoopsAlone p → has_flat_loops (without_inner_folds p).declarations (without_inner_folds p).body ≡ true
@@ -252,67 +252,69 @@ module _ (ds es : List Declaration) (k : ℕ) (same : (x : ℕ) → x < k → va
       and-true (nat_eq (depth_at es n) 0 && true) (Flat t && true) (and-true (nat_eq (depth_at es n) 0) true outermost refl) (and-true (Flat t) true (it (both-true (has_flat_loops es t) true h).0) refl)
 
   -- what is set and asked outside of loops stays as it was
-  phase-out-flat : (s : Stmt) (n : ℕ) → Placed es n (phase_added s) → NamesBelow k s → Outside s ≡ true → has_flat_loops es (phase_out n s) ≡ true → Flat (phase_out n s) ≡ true
-  phase-out-flat Skip n there b h l = refl
-  phase-out-flat (Then s t) n there b h l =
-      let m = n + count_phase s in
+  phase-out-flat : (s : Stmt) (its : List ℕ) (n : ℕ) → Placed es n (phase_added its s) → NamesBelow k s → Outside s ≡ true → has_flat_loops es (phase_out its n s) ≡ true → Flat (phase_out its n s) ≡ true
+  phase-out-flat Skip its n there b h l = refl
+  phase-out-flat (Then s t) its n there b h l =
+      let m = n + count_phase its s in
       let q = both-true (Outside s) (Outside t) h in
-      let r = both-true (has_flat_loops es (phase_out n s)) (has_flat_loops es (phase_out m t)) l in
-      let u = placed-both es n (phase_added s) (phase_added t) there in
-      and-true (Flat (phase_out n s)) (Flat (phase_out m t)) (phase-out-flat s n u.0 b.0 q.0 r.0) (phase-out-flat t m (subst (λ c. Placed es (n + c) (phase_added t)) (length-phase s) u.1) b.1 q.1 r.1)
-  phase-out-flat (Declare key x None) n there b h l = still-outside x b.0 h
-  phase-out-flat (Declare key x (Some e)) n there b h l =
+      let r = both-true (has_flat_loops es (phase_out its n s)) (has_flat_loops es (phase_out its m t)) l in
+      let u = placed-both es n (phase_added its s) (phase_added its t) there in
+      and-true (Flat (phase_out its n s)) (Flat (phase_out its m t)) (phase-out-flat s its n u.0 b.0 q.0 r.0) (phase-out-flat t its m (subst (λ c. Placed es (n + c) (phase_added its t)) (length-phase s its) u.1) b.1 q.1 r.1)
+  phase-out-flat (Declare key x None) its n there b h l = still-outside x b.0 h
+  phase-out-flat (Declare key x (Some e)) its n there b h l =
       let q = both-true (nat_eq (depth_at ds x) 0) (is_set e) h in and-true (nat_eq (depth_at es x) 0) (is_set e) (still-outside x b.0 q.0) q.1
-  phase-out-flat (DeclareEdge x y at) n there b h l = h
-  phase-out-flat (Assign key (T.Scalar x at) e) n there b h l =
+  phase-out-flat (DeclareEdge x y at) its n there b h l = h
+  phase-out-flat (Assign key (T.Scalar x at) e) its n there b h l =
       let q = both-true (nat_eq (depth_at ds x) 0) (is_set e) h in and-true (nat_eq (depth_at es x) 0) (is_set e) (still-outside x b.0 q.0) q.1
-  phase-out-flat (Assign key (T.Property x p at) e) n there b h l = h
-  phase-out-flat (Defer key t e) n there b h l = h
-  phase-out-flat (Combine key total r ts vs) n there b h l =
+  phase-out-flat (Assign key (T.Property x p at) e) its n there b h l = h
+  phase-out-flat (Defer key t e) its n there b h l = h
+  phase-out-flat (Combine key total r ts vs) its n there b h l =
       let q = both-true (keeps_tuples r) (list_all (is_plain ds) ts && list_all is_told vs) h in
       let u = both-true (list_all (is_plain ds) ts) (list_all is_told vs) q.1 in
       and-true (keeps_tuples r) (list_all (is_plain es) ts && list_all is_told vs) q.0 (and-true (list_all (is_plain es) ts) (list_all is_told vs) (still-plain ts b.0 u.0) u.1)
-  phase-out-flat (Group key at g p e) n there b h l = h
-  phase-out-flat (Foreach key at hd test body) n there b h l =
+  phase-out-flat (Group key at g p e) its n there b h l = h
+  phase-out-flat (Foreach key at hd test body) its n there b h l =
       let test' = filter_left (has_none test) test in
       let body' = opened n key test body in
       and-true (is_nodes hd.domain) (is_flat_loop es false hd.iterator test' body') (both-true (is_nodes hd.domain) (is_outer_loop ds false hd.iterator test body) h).0 l
-  phase-out-flat (For key at hd test s) n there b h l =
-      let q = both-true (is_told test) (Outside s) h in and-true (is_told test) (Flat (phase_out n s)) q.0 (phase-out-flat s n there b.3 q.1 l)
-  phase-out-flat (If key c s t) n there b h l =
-      let m = n + count_phase s in
+  phase-out-flat (For key at hd test s) its n there b h l =
+      let q = both-true (is_told test) (Outside s) h in and-true (is_told test) (Flat (phase_out (hd.iterator ∷ its) n s)) q.0 (phase-out-flat s (hd.iterator ∷ its) n there b.3 q.1 l)
+  phase-out-flat (If key c s t) its n there b h l =
+      let m = n + count_phase its s in
       let p = both-true (is_told c) (Outside s && Outside t) h in
       let q = both-true (Outside s) (Outside t) p.1 in
-      let r = both-true (has_flat_loops es (phase_out n s)) (has_flat_loops es (phase_out m t)) l in
-      let u = placed-both es n (phase_added s) (phase_added t) there in
-      and-true (is_told c) (Flat (phase_out n s) && Flat (phase_out m t)) p.0
-      (and-true (Flat (phase_out n s)) (Flat (phase_out m t)) (phase-out-flat s n u.0 b.1 q.0 r.0) (phase-out-flat t m (subst (λ c. Placed es (n + c) (phase_added t)) (length-phase s) u.1) b.2 q.1 r.1))
-  phase-out-flat (While key at c s) n there b h l =
-      let q = both-true (is_told c) (Outside s) h in and-true (is_told c) (Flat (phase_out n s)) q.0 (phase-out-flat s n there b.1 q.1 l)
-  phase-out-flat (Do key at s c) n there b h l =
-      let q = both-true (Outside s) (is_told c) h in and-true (Flat (phase_out n s)) (is_told c) (phase-out-flat s n there b.0 q.0 l) q.1
-  phase-out-flat (InBfs key at s test body) n there b h l =
+      let r = both-true (has_flat_loops es (phase_out its n s)) (has_flat_loops es (phase_out its m t)) l in
+      let u = placed-both es n (phase_added its s) (phase_added its t) there in
+      and-true (is_told c) (Flat (phase_out its n s) && Flat (phase_out its m t)) p.0
+      (and-true (Flat (phase_out its n s)) (Flat (phase_out its m t)) (phase-out-flat s its n u.0 b.1 q.0 r.0) (phase-out-flat t its m (subst (λ c. Placed es (n + c) (phase_added its t)) (length-phase s its) u.1) b.2 q.1 r.1))
+  phase-out-flat (While key at c s) its n there b h l =
+      let q = both-true (is_told c) (Outside s) h in and-true (is_told c) (Flat (phase_out its n s)) q.0 (phase-out-flat s its n there b.1 q.1 l)
+  phase-out-flat (Do key at s c) its n there b h l =
+      let q = both-true (Outside s) (is_told c) h in and-true (Flat (phase_out its n s)) (is_told c) (phase-out-flat s its n there b.0 q.0 l) q.1
+  phase-out-flat (InBfs key at s test body) its n there b h l =
       let none = has_none test in
-      let m = n + count_check none in
-      checked-flat none n key s (InBfs (search_key none key) at s (filter_left none test) (opened m key test body)) (placed-both es n (check_added none) (loop_added test body) there).0 (λ f. f) l
-  phase-out-flat (InBfsBoth key at s test body back_key back_test back) n there b h l =
+      let sure = is_sure its s test in
+      let m = n + count_check sure in
+      checked-flat sure n key s (InBfs (search_key none key) at s (filter_left none test) (opened m key test body)) (placed-both es n (check_added sure) (loop_added test body) there).0 (λ f. f) l
+  phase-out-flat (InBfsBoth key at s test body back_key back_test back) its n there b h l =
       let none = has_none test in
-      let m = n + count_check none in
+      let sure = is_sure its s test in
+      let m = n + count_check sure in
       let loop = InBfsBoth (search_key none key) at s (filter_left none test) (opened m key test body) (search_key (has_none back_test) back_key) (filter_left (has_none back_test) back_test) (opened (m + count_loop test body) back_key back_test back) in
-      checked-flat none n key s loop (placed-both es n (check_added none) (loop_added test body ++ loop_added back_test back) there).0 (λ f. f) l
-  phase-out-flat (Return key at None) n there b h l = refl
-  phase-out-flat (Return key at (Some e)) n there b h l = h
+      checked-flat sure n key s loop (placed-both es n (check_added sure) (loop_added test body ++ loop_added back_test back) there).0 (λ f. f) l
+  phase-out-flat (Return key at None) its n there b h l = refl
+  phase-out-flat (Return key at (Some e)) its n there b h l = h
 
 -- a program that is desugared but for its parallel loops and searches is desugared once their reductions are inner loops
 pub hoisted-ready : (p : Program) → CanBeHoisted p → WithLoopsAlone p → is_desugared_outside p ≡ true → Ready1 (without_inner_folds p)
 hoisted-ready p can r outside =
     let ds = p.declarations in
     let k = length ds in
-    let more = phase_added p.body in
+    let more = phase_added [] p.body in
     let named = both-true (nat_le (p.inputs + p.outputs) k) (list_all (suits ds) (uses_of p.body)) can.ready.sane.named in
     record {
       sane = (Inner.kept p can).ready.sane;
-      form = phase-out-flat ds (ds ++ more) k (variable-appended ds more) p.body k (placed-at-end ds more) (names-below ds p.body named.1) outside (hoisted-flat p can r);
+      form = phase-out-flat ds (ds ++ more) k (variable-appended ds more) p.body [] k (placed-at-end ds more) (names-below ds p.body named.1) outside (hoisted-flat p can r);
     }
 
 -- so it is where it picks nothing in its sequential phase

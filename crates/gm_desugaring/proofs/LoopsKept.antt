@@ -36,7 +36,7 @@ use Rattle.gm_reductions.specs.Accesses.{has_no_accesses}
 use Rattle.gm_reductions.specs.Folds.{has_no_folds}
 use Rattle.gm_reductions.specs.Phases.{has_no_picks, KeepsNoPicks}
 use Rattle.gm_reductions.specs.Stages.{WithLoopsAlone}
-use Rattle.gm_hoisting.specs.Hoisting.{local, count_folds, fold_types, all_types, count_body, body_types, has_none, joins, passing, adds, giving, looped, placed, folds_set, all_set, told_from, all_told, behind, body_out, filter_left, loop_key, search_key, under, opened, root_checked, count_check, check_added, count_loop, loop_added, count_phase, phase_added, phase_out, without_inner_folds}
+use Rattle.gm_hoisting.specs.Hoisting.{local, count_folds, fold_types, all_types, count_body, body_types, is_sure, has_none, joins, passing, adds, giving, looped, placed, folds_set, all_set, told_from, all_told, behind, body_out, filter_left, loop_key, search_key, under, opened, root_checked, count_check, check_added, count_loop, loop_added, count_phase, phase_added, phase_out, without_inner_folds}
 use Rattle.gm_hoisting.specs.Stages.{CanBeHoisted}
 use Rattle.gm_hoisting.proofs.Kept as Inner
 use Rattle.gm_hoisting.proofs.Placed.{length-folds, length-body, length-loop, length-check, length-phase, Placed, placed-both, placed-at-end}
@@ -63,67 +63,69 @@ module _ (c : Expr → Bool) (f : Stmt → Bool)
       let check = Assign k (T.Scalar n nowhere) (Live s.root s.place) in
       thens check (Then t Skip) ∙ and-true (f check) (f (Then t Skip)) (checks k n s.root s.place) (thens t Skip ∙ and-true (f t) (f Skip) h skips)
 
-  pub phase-keeps : (s : Stmt) (n : ℕ) → f s ≡ true → f (phase_out n s) ≡ true
-  phase-keeps (Then a b) n h =
+  pub phase-keeps : (s : Stmt) (its : List ℕ) (n : ℕ) → f s ≡ true → f (phase_out its n s) ≡ true
+  phase-keeps (Then a b) its n h =
       let q = both-true (f a) (f b) (sym (thens a b) ∙ h) in
-      thens (phase_out n a) (phase_out (n + count_phase a) b) ∙ and-true (f (phase_out n a)) (f (phase_out (n + count_phase a) b)) (phase-keeps a n q.0) (phase-keeps b (n + count_phase a) q.1)
-  phase-keeps (Foreach k at hd test body) n h = loops n k (loop_key (has_none test) k) at hd test body h
-  phase-keeps (For k at hd e s) n h =
+      thens (phase_out its n a) (phase_out its (n + count_phase its a) b) ∙ and-true (f (phase_out its n a)) (f (phase_out its (n + count_phase its a) b)) (phase-keeps a its n q.0) (phase-keeps b its (n + count_phase its a) q.1)
+  phase-keeps (Foreach k at hd test body) its n h = loops n k (loop_key (has_none test) k) at hd test body h
+  phase-keeps (For k at hd e s) its n h =
       let q = both-true (c e) (f s) (sym (fors k at hd e s) ∙ h) in
-      fors k at hd e (phase_out n s) ∙ and-true (c e) (f (phase_out n s)) q.0 (phase-keeps s n q.1)
-  phase-keeps (If k e a b) n h =
+      fors k at hd e (phase_out (hd.iterator ∷ its) n s) ∙ and-true (c e) (f (phase_out (hd.iterator ∷ its) n s)) q.0 (phase-keeps s (hd.iterator ∷ its) n q.1)
+  phase-keeps (If k e a b) its n h =
       let q = both-true (c e) (f a && f b) (sym (ifs k e a b) ∙ h) in
       let r = both-true (f a) (f b) q.1 in
-      ifs k e (phase_out n a) (phase_out (n + count_phase a) b) ∙ and-true (c e) (f (phase_out n a) && f (phase_out (n + count_phase a) b)) q.0
-      (and-true (f (phase_out n a)) (f (phase_out (n + count_phase a) b)) (phase-keeps a n r.0) (phase-keeps b (n + count_phase a) r.1))
-  phase-keeps (While k at e s) n h =
+      ifs k e (phase_out its n a) (phase_out its (n + count_phase its a) b) ∙ and-true (c e) (f (phase_out its n a) && f (phase_out its (n + count_phase its a) b)) q.0
+      (and-true (f (phase_out its n a)) (f (phase_out its (n + count_phase its a) b)) (phase-keeps a its n r.0) (phase-keeps b its (n + count_phase its a) r.1))
+  phase-keeps (While k at e s) its n h =
       let q = both-true (c e) (f s) (sym (whiles k at e s) ∙ h) in
-      whiles k at e (phase_out n s) ∙ and-true (c e) (f (phase_out n s)) q.0 (phase-keeps s n q.1)
-  phase-keeps (Do k at s e) n h =
+      whiles k at e (phase_out its n s) ∙ and-true (c e) (f (phase_out its n s)) q.0 (phase-keeps s its n q.1)
+  phase-keeps (Do k at s e) its n h =
       let q = both-true (f s) (c e) (sym (dos k at s e) ∙ h) in
-      dos k at (phase_out n s) e ∙ and-true (f (phase_out n s)) (c e) (phase-keeps s n q.0) q.1
-  phase-keeps (InBfs k at s test body) n h =
+      dos k at (phase_out its n s) e ∙ and-true (f (phase_out its n s)) (c e) (phase-keeps s its n q.0) q.1
+  phase-keeps (InBfs k at s test body) its n h =
       let none = has_none test in
-      let m = n + count_check none in
-      checked none n k s (InBfs (search_key none k) at s (filter_left none test) (opened m k test body)) (searches m k (search_key none k) at s test body h)
-  phase-keeps (InBfsBoth k at s test body back_key back_test back) n h =
+      let sure = is_sure its s test in
+      let m = n + count_check sure in
+      checked sure n k s (InBfs (search_key none k) at s (filter_left none test) (opened m k test body)) (searches m k (search_key none k) at s test body h)
+  phase-keeps (InBfsBoth k at s test body back_key back_test back) its n h =
       let none = has_none test in
-      let m = n + count_check none in
-      checked none n k s (InBfsBoth (search_key none k) at s (filter_left none test) (opened m k test body) (search_key (has_none back_test) back_key) (filter_left (has_none back_test) back_test) (opened (m + count_loop test body) back_key back_test back))
+      let sure = is_sure its s test in
+      let m = n + count_check sure in
+      checked sure n k s (InBfsBoth (search_key none k) at s (filter_left none test) (opened m k test body) (search_key (has_none back_test) back_key) (filter_left (has_none back_test) back_test) (opened (m + count_loop test body) back_key back_test back))
       (twice m (m + count_loop test body) k (search_key none k) at s test body back_key (search_key (has_none back_test) back_key) back_test back h)
-  phase-keeps s n h = h
+  phase-keeps s its n h = h
 
 and-nothing : (b : Bool) → b ≡ b && true
 and-nothing true = refl
 and-nothing false = refl
 
 -- those that ask nothing of loops
-pub groups-kept : (s : Stmt) (n : ℕ) → has_no_groups s ≡ true → has_no_groups (phase_out n s) ≡ true
+pub groups-kept : (s : Stmt) (its : List ℕ) (n : ℕ) → has_no_groups s ≡ true → has_no_groups (phase_out its n s) ≡ true
 groups-kept =
     phase-keeps (λ e. true) has_no_groups refl (λ k n y at. refl) (λ a b. refl) (λ k at h e s. refl) (λ k e a b. refl) (λ k at e s. refl) (λ k at s e. and-nothing (has_no_groups s))
     (λ n k j at h test body p. refl) (λ n k j at s test body p. refl) (λ n m k j at s test body bk l bt back p. refl)
 
-pub conditions-kept : (s : Stmt) (n : ℕ) → has_told_conditions s ≡ true → has_told_conditions (phase_out n s) ≡ true
+pub conditions-kept : (s : Stmt) (its : List ℕ) (n : ℕ) → has_told_conditions s ≡ true → has_told_conditions (phase_out its n s) ≡ true
 conditions-kept =
     phase-keeps is_told has_told_conditions refl (λ k n y at. refl) (λ a b. refl) (λ k at h e s. refl) (λ k e a b. refl) (λ k at e s. refl) (λ k at s e. refl)
     (λ n k j at h test body p. refl) (λ n k j at s test body p. refl) (λ n m k j at s test body bk l bt back p. refl)
 
-pub apart-kept : (s : Stmt) (n : ℕ) → has_reads_apart s ≡ true → has_reads_apart (phase_out n s) ≡ true
+pub apart-kept : (s : Stmt) (its : List ℕ) (n : ℕ) → has_reads_apart s ≡ true → has_reads_apart (phase_out its n s) ≡ true
 apart-kept =
     phase-keeps (λ e. true) has_reads_apart refl (λ k n y at. refl) (λ a b. refl) (λ k at h e s. refl) (λ k e a b. refl) (λ k at e s. refl) (λ k at s e. and-nothing (has_reads_apart s))
     (λ n k j at h test body p. refl) (λ n k j at s test body p. refl) (λ n m k j at s test body bk l bt back p. refl)
 
-pub folds-kept : (s : Stmt) (n : ℕ) → has_no_folds s ≡ true → has_no_folds (phase_out n s) ≡ true
+pub folds-kept : (s : Stmt) (its : List ℕ) (n : ℕ) → has_no_folds s ≡ true → has_no_folds (phase_out its n s) ≡ true
 folds-kept =
     phase-keeps (λ e. true) has_no_folds refl (λ k n y at. refl) (λ a b. refl) (λ k at h e s. refl) (λ k e a b. refl) (λ k at e s. refl) (λ k at s e. and-nothing (has_no_folds s))
     (λ n k j at h test body p. refl) (λ n k j at s test body p. refl) (λ n m k j at s test body bk l bt back p. refl)
 
-pub accesses-kept : (s : Stmt) (n : ℕ) → has_no_accesses s ≡ true → has_no_accesses (phase_out n s) ≡ true
+pub accesses-kept : (s : Stmt) (its : List ℕ) (n : ℕ) → has_no_accesses s ≡ true → has_no_accesses (phase_out its n s) ≡ true
 accesses-kept =
     phase-keeps (λ e. true) has_no_accesses refl (λ k n y at. refl) (λ a b. refl) (λ k at h e s. refl) (λ k e a b. refl) (λ k at e s. refl) (λ k at s e. and-nothing (has_no_accesses s))
     (λ n k j at h test body p. refl) (λ n k j at s test body p. refl) (λ n m k j at s test body bk l bt back p. refl)
 
-pub picks-kept : (s : Stmt) (n : ℕ) → has_no_picks s ≡ true → has_no_picks (phase_out n s) ≡ true
+pub picks-kept : (s : Stmt) (its : List ℕ) (n : ℕ) → has_no_picks s ≡ true → has_no_picks (phase_out its n s) ≡ true
 picks-kept =
     phase-keeps (λ e. true) has_no_picks refl (λ k n y at. refl) (λ a b. refl) (λ k at h e s. refl) (λ k e a b. refl) (λ k at e s. refl) (λ k at s e. and-nothing (has_no_picks s))
     (λ n k j at h test body p. refl) (λ n k j at s test body p. refl) (λ n m k j at s test body bk l bt back p. refl)
@@ -309,7 +311,7 @@ four a b c d h =
 of-four : (a b c d : Bool) → a && b ≡ true → c && d ≡ true → a && (b && (c && d)) ≡ true
 of-four a b c d h k = let p = both-true a b h in and-true a (b && (c && d)) p.0 (and-true b (c && d) p.1 k)
 
-pub literals-kept : (s : Stmt) (n : ℕ) → all_exprs has_literals s ≡ true → all_exprs has_literals (phase_out n s) ≡ true
+pub literals-kept : (s : Stmt) (its : List ℕ) (n : ℕ) → all_exprs has_literals s ≡ true → all_exprs has_literals (phase_out its n s) ≡ true
 literals-kept =
     phase-keeps has_literals (all_exprs has_literals) refl (λ k n y at. refl) (λ a b. refl) (λ k at h e s. refl) (λ k e a b. refl) (λ k at e s. refl) (λ k at s e. refl)
     (λ n k j at h test body p. opened-literals n k test body p) (λ n k j at s test body p. opened-literals n k test body p)
@@ -429,48 +431,50 @@ module _ (es : List Declaration) where
   checked-later true n k s t h = h
   checked-later false n k s t h = and-true (has_no_compounds es t) true h refl
 
-  phase-later : (s : Stmt) (n : ℕ) → Placed es n (phase_added s) → None' s → None' (phase_out n s)
-  phase-later (Then a b) n l h =
+  phase-later : (s : Stmt) (its : List ℕ) (n : ℕ) → Placed es n (phase_added its s) → None' s → None' (phase_out its n s)
+  phase-later (Then a b) its n l h =
       let q = both-true (has_no_compounds es a) (has_no_compounds es b) h in
-      let m = placed-both es n (phase_added a) (phase_added b) l in
-      and-true (has_no_compounds es (phase_out n a)) (has_no_compounds es (phase_out (n + count_phase a) b)) (phase-later a n m.0 q.0)
-      (phase-later b (n + count_phase a) (subst (λ c. Placed es (n + c) (phase_added b)) (length-phase a) m.1) q.1)
-  phase-later (Foreach k at hd test body) n l h = opened-later hd.iterator n k test body l h
-  phase-later (For k at hd e s) n l h = phase-later s n l h
-  phase-later (If k e a b) n l h =
+      let m = placed-both es n (phase_added its a) (phase_added its b) l in
+      and-true (has_no_compounds es (phase_out its n a)) (has_no_compounds es (phase_out its (n + count_phase its a) b)) (phase-later a its n m.0 q.0)
+      (phase-later b its (n + count_phase its a) (subst (λ c. Placed es (n + c) (phase_added its b)) (length-phase a its) m.1) q.1)
+  phase-later (Foreach k at hd test body) its n l h = opened-later hd.iterator n k test body l h
+  phase-later (For k at hd e s) its n l h = phase-later s (hd.iterator ∷ its) n l h
+  phase-later (If k e a b) its n l h =
       let q = both-true (has_no_compounds es a) (has_no_compounds es b) h in
-      let m = placed-both es n (phase_added a) (phase_added b) l in
-      and-true (has_no_compounds es (phase_out n a)) (has_no_compounds es (phase_out (n + count_phase a) b)) (phase-later a n m.0 q.0)
-      (phase-later b (n + count_phase a) (subst (λ c. Placed es (n + c) (phase_added b)) (length-phase a) m.1) q.1)
-  phase-later (While k at e s) n l h = phase-later s n l h
-  phase-later (Do k at s e) n l h = phase-later s n l h
-  phase-later (InBfs k at s test body) n l h =
+      let m = placed-both es n (phase_added its a) (phase_added its b) l in
+      and-true (has_no_compounds es (phase_out its n a)) (has_no_compounds es (phase_out its (n + count_phase its a) b)) (phase-later a its n m.0 q.0)
+      (phase-later b its (n + count_phase its a) (subst (λ c. Placed es (n + c) (phase_added its b)) (length-phase a its) m.1) q.1)
+  phase-later (While k at e s) its n l h = phase-later s its n l h
+  phase-later (Do k at s e) its n l h = phase-later s its n l h
+  phase-later (InBfs k at s test body) its n l h =
       let none = has_none test in
-      let m = n + count_check none in
-      let u = placed-both es n (check_added none) (loop_added test body) l in
-      let there = subst (λ c. Placed es (n + c) (loop_added test body)) (length-check none) u.1 in
-      checked-later none n k s (InBfs (search_key none k) at s (filter_left none test) (opened m k test body)) (opened-later s.iterator m k test body there h)
-  phase-later (InBfsBoth k at s test body back_key back_test back) n l h =
+      let sure = is_sure its s test in
+      let m = n + count_check sure in
+      let u = placed-both es n (check_added sure) (loop_added test body) l in
+      let there = subst (λ c. Placed es (n + c) (loop_added test body)) (length-check sure) u.1 in
+      checked-later sure n k s (InBfs (search_key none k) at s (filter_left none test) (opened m k test body)) (opened-later s.iterator m k test body there h)
+  phase-later (InBfsBoth k at s test body back_key back_test back) its n l h =
       let none = has_none test in
-      let m = n + count_check none in
+      let sure = is_sure its s test in
+      let m = n + count_check sure in
       let j = m + count_loop test body in
       let q = both-true (has_no_compounds_in es s.iterator false body) (has_no_compounds_in es s.iterator false back) h in
-      let u = placed-both es n (check_added none) (loop_added test body ++ loop_added back_test back) l in
-      let v = placed-both es m (loop_added test body) (loop_added back_test back) (subst (λ c. Placed es (n + c) (loop_added test body ++ loop_added back_test back)) (length-check none) u.1) in
+      let u = placed-both es n (check_added sure) (loop_added test body ++ loop_added back_test back) l in
+      let v = placed-both es m (loop_added test body) (loop_added back_test back) (subst (λ c. Placed es (n + c) (loop_added test body ++ loop_added back_test back)) (length-check sure) u.1) in
       let there = subst (λ c. Placed es (m + c) (loop_added back_test back)) (length-loop test body) v.1 in
       let body' = opened m k test body in
       let back' = opened j back_key back_test back in
-      checked-later none n k s (InBfsBoth (search_key none k) at s (filter_left none test) body' (search_key (has_none back_test) back_key) (filter_left (has_none back_test) back_test) back')
+      checked-later sure n k s (InBfsBoth (search_key none k) at s (filter_left none test) body' (search_key (has_none back_test) back_key) (filter_left (has_none back_test) back_test) back')
       (and-true (has_no_compounds_in es s.iterator false body') (has_no_compounds_in es s.iterator false back') (opened-later s.iterator m k test body v.0 q.0) (opened-later s.iterator j back_key back_test back there q.1))
-  phase-later s n l h = h
+  phase-later s its n l h = h
 
 -- under the longer table
-pub compounds-kept : (p : Program) → NamesBelow (length p.declarations) p.body → has_no_compounds p.declarations p.body ≡ true → has_no_compounds (p.declarations ++ phase_added p.body) (phase_out (length p.declarations) p.body) ≡ true
+pub compounds-kept : (p : Program) → NamesBelow (length p.declarations) p.body → has_no_compounds p.declarations p.body ≡ true → has_no_compounds (p.declarations ++ phase_added [] p.body) (phase_out [] (length p.declarations) p.body) ≡ true
 compounds-kept p names h =
     let ds = p.declarations in
-    let more = phase_added p.body in
+    let more = phase_added [] p.body in
     let es = ds ++ more in
-    phase-later es p.body (length ds) (placed-at-end ds more) (compounds-longer ds es (length ds) (variable-appended ds more) p.body names ∙ h)
+    phase-later es p.body [] (length ds) (placed-at-end ds more) (compounds-longer ds es (length ds) (variable-appended ds more) p.body names ∙ h)
 
 -- ---- the program
 
@@ -489,20 +493,20 @@ alone-kept p can r =
           with_conditions = record {
             with_literals = record {
               without_compounds = record {
-                without_groups = record { ready = (Inner.kept p can).ready; no_groups = groups-kept p.body n compounds.without_groups.no_groups };
+                without_groups = record { ready = (Inner.kept p can).ready; no_groups = groups-kept p.body [] n compounds.without_groups.no_groups };
                 no_compounds = compounds-kept p (names-below ds p.body named.1) compounds.no_compounds;
               };
-              literals = literals-kept p.body n literals.literals;
+              literals = literals-kept p.body [] n literals.literals;
             };
-            conditions = conditions-kept p.body n apart.with_conditions.conditions;
+            conditions = conditions-kept p.body [] n apart.with_conditions.conditions;
           };
-          apart = apart-kept p.body n apart.apart;
+          apart = apart-kept p.body [] n apart.apart;
         };
-        no_folds = folds-kept p.body n r.without_folds.no_folds;
+        no_folds = folds-kept p.body [] n r.without_folds.no_folds;
       };
-      no_accesses = accesses-kept p.body n r.no_accesses;
+      no_accesses = accesses-kept p.body [] n r.no_accesses;
     }
 
 -- and no pick where it had none
 pub no-picks : (p : Program) → KeepsNoPicks p (without_inner_folds p)
-no-picks p h = picks-kept p.body (length p.declarations) h
+no-picks p h = picks-kept p.body [] (length p.declarations) h

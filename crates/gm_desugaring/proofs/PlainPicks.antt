@@ -27,7 +27,7 @@ use Rattle.gm_reductions.specs.Folds.{folds_out, has_no_folds}
 use Rattle.gm_reductions.specs.Phases.{has_flat_loops, is_search_code, is_desugared_outside}
 use Rattle.gm_reductions.specs.Stages.{WithLoopsAlone}
 use Rattle.gm_picks.specs.Picks.{is_scalar, has_plain_picks}
-use Rattle.gm_hoisting.specs.Hoisting.{has_none, count_phase, root_checked, phase_out}
+use Rattle.gm_hoisting.specs.Hoisting.{is_sure, count_phase, root_checked, phase_out}
 
 -- ---- the passes behind keep them
 
@@ -73,20 +73,20 @@ checked-plain true n k s t h = h
 checked-plain false n k s t h = and-true (has_plain_picks t) true h refl
 
 -- so does the one that makes inner loops of reductions, which changes parallel loops and searches alone
-pub inner-plain : (s : Stmt) (n : ℕ) → has_plain_picks s ≡ true → has_plain_picks (phase_out n s) ≡ true
-inner-plain (Then a b) n h =
+pub inner-plain : (s : Stmt) (its : List ℕ) (n : ℕ) → has_plain_picks s ≡ true → has_plain_picks (phase_out its n s) ≡ true
+inner-plain (Then a b) its n h =
     let q = both-true (has_plain_picks a) (has_plain_picks b) h in
-    and-true (has_plain_picks (phase_out n a)) (has_plain_picks (phase_out (n + count_phase a) b)) (inner-plain a n q.0) (inner-plain b (n + count_phase a) q.1)
-inner-plain (Foreach k at hd test body) n h = refl
-inner-plain (For k at hd e s) n h = inner-plain s n h
-inner-plain (If k e a b) n h =
+    and-true (has_plain_picks (phase_out its n a)) (has_plain_picks (phase_out its (n + count_phase its a) b)) (inner-plain a its n q.0) (inner-plain b its (n + count_phase its a) q.1)
+inner-plain (Foreach k at hd test body) its n h = refl
+inner-plain (For k at hd e s) its n h = inner-plain s (hd.iterator ∷ its) n h
+inner-plain (If k e a b) its n h =
     let q = both-true (has_plain_picks a) (has_plain_picks b) h in
-    and-true (has_plain_picks (phase_out n a)) (has_plain_picks (phase_out (n + count_phase a) b)) (inner-plain a n q.0) (inner-plain b (n + count_phase a) q.1)
-inner-plain (While k at e s) n h = inner-plain s n h
-inner-plain (Do k at s e) n h = inner-plain s n h
-inner-plain (InBfs k at s test body) n h = checked-plain (has_none test) n k s _ refl
-inner-plain (InBfsBoth k at s test body back_key back_test back) n h = checked-plain (has_none test) n k s _ refl
-inner-plain s n h = h
+    and-true (has_plain_picks (phase_out its n a)) (has_plain_picks (phase_out its (n + count_phase its a) b)) (inner-plain a its n q.0) (inner-plain b its (n + count_phase its a) q.1)
+inner-plain (While k at e s) its n h = inner-plain s its n h
+inner-plain (Do k at s e) its n h = inner-plain s its n h
+inner-plain (InBfs k at s test body) its n h = checked-plain (is_sure its s test) n k s _ refl
+inner-plain (InBfsBoth k at s test body back_key back_test back) its n h = checked-plain (is_sure its s test) n k s _ refl
+inner-plain s its n h = h
 
 -- ---- what is left
 

@@ -7,7 +7,7 @@ use Rattle.gm_ast.specs.declared.tree.Head.{Head}
 use Rattle.gm_ast.specs.declared.tree.Key.{Key}
 use Rattle.gm_ast.specs.declared.tree.Search.{Search}
 use Rattle.gm_ast.specs.Program.{Expr, Const, Var, Property, EdgeProperty, Degree, NodeCount, EdgeCount, Live, Unary, Binary, Both, Either, Choose, Folded, Stmt, Then, Declare, Assign, Defer, Combine, Foreach, For, If, While, Do, InBfs, InBfsBoth, Program}
-use Rattle.gm_hoisting.specs.Hoisting.{count_folds, has_none, joins, passing, giving, placed, fold_set, folds_set, all_set, told_from, all_told, behind, count_body, body_out, filter_left, under, opened, root_checked, count_check, count_loop, count_phase, phase_out, without_inner_folds}
+use Rattle.gm_hoisting.specs.Hoisting.{count_folds, is_sure, has_none, joins, passing, giving, placed, fold_set, folds_set, all_set, told_from, all_told, behind, count_body, body_out, filter_left, under, opened, root_checked, count_check, count_loop, count_phase, phase_out, without_inner_folds}
 use Rattle.gm_depth.specs.Depths.{depth, all_within}
 use Rattle.gm_depth.proofs.Limits.{Within, AreWithin, AllWithin, parts, whole}
 use Rattle.gm_shallow.proofs.Statements.{Several, several-both, sequence-within}
@@ -126,24 +126,24 @@ module _ (limit : ℕ) (one : 1 ≤ limit) where
   checked-within true n k s t h = h
   checked-within false n k s t h = (one, (h, tt))
 
-  phase-within : (s : Stmt) (n : ℕ) → AllWithin limit s → AllWithin limit (phase_out n s)
-  phase-within (Then a b) n h = (phase-within a n h.0, phase-within b (n + count_phase a) h.1)
-  phase-within (Foreach k at hd test body) n h = (left-within (has_none test) test h.0, opened-within n k test body h.0 h.1)
-  phase-within (For k at hd test body) n h = (h.0, phase-within body n h.1)
-  phase-within (If k c a b) n h = (h.0, (phase-within a n h.1.0, phase-within b (n + count_phase a) h.1.1))
-  phase-within (While k at c body) n h = (h.0, phase-within body n h.1)
-  phase-within (Do k at body c) n h = (phase-within body n h.0, h.1)
-  phase-within (InBfs k at s test body) n h =
-      let m = n + count_check (has_none test) in
-      checked-within (has_none test) n k s _ (left-within (has_none test) test h.0, opened-within m k test body h.0 h.1)
-  phase-within (InBfsBoth k at s test body back_key back_test back) n h =
-      let m = n + count_check (has_none test) in
-      checked-within (has_none test) n k s _
+  phase-within : (s : Stmt) (its : List ℕ) (n : ℕ) → AllWithin limit s → AllWithin limit (phase_out its n s)
+  phase-within (Then a b) its n h = (phase-within a its n h.0, phase-within b its (n + count_phase its a) h.1)
+  phase-within (Foreach k at hd test body) its n h = (left-within (has_none test) test h.0, opened-within n k test body h.0 h.1)
+  phase-within (For k at hd test body) its n h = (h.0, phase-within body (hd.iterator ∷ its) n h.1)
+  phase-within (If k c a b) its n h = (h.0, (phase-within a its n h.1.0, phase-within b its (n + count_phase its a) h.1.1))
+  phase-within (While k at c body) its n h = (h.0, phase-within body its n h.1)
+  phase-within (Do k at body c) its n h = (phase-within body its n h.0, h.1)
+  phase-within (InBfs k at s test body) its n h =
+      let m = n + count_check (is_sure its s test) in
+      checked-within (is_sure its s test) n k s _ (left-within (has_none test) test h.0, opened-within m k test body h.0 h.1)
+  phase-within (InBfsBoth k at s test body back_key back_test back) its n h =
+      let m = n + count_check (is_sure its s test) in
+      checked-within (is_sure its s test) n k s _
       (left-within (has_none test) test h.0, (opened-within m k test body h.0 h.1.0, (left-within (has_none back_test) back_test h.1.1.0, opened-within (m + count_loop test body) back_key back_test back h.1.1.0 h.1.1.1)))
-  phase-within s n h = h
+  phase-within s its n h = h
 
 pub inner-folds-keep : (n : ℕ) (p : Program) → 1 ≤ n → all_within n p.body ≡ true → all_within n (without_inner_folds p).body ≡ true
-inner-folds-keep n p one h = whole n (phase_out (length p.declarations) p.body) (phase-within n one p.body (length p.declarations) (parts n p.body h))
+inner-folds-keep n p one h = whole n (phase_out [] (length p.declarations) p.body) (phase-within n one p.body [] (length p.declarations) (parts n p.body h))
 
 -- ---- Ifs within one another: one more where a filter has a reduction
 
@@ -207,31 +207,31 @@ checked-nests : (m : ℕ) (none : Bool) (n : ℕ) (k : Key) (s : Search) (t : St
 checked-nests m true n k s t h = h
 checked-nests m false n k s t h = omega arith
 
-phase-nests : (s : Stmt) (n : ℕ) → nesting (phase_out n s) ≤ suc (nesting s)
-phase-nests (Then a b) n =
-    let m = n + count_phase a in
-    let u : nesting (phase_out n a) ≤ suc (nesting a) = phase-nests a n in
-    let v : nesting (phase_out m b) ≤ suc (nesting b) = phase-nests b m in
+phase-nests : (s : Stmt) (its : List ℕ) (n : ℕ) → nesting (phase_out its n s) ≤ suc (nesting s)
+phase-nests (Then a b) its n =
+    let m = n + count_phase its a in
+    let u : nesting (phase_out its n a) ≤ suc (nesting a) = phase-nests a its n in
+    let v : nesting (phase_out its m b) ≤ suc (nesting b) = phase-nests b its m in
     omega arith
-phase-nests (Foreach k at hd test body) n = opened-nests n k test body
-phase-nests (For k at hd test body) n = phase-nests body n
-phase-nests (If k c a b) n =
-    let m = n + count_phase a in
-    let u : nesting (phase_out n a) ≤ suc (nesting a) = phase-nests a n in
-    let v : nesting (phase_out m b) ≤ suc (nesting b) = phase-nests b m in
+phase-nests (Foreach k at hd test body) its n = opened-nests n k test body
+phase-nests (For k at hd test body) its n = phase-nests body (hd.iterator ∷ its) n
+phase-nests (If k c a b) its n =
+    let m = n + count_phase its a in
+    let u : nesting (phase_out its n a) ≤ suc (nesting a) = phase-nests a its n in
+    let v : nesting (phase_out its m b) ≤ suc (nesting b) = phase-nests b its m in
     omega arith
-phase-nests (While k at c body) n = phase-nests body n
-phase-nests (Do k at body c) n = phase-nests body n
-phase-nests (InBfs k at s test body) n =
-    let m = n + count_check (has_none test) in
-    checked-nests (suc (body_nesting body)) (has_none test) n k s _ (opened-nests m k test body)
-phase-nests (InBfsBoth k at s test body back_key back_test back) n =
-    let m = n + count_check (has_none test) in
+phase-nests (While k at c body) its n = phase-nests body its n
+phase-nests (Do k at body c) its n = phase-nests body its n
+phase-nests (InBfs k at s test body) its n =
+    let m = n + count_check (is_sure its s test) in
+    checked-nests (suc (body_nesting body)) (is_sure its s test) n k s _ (opened-nests m k test body)
+phase-nests (InBfsBoth k at s test body back_key back_test back) its n =
+    let m = n + count_check (is_sure its s test) in
     let l = m + count_loop test body in
     let u : body_nesting (opened m k test body) ≤ suc (body_nesting body) = opened-nests m k test body in
     let v : body_nesting (opened l back_key back_test back) ≤ suc (body_nesting back) = opened-nests l back_key back_test back in
-    checked-nests (suc (max (body_nesting body) (body_nesting back))) (has_none test) n k s _ (omega arith)
-phase-nests s n = omega arith
+    checked-nests (suc (max (body_nesting body) (body_nesting back))) (is_sure its s test) n k s _ (omega arith)
+phase-nests s its n = omega arith
 
 pub inner-folds-nest : (p : Program) → nesting (without_inner_folds p).body ≤ suc (nesting p.body)
-inner-folds-nest p = phase-nests p.body (length p.declarations)
+inner-folds-nest p = phase-nests p.body [] (length p.declarations)
