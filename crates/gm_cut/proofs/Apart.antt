@@ -14,7 +14,7 @@ use Rattle.gm_ast.specs.declared.tree.Target.TheVariants as T
 use Rattle.gm_ast.specs.Program.{Expr, Const, Var, Property, EdgeProperty, Degree, NodeCount, EdgeCount, Live, Unary, Binary, Both, Either, Choose, Folded, Stmt, Skip, Then, Declare, Assign, Combine, Foreach, If}
 use Rattle.gm_ast.specs.Ways.{is_in}
 use Rattle.gm_semantics.specs.Frames.{NamesBelow}
-use Rattle.gm_forms.specs.Cut.{is_mask, touched, is_own_body, is_own_code, is_own_loop, is_along_edges, is_cut, knows_no_locals, mask_stays, has_plain_locals, adds_last, keeps_iterators}
+use Rattle.gm_forms.specs.Cut.{is_mask, touched, is_own_body, is_own_code, is_own_loop, knows_no_locals, mask_stays, has_plain_locals, adds_last, keeps_iterators}
 use Rattle.gm_forms.specs.Fission.{left, changed, reduced_locals, elsewhere_of, pushed_properties, agrees_with, all_agree_with, reduces_whole, is_nil, can_cut}
 use Rattle.gm_forms.specs.Forms.{depth_at, is_flat, is_outer_body, is_flat_loop}
 use Rattle.gm_forms.specs.Order.{fault_of, cannot_fail, lie_before, faults_in, in_order, faults_of, leads, body_in_order, loop_in_order, can_fail1, can_fail2}
@@ -28,7 +28,7 @@ use Rattle.gm_loop_laws.specs.Masks.{is_certain, spares, is_stable}
 use Rattle.gm_loop_laws.specs.Pieces.{no_inner, is_lone, Piece, piece, pieces_of, stands, may_part}
 use Rattle.gm_loop_laws.proofs.Chosen.{disjoint-apart, apart-disjoint}
 use Rattle.gm_loop_laws.proofs.Kept.{touched-below}
-use Rattle.gm_cut.specs.Parts.{Kind, locals_stay, falls_apart, piece_is_cut}
+use Rattle.gm_cut.specs.Parts.{Kind, locals_stay, falls_apart, is_parted, stands_along, piece_is_parted}
 use Rattle.gm_cut.proofs.Grouped.{append-assoc, lie-second}
 use Rattle.gm_cut.proofs.Shared.{Under, under-both, fewer-apart, listed-first, listed-second, anywhere-split, elsewhere-split}
 
@@ -418,24 +418,23 @@ module _ (ds : List Declaration) (n : ℕ) where
       own-stands : (mask : Expr) (s : Stmt) → is_certain (n ∷ []) mask ≡ true → Facts s → own s ≡ true → Stands mask s
       own-stands mask s sure f o = plain-stands mask s sure f (own-plain n s (both-true (is_own_code n s) (adds_last (n ∷ []) s) o).0)
 
-      lone-stands : (mask : Expr) (j : Key) (p : Place) (hd : Head) (test : Expr) (body : Stmt) → is_certain (n ∷ []) mask ≡ true → Facts (Foreach j p hd test body) → list_all (piece_is_cut kind ds n) (piece mask (Foreach j p hd test body)) ≡ true → Stands mask (Foreach j p hd test body)
+      lone-stands : (mask : Expr) (j : Key) (p : Place) (hd : Head) (test : Expr) (body : Stmt) → is_certain (n ∷ []) mask ≡ true → Facts (Foreach j p hd test body) → list_all (piece_is_parted kind ds n) (piece mask (Foreach j p hd test body)) ≡ true → Stands mask (Foreach j p hd test body)
       lone-stands mask j p hd test body sure f c =
           let s = Foreach j p hd test body in
-          let a = both-true (piece_is_cut kind ds n (record { mask = mask; part = s })) true c in
-          let b = both-true (is_mask n mask) (is_cut kind ds n mask s) a.0 in
-          let d = both-true (is_flat_loop ds false n mask s) (is_own_loop n s || (is_mask n mask && is_along_edges (kind ds) ds n mask s)) b.1 in
-          let e = both-true (is_mask n mask) (is_along_edges (kind ds) ds n mask s) d.1 in
-          let edge = knows_no_locals ds n hd.iterator mask test body && (mask_stays n mask hd body && (has_plain_locals ds n test body && (all_one (reduced ds n true body) && adds_last (n ∷ hd.iterator ∷ []) body))) in
+          let a = both-true (piece_is_parted kind ds n (record { mask = mask; part = s })) true c in
+          let b = both-true (is_mask n mask) (is_parted kind ds n mask s) a.0 in
+          let d = both-true (is_flat_loop ds false n mask s) (is_own_loop n s || (is_mask n mask && stands_along kind ds n mask s)) b.1 in
+          let e = both-true (is_mask n mask) (stands_along kind ds n mask s) d.1 in
+          let edge = knows_no_locals ds n hd.iterator mask test body && (mask_stays n mask hd body && (has_plain_locals ds n test body && all_one (reduced ds n true body))) in
           let g = both-true (kind ds n hd test body) edge e.1 in
-          let i = both-true (knows_no_locals ds n hd.iterator mask test body) (mask_stays n mask hd body && (has_plain_locals ds n test body && (all_one (reduced ds n true body) && adds_last (n ∷ hd.iterator ∷ []) body))) g.1 in
-          let l = both-true (mask_stays n mask hd body) (has_plain_locals ds n test body && (all_one (reduced ds n true body) && adds_last (n ∷ hd.iterator ∷ []) body)) i.1 in
-          let q = both-true (has_plain_locals ds n test body) (all_one (reduced ds n true body) && adds_last (n ∷ hd.iterator ∷ []) body) l.1 in
-          let one = both-true (all_one (reduced ds n true body)) (adds_last (n ∷ hd.iterator ∷ []) body) q.1 in
+          let i = both-true (knows_no_locals ds n hd.iterator mask test body) (mask_stays n mask hd body && (has_plain_locals ds n test body && all_one (reduced ds n true body))) g.1 in
+          let l = both-true (mask_stays n mask hd body) (has_plain_locals ds n test body && all_one (reduced ds n true body)) i.1 in
+          let q = both-true (has_plain_locals ds n test body) (all_one (reduced ds n true body)) l.1 in
           let reads = n ∷ (hd.iterator ∷ (read_anywhere (reads_in mask) ++ told_in mask)) in
           let off = both-true (disjoint (touched body) reads) (not (is_in (told_in mask) hd.iterator)) l.0 in
           let kept : not (is_in (written ds n true body) n) ≡ true = not-in (written ds n true body) n (λ w. disjoint-apart (touched body) reads n off.0 (written-touched body n w) (inl refl)) in
           let rest : all_one (reduced ds n true body) && (targets_alike body && not (is_in (written ds n true body) n)) ≡ true =
-          and-true (all_one (reduced ds n true body)) (targets_alike body && not (is_in (written ds n true body) n)) one.0 (and-true (targets_alike body) (not (is_in (written ds n true body) n)) f.alike kept) in
+          and-true (all_one (reduced ds n true body)) (targets_alike body && not (is_in (written ds n true body) n)) q.1 (and-true (targets_alike body) (not (is_in (written ds n true body) n)) f.alike kept) in
           let ours : stands_alone ds pushed n body ≡ true = and-true (list_all (is_in pushed) (pushed_properties n body)) _ f.mine rest in
           let mine : stands_alone ds (pushed_properties n body) n body ≡ true = and-true (list_all (is_in (pushed_properties n body)) (pushed_properties n body)) _ (all-in (pushed_properties n body) (pushed_properties n body) (λ y z. z)) rest in
           and-true (is_certain (n ∷ []) mask) (is_outer_body ds false n s && is_lone ds pushed n s) sure
@@ -448,21 +447,21 @@ module _ (ds : List Declaration) (n : ℕ) where
       may mask s = may_part own here ds n (length ds) k at pushed mask s
 
       abbrev Goal : Expr → Stmt → Type 0
-      Goal mask s = is_certain (n ∷ []) mask ≡ true → Facts s → falls_apart ds n here mask s ≡ true → list_all (piece_is_cut kind ds n) (pieces mask s) ≡ true → may mask s ≡ true
+      Goal mask s = is_certain (n ∷ []) mask ≡ true → Facts s → falls_apart ds n here mask s ≡ true → list_all (piece_is_parted kind ds n) (pieces mask s) ≡ true → may mask s ≡ true
 
       pub parts-may : (s : Stmt) (mask : Expr) → Goal mask s
       parts-may Skip mask sure f h c = sure
       parts-may (Then a b) mask sure f h c = by (own (Then a b)) refl h c (parts-may a mask) (parts-may b mask)
         where
           by : (o : Bool) → own (Then a b) ≡ o → o || (locals_stay ds n a b && (is_stable n a mask && (falls_apart ds n here mask a && falls_apart ds n here mask b))) ≡ true →
-              list_all (piece_is_cut kind ds n) (cond o (piece mask (Then a b)) (pieces mask a ++ pieces mask b)) ≡ true → Goal mask a → Goal mask b →
+              list_all (piece_is_parted kind ds n) (cond o (piece mask (Then a b)) (pieces mask a ++ pieces mask b)) ≡ true → Goal mask a → Goal mask b →
               cond o (stands own here ds pushed n mask (Then a b)) (can_cut ds n (length ds) k at pushed a b && (is_stable n a mask && (may mask a && may mask b))) ≡ true
           by true o h c first second = own-stands mask (Then a b) sure f o
           by false o h c first second =
               let r = both-true (locals_stay ds n a b) (is_stable n a mask && (falls_apart ds n here mask a && falls_apart ds n here mask b)) h in
               let q = both-true (is_stable n a mask) (falls_apart ds n here mask a && falls_apart ds n here mask b) r.1 in
               let t = both-true (falls_apart ds n here mask a) (falls_apart ds n here mask b) q.1 in
-              let d = all-append (piece_is_cut kind ds n) (pieces mask a) (pieces mask b) c in
+              let d = all-append (piece_is_parted kind ds n) (pieces mask a) (pieces mask b) c in
               let g = facts-both a b f in
               and-true (can_cut ds n (length ds) k at pushed a b) (is_stable n a mask && (may mask a && may mask b)) (cut-there a b f r.0)
               (and-true (is_stable n a mask) (may mask a && may mask b) q.0 (and-true (may mask a) (may mask b) (first sure g.0 t.0 d.0) (second sure g.1 t.1 d.1)))
@@ -470,7 +469,7 @@ module _ (ds : List Declaration) (n : ℕ) where
         where
           by : (o : Bool) → own (If j e a b) ≡ o →
               o || (locals_stay ds n a b && (is_stable n a mask && (is_stable n a e && (falls_apart ds n here (Both mask e) a && falls_apart ds n here (Both mask (Unary Not here e)) b)))) ≡ true →
-              list_all (piece_is_cut kind ds n) (cond o (piece mask (If j e a b)) (pieces (Both mask e) a ++ pieces (Both mask (Unary Not here e)) b)) ≡ true → Goal (Both mask e) a → Goal (Both mask (Unary Not here e)) b →
+              list_all (piece_is_parted kind ds n) (cond o (piece mask (If j e a b)) (pieces (Both mask e) a ++ pieces (Both mask (Unary Not here e)) b)) ≡ true → Goal (Both mask e) a → Goal (Both mask (Unary Not here e)) b →
               cond o (stands own here ds pushed n mask (If j e a b)) (can_cut ds n (length ds) k at pushed a b && (is_stable n a mask && (is_stable n a e && (may (Both mask e) a && may (Both mask (Unary Not here e)) b)))) ≡ true
           by true o h c first second = own-stands mask (If j e a b) sure f o
           by false o h c first second =
@@ -482,7 +481,7 @@ module _ (ds : List Declaration) (n : ℕ) where
               let t = both-true x y u.1 in
               let certain = both-true (is_certain (n ∷ []) e) (not (is_in (touched a) n) && spares (touched a) e) u.0 in
               let yes : is_certain (n ∷ []) (Both mask e) ≡ true = and-true (is_certain (n ∷ []) mask) (is_certain (n ∷ []) e) sure certain.0 in
-              let d = all-append (piece_is_cut kind ds n) (pieces (Both mask e) a) (pieces (Both mask (Unary Not here e)) b) c in
+              let d = all-append (piece_is_parted kind ds n) (pieces (Both mask e) a) (pieces (Both mask (Unary Not here e)) b) c in
               let z = facts-branches j e a b f in
               let g = facts-both a b z in
               and-true (can_cut ds n (length ds) k at pushed a b) (is_stable n a mask && (is_stable n a e && (may (Both mask e) a && may (Both mask (Unary Not here e)) b))) (cut-there a b z r.0)

@@ -14,7 +14,7 @@ use Rattle.gm_ast.specs.declared.tree.Head.{Head}
 use Rattle.gm_ast.specs.declared.tree.Key.{Key}
 use Rattle.gm_ast.specs.Loops.{is_nodes}
 use Rattle.gm_ast.specs.Program.{Expr, Unary, Both, Stmt, Skip, Then, Foreach, If, sequence}
-use Rattle.gm_forms.specs.Cut.{is_mask, is_own_loop, is_along_edges, is_cut}
+use Rattle.gm_forms.specs.Cut.{is_mask, is_own_loop}
 use Rattle.gm_forms.specs.Forms.{is_flat, is_flat_loop, is_phase, no_loop}
 use Rattle.gm_forms.specs.Order.{fault_of, are_numbered, cannot_fail, hoisted_in, faults_in, lie_before, in_order, faults_of, leads, body_in_order, loop_in_order, begins, loops_in_order}
 use Rattle.gm_forms.specs.Sharing.{shares, loops_share}
@@ -26,7 +26,7 @@ use Rattle.gm_forms.proofs.Weaker.{and-true}
 use Rattle.gm_loop_laws.specs.Pieces.{Piece, piece, pieces_of}
 use Rattle.gm_dissect.proofs.Kept.{Sound, sound-then, sound-skip}
 use Rattle.gm_dissect.proofs.Undeferred.{append-true}
-use Rattle.gm_cut.specs.Parts.{Kind, piece_loop, piece_is_cut}
+use Rattle.gm_cut.specs.Parts.{Kind, piece_loop, stands_along, is_parted, piece_is_parted}
 use Rattle.gm_cut.specs.Runs.{joins_run, with_runs}
 use Rattle.gm_cut.proofs.Grouped.{lie-second, uses-same, order-same, typed-same, shares-same}
 use Rattle.gm_cut.proofs.Shared.{first-shares, second-shares, yes-shares, no-shares}
@@ -136,21 +136,21 @@ module _ (kind : Kind) (ds : List Declaration) (res : Option VType) (k : Key) (a
   -- ---- loops of pieces
 
   abbrev Cut : Piece → Type 0
-  Cut p = piece_is_cut kind ds n p ≡ true
+  Cut p = piece_is_parted kind ds n p ≡ true
 
   record CutParts (p : Piece) : Type 0 where
     masked : is_mask n p.mask ≡ true
-    cut : is_cut kind ds n p.mask p.part ≡ true
+    cut : is_parted kind ds n p.mask p.part ≡ true
 
   cut-parts : (p : Piece) → Cut p → CutParts p
-  cut-parts p c = let a = both-true (is_mask n p.mask) (is_cut kind ds n p.mask p.part) c in record { masked = a.0; cut = a.1 }
+  cut-parts p c = let a = both-true (is_mask n p.mask) (is_parted kind ds n p.mask p.part) c in record { masked = a.0; cut = a.1 }
 
   module _ (range : is_nodes h.domain ≡ true) (head : list_all (suits ds) (uses_of_head h) ≡ true) where
     piece-sound : (p : Piece) → Good p.mask p.part → Cut p → Sound ds res (piece_loop k at h p)
     piece-sound p g c =
         let parts = cut-parts p c in
         let m = both-true (cannot_fail p.mask) (is_flat (n ∷ []) false p.mask) parts.masked in
-        let flat = both-true (is_flat_loop ds false n p.mask p.part) (is_own_loop n p.part || (is_mask n p.mask && is_along_edges (kind ds) ds n p.mask p.part)) parts.cut in
+        let flat = both-true (is_flat_loop ds false n p.mask p.part) (is_own_loop n p.part || (is_mask n p.mask && stands_along kind ds n p.mask p.part)) parts.cut in
         let none = flat-hoisted (n ∷ []) false p.mask m.1 in
         let first : begins its k h.place p.mask p.part ≡ true =
         and-true (leads its k h.place p.part) (are_numbered (hoisted_in p.mask ++ faults_of its p.part) && (nat_lt 0 k.statement || cannot_fail p.mask)) g.ahead
@@ -190,12 +190,12 @@ module _ (kind : Kind) (ds : List Declaration) (res : Option VType) (k : Key) (a
     pieces mask s = pieces_of (is_own_loop n) at mask s
 
     abbrev All : List Piece → Type 0
-    All ps = list_all (piece_is_cut kind ds n) ps ≡ true
+    All ps = list_all (piece_is_parted kind ds n) ps ≡ true
 
     one-sound : (mask : Expr) (s : Stmt) → Good mask s → All (piece mask s) → Sound ds res (loops (piece mask s))
     one-sound mask s g c =
         let p : Piece = record { mask = mask; part = s } in
-        sound-then ds res (piece_loop k at h p) Skip (piece-sound p g (both-true (piece_is_cut kind ds n p) true c).0) (sound-skip ds res)
+        sound-then ds res (piece_loop k at h p) Skip (piece-sound p g (both-true (piece_is_parted kind ds n p) true c).0) (sound-skip ds res)
 
     pub pieces-sound : (s : Stmt) (mask : Expr) → Good mask s → All (pieces mask s) → Sound ds res (loops (pieces mask s))
     pieces-sound Skip mask g c = sound-skip ds res
@@ -205,7 +205,7 @@ module _ (kind : Kind) (ds : List Declaration) (res : Option VType) (k : Key) (a
             Sound ds res (loops (cond o (piece mask (Then a b)) (pieces mask a ++ pieces mask b)))
         by true d first second = one-sound mask (Then a b) g d
         by false d first second =
-            let r = all-append (piece_is_cut kind ds n) (pieces mask a) (pieces mask b) d in
+            let r = all-append (piece_is_parted kind ds n) (pieces mask a) (pieces mask b) d in
             sound-append (pieces mask a) (pieces mask b) (first r.0) (second r.1)
     pieces-sound (If j e a b) mask g c =
         by (is_own_loop n (If j e a b)) c (λ d. pieces-sound a (Both mask e) (good-branches mask j e a b g).0 d) (λ d. pieces-sound b (Both mask (Unary Not at e)) (good-branches mask j e a b g).1 d)
@@ -221,17 +221,17 @@ module _ (kind : Kind) (ds : List Declaration) (res : Option VType) (k : Key) (a
             Sound ds res (loops (cond o (piece mask (If j e a b)) (pieces (Both mask e) a ++ pieces (Both mask (Unary Not at e)) b)))
         by true d first second = one-sound mask (If j e a b) g d
         by false d first second =
-            let r = all-append (piece_is_cut kind ds n) (pieces (Both mask e) a) (pieces (Both mask (Unary Not at e)) b) d in
+            let r = all-append (piece_is_parted kind ds n) (pieces (Both mask e) a) (pieces (Both mask (Unary Not at e)) b) d in
             sound-append (pieces (Both mask e) a) (pieces (Both mask (Unary Not at e)) b) (first r.0) (second r.1)
     pieces-sound s mask g c = one-sound mask s g c
 
   -- and each is cut
-  pub pieces-cut : is_nodes h.domain ≡ true → (ps : List Piece) → list_all (piece_is_cut kind ds n) ps ≡ true → is_phase (is_cut kind ds) no_loop ds (sequence (map (piece_loop k at h) ps)) ≡ true
+  pub pieces-cut : is_nodes h.domain ≡ true → (ps : List Piece) → list_all (piece_is_parted kind ds n) ps ≡ true → is_phase (is_parted kind ds) no_loop ds (sequence (map (piece_loop k at h) ps)) ≡ true
   pieces-cut range [] c = refl
   pieces-cut range (p ∷ ps) c =
-      let r = both-true (piece_is_cut kind ds n p) (list_all (piece_is_cut kind ds n) ps) c in
-      and-true (is_phase (is_cut kind ds) no_loop ds (piece_loop k at h p)) (is_phase (is_cut kind ds) no_loop ds (sequence (map (piece_loop k at h) ps)))
-      (and-true (is_nodes h.domain) (is_cut kind ds n p.mask p.part) range (cut-parts p r.0).cut) (pieces-cut range ps r.1)
+      let r = both-true (piece_is_parted kind ds n p) (list_all (piece_is_parted kind ds n) ps) c in
+      and-true (is_phase (is_parted kind ds) no_loop ds (piece_loop k at h p)) (is_phase (is_parted kind ds) no_loop ds (sequence (map (piece_loop k at h) ps)))
+      (and-true (is_nodes h.domain) (is_parted kind ds n p.mask p.part) range (cut-parts p r.0).cut) (pieces-cut range ps r.1)
 
   -- the body of a loop that stands in a phase, with its runs in blocks
   pub good-loop : (mask : Expr) (body : Stmt) → Sound ds res (Foreach k at h mask body) → Good mask (with_runs n body)

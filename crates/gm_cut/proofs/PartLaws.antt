@@ -16,18 +16,18 @@ use Rattle.gm_ast.specs.Program.{Expr, Stmt, Skip, Then, Declare, DeclareEdge, A
 use Rattle.gm_semantics.specs.Statements.{Run, sequential}
 use Rattle.gm_semantics.specs.Frames.{NamesBelow, AlikeCourses}
 use Rattle.gm_semantics.proofs.StatementFrames.{sequential-alike}
-use Rattle.gm_forms.specs.Cut.{is_mask, is_own_loop, is_along_edges, is_cut, touched}
+use Rattle.gm_forms.specs.Cut.{is_mask, is_own_loop, knows_no_locals, mask_stays, has_plain_locals, is_edge_loop, is_along_edges, is_cut, adds_last, touched}
 use Rattle.gm_forms.specs.Extends.{Extends, run_of, start_of}
 use Rattle.gm_forms.specs.Fission.{pushed_properties, left, changed, all_agree_with, reduces_whole, is_nil}
 use Rattle.gm_forms.specs.Forms.{depth_at, is_flat, is_outer_body, is_flat_loop, is_phase, no_loop, is_told, has_a_way}
 use Rattle.gm_forms.specs.Meanings.{SameMeaning}
 use Rattle.gm_forms.specs.Order.{fault_of, are_numbered, cannot_fail, hoisted_in, lie_before, faults_in, in_order, faults_of, leads, body_in_order, loop_in_order, begins, folds_in_order, loops_in_order}
 use Rattle.gm_forms.specs.Ready.{Ready2, Ready3}
-use Rattle.gm_forms.specs.Sharing.{sights_of, read_anywhere, read_elsewhere, deferred, reduced, pushed_in, disjoint}
+use Rattle.gm_forms.specs.Sharing.{sights_of, read_anywhere, read_elsewhere, deferred, reduced, pushed_in, disjoint, all_one}
 use Rattle.gm_forms.specs.Uses.{suits, uses_in, uses_of_head, uses_of}
 use Rattle.gm_forms.proofs.Named.{both-true, all-append, names-below}
 use Rattle.gm_forms.proofs.Tables.{same-alike}
-use Rattle.gm_forms.proofs.Weaker.{and-true}
+use Rattle.gm_forms.proofs.Weaker.{and-true, weaker}
 use Rattle.gm_loop_laws.specs.Pieces.{may_part}
 use Rattle.gm_loop_laws.proofs.Kept.{touched-below}
 use Rattle.gm_loop_laws.proofs.Parting.{pieces-hold}
@@ -35,7 +35,8 @@ use Rattle.gm_dissect.specs.Loops.{each_loop}
 use Rattle.gm_dissect.proofs.Kept.{Sound, phase-kept}
 use Rattle.gm_dissect.proofs.Phases.{KnownLoop, KnownPhase, Rewrites, phase-alike}
 use Rattle.gm_cut.specs.Runs.{joins_run, with_runs}
-use Rattle.gm_cut.specs.Parts.{Kind, IsCutBy, parts_of, piece_loop, parted_loop, in_pieces, piece_is_cut, falls_apart, is_separable, can_part, each_passes, can_be_parted}
+use Rattle.gm_cut.specs.Slices.{goes_one_way}
+use Rattle.gm_cut.specs.Parts.{Kind, IsPartedBy, parts_of, piece_loop, parted_loop, in_pieces, stands_at_edges, stands_along, is_parted, piece_is_parted, falls_apart, is_separable, can_part, each_passes, can_be_parted}
 use Rattle.gm_cut.proofs.Apart.{mask-certain, all-in, properties-touched, Facts, parts-may}
 use Rattle.gm_cut.proofs.Grouped.{uses-same, order-same, form-same, alike-same, runs-same}
 use Rattle.gm_cut.proofs.PartKept.{pieces-sound, pieces-cut, good-loop}
@@ -86,13 +87,13 @@ module _ (kind : Kind) (ds : List Declaration) where
     masked : is_mask hd.iterator mask ≡ true
     separable : is_separable ds hd.iterator (with_runs hd.iterator body) ≡ true
     falls : falls_apart ds hd.iterator at mask (with_runs hd.iterator body) ≡ true
-    cut : list_all (piece_is_cut kind ds hd.iterator) (parts_of hd.iterator at mask body) ≡ true
+    cut : list_all (piece_is_parted kind ds hd.iterator) (parts_of hd.iterator at mask body) ≡ true
 
   tests-of : (at : Place) (hd : Head) (mask : Expr) (body : Stmt) → can_part kind ds at hd mask body ≡ true → Tests at hd mask body
   tests-of at hd mask body h =
       let n = hd.iterator in
       let whole = with_runs n body in
-      let all = list_all (piece_is_cut kind ds n) (parts_of n at mask body) in
+      let all = list_all (piece_is_parted kind ds n) (parts_of n at mask body) in
       let a = both-true (is_mask n mask) (is_separable ds n whole && (falls_apart ds n at mask whole && all)) h in
       let b = both-true (is_separable ds n whole) (falls_apart ds n at mask whole && all) a.1 in
       let c = both-true (falls_apart ds n at mask whole) all b.1 in
@@ -193,7 +194,7 @@ module _ (kind : Kind) (ds : List Declaration) where
   phase s = is_phase (is_flat_loop ds false) no_loop ds s
 
   abbrev cut : Stmt → Bool
-  cut s = is_phase (is_cut kind ds) no_loop ds s
+  cut s = is_phase (is_parted kind ds) no_loop ds s
 
   phase-cut : (s : Stmt) → phase s ≡ true → each_passes asked s ≡ true → cut (each_loop parted_loop s) ≡ true
   phase-cut Skip f h = refl
@@ -219,9 +220,9 @@ module _ (kind : Kind) (ds : List Declaration) where
 
       by : (o : Bool) → is_own_loop hd.iterator body ≡ o → o || can_part kind ds at hd mask body ≡ true → cut (cond o (Foreach k at hd mask body) (sequence (map (piece_loop k at hd) (parts_of hd.iterator at mask body)))) ≡ true
       by true e g =
-          and-true (is_nodes hd.domain) (is_cut kind ds hd.iterator mask body) r.0
-          (and-true (is_flat_loop ds false hd.iterator mask body) (is_own_loop hd.iterator body || (is_mask hd.iterator mask && is_along_edges (kind ds) ds hd.iterator mask body)) r.1
-          (ap (λ o. o || (is_mask hd.iterator mask && is_along_edges (kind ds) ds hd.iterator mask body)) e))
+          and-true (is_nodes hd.domain) (is_parted kind ds hd.iterator mask body) r.0
+          (and-true (is_flat_loop ds false hd.iterator mask body) (is_own_loop hd.iterator body || (is_mask hd.iterator mask && stands_along kind ds hd.iterator mask body)) r.1
+          (ap (λ o. o || (is_mask hd.iterator mask && stands_along kind ds hd.iterator mask body)) e))
       by false e g = pieces-cut kind ds None k at hd r.0 (parts_of hd.iterator at mask body) (tests-of at hd mask body g).cut
   phase-cut (For k at hd test body) f h = let r = both-true (is_told test) (phase body) f in and-true (is_told test) (cut (each_loop parted_loop body)) r.0 (phase-cut body r.1 h)
   phase-cut (If k c a b) f h =
@@ -252,7 +253,7 @@ same-parted kind p r asks =
     (record { store = record { scalar = λ y b. refl; node = λ y n b. refl; edge = λ y n b. refl }; turns = refl })))
 
 -- it is ready for what comes next
-pub ready-parted : (kind : Kind) (p : Program) → Ready2 p → can_be_parted kind p ≡ true → IsCutBy kind (in_pieces p)
+pub ready-parted : (kind : Kind) (p : Program) → Ready2 p → can_be_parted kind p ≡ true → IsPartedBy kind (in_pieces p)
 ready-parted kind p r asks =
     let ds = p.declarations in
     let m = both-true (nat_le (p.inputs + p.outputs) (length ds)) (list_all (suits ds) (uses_of p.body)) r.sane.named in
@@ -268,6 +269,44 @@ ready-parted kind p r asks =
       form = phase-cut kind ds p.body r.form asks;
     }
 
--- with inner loops that go one way, it is ready for flipping
-pub flippable-parted : (p : Program) → Ready2 p → can_be_parted has_a_way p ≡ true → Ready3 (in_pieces p)
-flippable-parted p r asks = let cut = ready-parted has_a_way p r asks in record { sane = cut.sane; form = cut.form }
+-- ---- inner loops that go one way
+
+-- an inner loop that stands alone, and in which nothing can fault behind a Sum or Product through a node variable
+pub edge-of : (ds : List Declaration) (n : ℕ) (mask : Expr) (hd : Head) (test : Expr) (body : Stmt) → stands_at_edges ds n mask hd test body ≡ true → adds_last (n ∷ hd.iterator ∷ []) body ≡ true → is_edge_loop ds n mask hd test body ≡ true
+edge-of ds n mask hd test body e l =
+    let knows = knows_no_locals ds n hd.iterator mask test body in
+    let stays = mask_stays n mask hd body in
+    let plain = has_plain_locals ds n test body in
+    let one = all_one (reduced ds n true body) in
+    let last = adds_last (n ∷ hd.iterator ∷ []) body in
+    let a = both-true knows (stays && (plain && one)) e in
+    let b = both-true stays (plain && one) a.1 in
+    let c = both-true plain one b.1 in
+    and-true knows (stays && (plain && (one && last))) a.0 (and-true stays (plain && (one && last)) b.0 (and-true plain (one && last) c.0 (and-true one last c.1 l)))
+
+-- so its loop is cut, where it goes one way
+along-cut : (ds : List Declaration) (n : ℕ) (mask : Expr) (s : Stmt) → stands_along goes_one_way ds n mask s ≡ true → is_along_edges (has_a_way ds) ds n mask s ≡ true
+along-cut ds n mask (Foreach k at hd test body) e =
+    let a = both-true (goes_one_way ds n hd test body) (stands_at_edges ds n mask hd test body) e in
+    let b = both-true (has_a_way ds n hd test body) (adds_last (n ∷ hd.iterator ∷ []) body) a.0 in
+    and-true (has_a_way ds n hd test body) (is_edge_loop ds n mask hd test body) b.0 (edge-of ds n mask hd test body a.1 b.1)
+along-cut ds n mask s e = absurd (both_ways false refl e)
+
+loop-cut : (ds : List Declaration) (n : ℕ) (mask : Expr) (s : Stmt) → is_parted goes_one_way ds n mask s ≡ true → is_cut has_a_way ds n mask s ≡ true
+loop-cut ds n mask s e =
+    let along = stands_along goes_one_way ds n mask s in
+    let edges = is_along_edges (has_a_way ds) ds n mask s in
+    let a = both-true (is_flat_loop ds false n mask s) (is_own_loop n s || (is_mask n mask && along)) e in
+    and-true (is_flat_loop ds false n mask s) (is_own_loop n s || (is_mask n mask && edges)) a.0 (by (is_own_loop n s) (is_mask n mask) along edges a.1 (along-cut ds n mask s))
+  where
+    by : (o m x y : Bool) → o || (m && x) ≡ true → (x ≡ true → y ≡ true) → o || (m && y) ≡ true
+    by true m x y h f = refl
+    by false true x y h f = f h
+    by false false x y h f = h
+
+-- with inner loops that go one way, the program is ready for flipping
+pub flippable-parted : (p : Program) → Ready2 p → can_be_parted goes_one_way p ≡ true → Ready3 (in_pieces p)
+flippable-parted p r asks =
+    let q = in_pieces p in
+    let cut = ready-parted goes_one_way p r asks in
+    record { sane = cut.sane; form = weaker (is_parted goes_one_way q.declarations) (is_cut has_a_way q.declarations) no_loop no_loop (loop-cut q.declarations) (λ n e s k. k) q.declarations q.body cut.form }

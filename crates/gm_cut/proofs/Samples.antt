@@ -19,10 +19,9 @@ use Rattle.gm_ast.specs.declared.tree.Target.{Target}
 use Rattle.gm_ast.specs.declared.tree.Target.TheVariants as T
 use Rattle.gm_value.specs.declared.reductions.Reduce.{Reduce}
 use Rattle.gm_ast.specs.Program.{Expr, Const, Var, Property, Unary, Binary, Both, always, Stmt, Skip, Then, Declare, Assign, Combine, Foreach, If, Program, sequence}
-use Rattle.gm_forms.specs.Forms.{has_a_way}
 use Rattle.gm_cut.specs.Parts.{goes_any_way, in_pieces, can_be_parted}
 use Rattle.gm_cut.specs.Runs.{with_runs}
-use Rattle.gm_cut.specs.Slices.{in_slices, can_be_sliced}
+use Rattle.gm_cut.specs.Slices.{goes_one_way, in_slices, can_be_sliced}
 
 abbrev at : ℕ → Place
 at line = record { line = line; col = 1 }
@@ -87,7 +86,7 @@ runs = refl
 parted : in_pieces (program (each always (sequence (one ∷ two ∷ push ∷ three ∷ [])))) ≡ program (sequence (each always (sequence (one ∷ two ∷ [])) ∷ each always push ∷ each always (sequence (three ∷ [])) ∷ []))
 parted = refl
 
-may : can_be_parted has_a_way (program (each always (sequence (one ∷ two ∷ push ∷ three ∷ [])))) ≡ true
+may : can_be_parted goes_one_way (program (each always (sequence (one ∷ two ∷ push ∷ three ∷ [])))) ≡ true
 may = refl
 
 -- a loop of own statements stands as it is, whatever its filter
@@ -105,7 +104,7 @@ branches : in_pieces (program (each always (sequence (asks ∷ three ∷ []))))
     ≡ program (sequence (each (Both always (own 6 1)) (sequence (one ∷ [])) ∷ each (Both always (own 6 1)) push ∷ each (Both always (Unary Not (at 1) (own 6 1))) (sequence (four ∷ [])) ∷ each always (sequence (three ∷ [])) ∷ []))
 branches = refl
 
-may-branch : can_be_parted has_a_way (program (each always (sequence (asks ∷ [])))) ≡ true
+may-branch : can_be_parted goes_one_way (program (each always (sequence (asks ∷ [])))) ≡ true
 may-branch = refl
 
 -- an If of own statements is one of them
@@ -126,27 +125,27 @@ thrown : in_pieces (program (each always (sequence (throw ∷ calm ∷ divides �
 thrown = refl
 
 -- a condition that its own branch changes may not be asked again
-changed : can_be_parted has_a_way (program (each always (sequence (If (key 2) (Binary Eq (at 2) (own 3 2) (number 0)) (sequence (three ∷ push ∷ [])) Skip ∷ [])))) ≡ false
+changed : can_be_parted goes_one_way (program (each always (sequence (If (key 2) (Binary Eq (at 2) (own 3 2) (number 0)) (sequence (three ∷ push ∷ [])) Skip ∷ [])))) ≡ false
 changed = refl
 
 -- nor may a filter that a piece changes
-filtered : can_be_parted has_a_way (program (each (Binary Eq (at 1) (own 3 1) (number 0)) (sequence (one ∷ push ∷ [])))) ≡ false
+filtered : can_be_parted goes_one_way (program (each (Binary Eq (at 1) (own 3 1) (number 0)) (sequence (one ∷ push ∷ [])))) ≡ false
 filtered = refl
 
 -- nor one that can fault
-faulting : can_be_parted has_a_way (program (each (Binary Eq (at 1) (Binary Div (at 1) (number 1) (own 4 1)) (number 2)) (sequence (push ∷ [])))) ≡ false
+faulting : can_be_parted goes_one_way (program (each (Binary Eq (at 1) (Binary Div (at 1) (number 1) (own 4 1)) (number 2)) (sequence (push ∷ [])))) ≡ false
 faulting = refl
 
 -- a local that goes across pieces is to be a property: Int x = n.a; Foreach (t: n.Nbrs) { t.p += x; }
-across : can_be_parted has_a_way (program (each always (sequence (Declare (key 2) 7 (Some (own 3 2)) ∷ along 4 OutNbrs (Then (give 5 Sum (T.Property 2 5 (at 5)) (Var 7 (at 5))) Skip) ∷ [])))) ≡ false
+across : can_be_parted goes_one_way (program (each always (sequence (Declare (key 2) 7 (Some (own 3 2)) ∷ along 4 OutNbrs (Then (give 5 Sum (T.Property 2 5 (at 5)) (Var 7 (at 5))) Skip) ∷ [])))) ≡ false
 across = refl
 
 -- one of a piece alone stays: Foreach (t: n.Nbrs) { t.p += n.b; } Int x = n.a; n.a = x;
-within : can_be_parted has_a_way (program (each always (sequence (push ∷ Declare (key 6) 7 (Some (own 3 6)) ∷ set 7 3 (Var 7 (at 7)) ∷ [])))) ≡ true
+within : can_be_parted goes_one_way (program (each always (sequence (push ∷ Declare (key 6) 7 (Some (own 3 6)) ∷ set 7 3 (Var 7 (at 7)) ∷ [])))) ≡ true
 within = refl
 
 -- an inner loop that goes two ways: Foreach (t: n.Nbrs) { t.p += n.b; n.a min= t.b; }
-two-ways : can_be_parted has_a_way (program (each always (along 4 OutNbrs (sequence (give 5 Sum (T.Property 2 5 (at 5)) (own 4 5) ∷ give 6 Min (T.Property 1 3 (at 6)) (Property 2 4 (at 6)) ∷ []))))) ≡ false
+two-ways : can_be_parted goes_one_way (program (each always (along 4 OutNbrs (sequence (give 5 Sum (T.Property 2 5 (at 5)) (own 4 5) ∷ give 6 Min (T.Property 1 3 (at 6)) (Property 2 4 (at 6)) ∷ []))))) ≡ false
 two-ways = refl
 
 -- which may be a piece where inner loops may go any way
@@ -214,3 +213,19 @@ may-fault = refl
 -- a condition around leaves of several ways does not go to slices yet: If (n.f) { t.p += n.b; n.a min= t.b; }
 mixed : can_be_sliced (program (inner (If (key 3) (own 6 3) (sequence (pushes 4 (own 4 4) ∷ pulls 5 (other 4 5) ∷ [])) Skip ∷ []))) ≡ false
 mixed = refl
+
+-- what can fault behind a Sum through a node variable: Foreach (t: n.Nbrs) { r.p += 1; n.a min= 1 / t.b; } may be a piece where inner loops may go any way, and falls into slices
+abbrev behind-sum : List Stmt
+behind-sum = give 3 Sum (T.Property 8 5 (at 3)) (number 1) ∷ give 4 Min (T.Property 1 3 (at 4)) (Binary Div (at 4) (number 1) (Property 2 4 (at 4))) ∷ []
+
+behind-one-way : can_be_parted goes_one_way (program (inner behind-sum)) ≡ false
+behind-one-way = refl
+
+behind-any-way : can_be_parted goes_any_way (program (inner behind-sum)) ≡ true
+behind-any-way = refl
+
+behind-slices : in_slices (program (inner behind-sum)) ≡ program (sequence (inner (give 3 Sum (T.Property 8 5 (at 3)) (number 1) ∷ []) ∷ inner (give 4 Min (T.Property 1 3 (at 4)) (Binary Div (at 4) (number 1) (Property 2 4 (at 4))) ∷ []) ∷ []))
+behind-slices = refl
+
+may-end-behind : can_be_sliced (program (inner behind-sum)) ≡ true
+may-end-behind = refl

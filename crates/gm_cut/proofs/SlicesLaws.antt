@@ -33,13 +33,14 @@ use Rattle.gm_forms.proofs.Weaker.{and-true, weaker}
 use Rattle.gm_dissect.specs.Loops.{each_loop}
 use Rattle.gm_dissect.proofs.Kept.{Sound, sound-then, sound-skip, phase-kept}
 use Rattle.gm_dissect.proofs.Phases.{KnownLoop, KnownPhase, Rewrites, phase-alike}
-use Rattle.gm_cut.specs.Parts.{goes_any_way, IsCutBy, each_passes}
+use Rattle.gm_cut.specs.Parts.{goes_any_way, stands_at_edges, stands_along, is_parted, IsPartedBy, each_passes}
 use Rattle.gm_semantics.specs.Faults.{joined}
 use Rattle.gm_loop_laws.specs.Inner.{may_cut_inner}
 use Rattle.gm_loop_laws.specs.Masks.{is_stable}
 use Rattle.gm_loop_laws.specs.Pieces.{is_lone}
 use Rattle.gm_loop_laws.specs.Slices.{sliced, knows_none}
 use Rattle.gm_cut.specs.Slices.{statements_of, unneeded, slice, slices, goes_one_way, groups_of, sliced_loop, in_slices, is_sound, slice_stands, all_quiet, may_slice, can_slice, can_be_sliced}
+use Rattle.gm_cut.proofs.PartLaws.{edge-of}
 use Rattle.gm_cut.proofs.Sliced.{groups-whole, slices-run}
 use Rattle.gm_cut.proofs.SlicesKept.{Fits, fits-slice, fits-parts, fits-again, fits-opened}
 use Rattle.gm_dissect.proofs.Undeferred.{append-true}
@@ -236,7 +237,7 @@ module _ (ds : List Declaration) (res : Option VType) (k : Key) (at : Place) (hd
   slices-kept body asks s = s
 
   -- and it is cut
-  slices-cut : (body : Stmt) → can_slice ds k at hd mask body ≡ true → Fits ds res (Foreach k at hd mask body) → is_nodes hd.domain ≡ true → is_cut goes_any_way ds hd.iterator mask body ≡ true → is_phase (is_cut has_a_way ds) no_loop ds (sliced_loop ds k at hd mask body) ≡ true
+  slices-cut : (body : Stmt) → can_slice ds k at hd mask body ≡ true → Fits ds res (Foreach k at hd mask body) → is_nodes hd.domain ≡ true → is_parted goes_any_way ds hd.iterator mask body ≡ true → is_phase (is_cut has_a_way ds) no_loop ds (sliced_loop ds k at hd mask body) ≡ true
   slices-cut (Foreach j here inner test body) asks s range form = by (goes_one_way ds n inner test body) refl asks
     where
       n : ℕ
@@ -251,11 +252,12 @@ module _ (ds : List Declaration) (res : Option VType) (k : Key) (at : Place) (hd
       by true w h =
           let way = both-true (has_a_way ds n inner test body) (adds_last (n ∷ inner.iterator ∷ []) body) w in
           let edge = is_edge_loop ds n mask inner test body in
-          let a = both-true (is_flat_loop ds false n mask inside) (is_mask n mask && edge) form in
-          let b = both-true (is_mask n mask) edge a.1 in
+          let stood = stands_at_edges ds n mask inner test body in
+          let a = both-true (is_flat_loop ds false n mask inside) (is_mask n mask && stood) form in
+          let b = both-true (is_mask n mask) stood a.1 in
           and-true (is_nodes hd.domain) (is_cut has_a_way ds n mask inside) range
           (and-true (is_flat_loop ds false n mask inside) (is_mask n mask && (has_a_way ds n inner test body && edge)) a.0
-          (and-true (is_mask n mask) (has_a_way ds n inner test body && edge) b.0 (and-true (has_a_way ds n inner test body) edge way.0 b.1)))
+          (and-true (is_mask n mask) (has_a_way ds n inner test body && edge) b.0 (and-true (has_a_way ds n inner test body) edge way.0 (edge-of ds n mask inner test body b.1 way.1))))
       by false w h =
           let may = may_slice ds k at hd mask j here inner test (pushed_properties hd.iterator body) [] (groups_of ds hd.iterator inner test body) in
           (good-inner ds res k at hd mask j here inner test body s (both-true (is_mask hd.iterator mask) may h).1).1
@@ -271,7 +273,7 @@ loop-kept ds res k at hd mask body s = by (can_slice ds k at hd mask body) refl
 -- the phase is cut
 module _ (ds : List Declaration) (res : Option VType) where
   abbrev before : Stmt → Bool
-  before s = is_phase (is_cut goes_any_way ds) no_loop ds s
+  before s = is_phase (is_parted goes_any_way ds) no_loop ds s
 
   abbrev cut : Stmt → Bool
   cut s = is_phase (is_cut has_a_way ds) no_loop ds s
@@ -295,7 +297,7 @@ module _ (ds : List Declaration) (res : Option VType) where
   phase-cut (Defer k t e) w f h = f
   phase-cut (Combine k total r ts es) w f h = f
   phase-cut (Group k at g p e) w f h = f
-  phase-cut (Foreach k at hd mask body) w f h = let r = both-true (is_nodes hd.domain) (is_cut goes_any_way ds hd.iterator mask body) f in slices-cut ds res k at hd mask body h w r.0 r.1
+  phase-cut (Foreach k at hd mask body) w f h = let r = both-true (is_nodes hd.domain) (is_parted goes_any_way ds hd.iterator mask body) f in slices-cut ds res k at hd mask body h w r.0 r.1
   phase-cut (For k at hd test body) w f h =
       let r = both-true (is_told test) (before body) f in
       let n = all-append (suits ds) (uses_of_head hd) (uses_in test ++ uses_of body) w.named in
@@ -329,11 +331,11 @@ module _ (ds : List Declaration) (res : Option VType) where
   -- loops that are cut are flat
   pub parted-flat : (s : Stmt) → before s ≡ true → is_phase (is_flat_loop ds false) no_loop ds s ≡ true
   parted-flat s e =
-      weaker (is_cut goes_any_way ds) (is_flat_loop ds false) no_loop no_loop
-      (λ n e s k. (both-true (is_flat_loop ds false n e s) (is_own_loop n s || (is_mask n e && is_along_edges (goes_any_way ds) ds n e s)) k).0) (λ n e s k. k) ds s e
+      weaker (is_parted goes_any_way ds) (is_flat_loop ds false) no_loop no_loop
+      (λ n e s k. (both-true (is_flat_loop ds false n e s) (is_own_loop n s || (is_mask n e && stands_along goes_any_way ds n e s)) k).0) (λ n e s k. k) ds s e
 
 -- the program means the same
-pub same-sliced : (p : Program) → IsCutBy goes_any_way p → can_be_sliced p ≡ true → SameMeaning p (in_slices p)
+pub same-sliced : (p : Program) → IsPartedBy goes_any_way p → can_be_sliced p ≡ true → SameMeaning p (in_slices p)
 same-sliced p r asks =
     let ds = p.declarations in
     let q = in_slices p in
@@ -349,7 +351,7 @@ same-sliced p r asks =
     (record { store = record { scalar = λ y b. refl; node = λ y n b. refl; edge = λ y n b. refl }; turns = refl })))
 
 -- it is ready for what comes next
-pub ready-sliced : (p : Program) → IsCutBy goes_any_way p → can_be_sliced p ≡ true → Ready3 (in_slices p)
+pub ready-sliced : (p : Program) → IsPartedBy goes_any_way p → can_be_sliced p ≡ true → Ready3 (in_slices p)
 ready-sliced p r asks =
     let ds = p.declarations in
     let m = both-true (nat_le (p.inputs + p.outputs) (length ds)) (list_all (suits ds) (uses_of p.body)) r.sane.named in

@@ -7,11 +7,11 @@ use Rattle.gm_ast.specs.declared.tree.Declaration.{Declaration}
 use Rattle.gm_ast.specs.declared.tree.Head.{Head}
 use Rattle.gm_ast.specs.declared.tree.Key.{Key}
 use Rattle.gm_ast.specs.Program.{Expr, Unary, Both, Stmt, Then, Foreach, For, If, While, Do, Program, sequence}
-use Rattle.gm_forms.specs.Cut.{is_mask, is_own_loop, is_cut}
+use Rattle.gm_forms.specs.Cut.{is_mask, is_own_loop, knows_no_locals, mask_stays, has_plain_locals}
 use Rattle.gm_forms.specs.Fission.{pushed_properties, left, changed, reduced_locals, all_agree_with, reduces_whole, is_nil}
-use Rattle.gm_forms.specs.Forms.{depth_at, is_phase, no_loop}
+use Rattle.gm_forms.specs.Forms.{depth_at, is_flat_loop, is_phase, no_loop}
 use Rattle.gm_forms.specs.Ready.{IsSane}
-use Rattle.gm_forms.specs.Sharing.{sights_of, read_anywhere, read_elsewhere, deferred, reduced, pushed_in, disjoint}
+use Rattle.gm_forms.specs.Sharing.{sights_of, read_anywhere, read_elsewhere, deferred, reduced, pushed_in, disjoint, all_one}
 use Rattle.gm_loop_laws.specs.Masks.{is_stable}
 use Rattle.gm_loop_laws.specs.Pieces.{Piece, pieces_of}
 use Rattle.gm_dissect.specs.Loops.{each_loop}
@@ -45,9 +45,23 @@ Kind = List Declaration → ℕ → Head → Expr → Stmt → Bool
 abbrev pub goes_any_way : Kind
 goes_any_way ds n h test body = true
 
--- whether the loop of a piece is cut, under a mask that cannot fault
-abbrev pub piece_is_cut : Kind → List Declaration → ℕ → Piece → Bool
-piece_is_cut kind ds n p = is_mask n p.mask && is_cut kind ds n p.mask p.part
+-- an inner loop that stands alone under a mask, whatever can fault in it behind a Sum or Product through a node variable: that ends with its slices, or its kind says that nothing can
+abbrev pub stands_at_edges : List Declaration → ℕ → Expr → Head → Expr → Stmt → Bool
+stands_at_edges ds n mask h test body =
+    knows_no_locals ds n h.iterator mask test body && (mask_stays n mask h body && (has_plain_locals ds n test body && all_one (reduced ds n true body)))
+
+-- a body that is one such loop of a kind
+abbrev pub stands_along : Kind → List Declaration → ℕ → Expr → Stmt → Bool
+stands_along kind ds n mask (Foreach k at h test body) = kind ds n h test body && stands_at_edges ds n mask h test body
+stands_along kind ds n mask _ = false
+
+-- a loop that is parted: own statements under any filter, or one such inner loop under a mask
+abbrev pub is_parted : Kind → List Declaration → ℕ → Expr → Stmt → Bool
+is_parted kind ds n mask body = is_flat_loop ds false n mask body && (is_own_loop n body || (is_mask n mask && stands_along kind ds n mask body))
+
+-- whether the loop of a piece is, under a mask that cannot fault
+abbrev pub piece_is_parted : Kind → List Declaration → ℕ → Piece → Bool
+piece_is_parted kind ds n p = is_mask n p.mask && is_parted kind ds n p.mask p.part
 
 -- whether the second of two parts of a body neither reads nor reduces a local that the first one changes
 abbrev pub locals_stay : List Declaration → ℕ → Stmt → Stmt → Bool
@@ -72,12 +86,12 @@ is_separable ds n body =
     && (disjoint (pushed_in all ++ pushed) (read_anywhere seen.properties ++ (seen.scalars ++ left ds n body))
     && disjoint (changed ds n body) (read_elsewhere n seen.properties)))))
 
--- whether a loop may be written as the loops of its pieces, which are cut then
+-- whether a loop may be written as the loops of its pieces, which are parted then
 abbrev pub can_part : Kind → List Declaration → Place → Head → Expr → Stmt → Bool
 can_part kind ds at h mask body =
     let n = h.iterator in
     let whole = with_runs n body in
-    is_mask n mask && (is_separable ds n whole && (falls_apart ds n at mask whole && list_all (piece_is_cut kind ds n) (parts_of n at mask body)))
+    is_mask n mask && (is_separable ds n whole && (falls_apart ds n at mask whole && list_all (piece_is_parted kind ds n) (parts_of n at mask body)))
 
 -- whether each loop of a sequential phase passes a test
 abbrev pub each_passes : (Key → Place → Head → Expr → Stmt → Bool) → Stmt → Bool
@@ -93,7 +107,7 @@ each_passes f _ = true
 abbrev pub can_be_parted : Kind → Program → Bool
 can_be_parted kind p = each_passes (λ k at h mask body. is_own_loop h.iterator body || can_part kind p.declarations at h mask body) p.body
 
--- a program whose loops are cut, with inner loops of a kind, and which keeps what every pass keeps
-pub record IsCutBy (kind : Kind) (p : Program) : Type 0 where
+-- a program whose loops are parted, with inner loops of a kind, and which keeps what every pass keeps
+pub record IsPartedBy (kind : Kind) (p : Program) : Type 0 where
   pub sane : IsSane p
-  pub form : is_phase (is_cut kind p.declarations) no_loop p.declarations p.body ≡ true
+  pub form : is_phase (is_parted kind p.declarations) no_loop p.declarations p.body ≡ true

@@ -2,25 +2,25 @@
 
 ghost use Rattle.std.specs.Prelude.{◌≡◌, true};
 ghost use Rattle.gm_ast.specs.Program.{Program};
-ghost use Rattle.gm_forms.specs.Forms.{has_a_way};
 ghost use Rattle.gm_forms.specs.Meanings.{SameMeaning};
 ghost use Rattle.gm_forms.specs.Ready.{Ready2, Ready3};
-ghost use Rattle.gm_cut.specs.Parts.{can_be_parted, goes_any_way, in_pieces, IsCutBy, Kind};
-ghost use Rattle.gm_cut.specs.Slices.{can_be_sliced, in_slices};
+ghost use Rattle.gm_cut.specs.Parts.{can_be_parted, goes_any_way, in_pieces, IsPartedBy, Kind};
+ghost use Rattle.gm_cut.specs.Slices.{can_be_sliced, goes_one_way, in_slices};
 
 /// Each loop over nodes may be written as the loops of the pieces of its body, one after another, where the masks of the
-/// pieces stay and the pieces are cut, with inner loops of a kind: the program means the same, for every graph, all
-/// arguments and every bound, and is cut so. Where each inner loop goes one way it is ready for flipping.
+/// pieces stay and the pieces are parted, with inner loops of a kind: the program means the same, for every graph, all
+/// arguments and every bound, and is parted so. Where each inner loop goes one way, and nothing in it can fault behind a
+/// Sum or Product through a node variable, it is ready for flipping.
 pub fn bodies_go_to_pieces()
     ensures same { (kind : Kind) (p : Program) → Ready2 p → can_be_parted kind p ≡ true → SameMeaning p (in_pieces p) }
-    ensures cut { (kind : Kind) (p : Program) → Ready2 p → can_be_parted kind p ≡ true → IsCutBy kind (in_pieces p) }
-    ensures ready { (p : Program) → Ready2 p → can_be_parted has_a_way p ≡ true → Ready3 (in_pieces p) }
+    ensures cut { (kind : Kind) (p : Program) → Ready2 p → can_be_parted kind p ≡ true → IsPartedBy kind (in_pieces p) }
+    ensures ready { (p : Program) → Ready2 p → can_be_parted goes_one_way p ≡ true → Ready3 (in_pieces p) }
 {}
 
 /// An inner loop that is the body of a loop and goes several ways may be written as one for each group of neighbouring
 /// statements that go one way, one after another, each of which evaluates again what it needs of those before it: the
 /// program means the same, for every graph, all arguments and every bound, and is ready for flipping.
 pub fn inner_loops_go_to_slices()
-    ensures same { (p : Program) → IsCutBy goes_any_way p → can_be_sliced p ≡ true → SameMeaning p (in_slices p) }
-    ensures ready { (p : Program) → IsCutBy goes_any_way p → can_be_sliced p ≡ true → Ready3 (in_slices p) }
+    ensures same { (p : Program) → IsPartedBy goes_any_way p → can_be_sliced p ≡ true → SameMeaning p (in_slices p) }
+    ensures ready { (p : Program) → IsPartedBy goes_any_way p → can_be_sliced p ≡ true → Ready3 (in_slices p) }
 {}

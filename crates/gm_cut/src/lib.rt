@@ -8,7 +8,7 @@
 //!
 //! Both are functions on trees in `specs/` (`in_pieces`, `in_slices`) with their laws: where each loop may be written so
 //! (`can_be_parted`, `can_be_sliced`), the result means the same for every graph, all arguments and every bound, keeps
-//! what every pass keeps (`IsSane`), and is cut. `cut_bodies` is the code of the first: it gives what `in_pieces` gives.
+//! what every pass keeps (`IsSane`), and is parted, or cut. `cut_bodies` is the code of the first: it gives what `in_pieces` gives.
 #![tactic(auto)]
 
 mod copies;

@@ -10,12 +10,12 @@ ghost use Rattle.gm_value.specs.declared.operations.Op1.TheVariants.{Not};
 ghost use Rattle.gm_ast.specs.Program as Program;
 ghost use Rattle.gm_ast.specs.Program.{sequence};
 ghost use Rattle.gm_ast.specs.Tree.{expr_of, program_of, stmt_of};
-ghost use Rattle.gm_forms.specs.Forms.{has_a_way};
 ghost use Rattle.gm_forms.specs.Meanings.{SameMeaning};
 ghost use Rattle.gm_forms.specs.Ready.{Ready2, Ready3};
 ghost use Rattle.gm_dissect.specs.Loops.{each_loop};
 ghost use Rattle.gm_cut.specs.Own as Own;
-ghost use Rattle.gm_cut.specs.Parts.{can_be_parted, in_pieces, IsCutBy, Kind, parted_loop};
+ghost use Rattle.gm_cut.specs.Parts.{can_be_parted, in_pieces, IsPartedBy, Kind, parted_loop};
+ghost use Rattle.gm_cut.specs.Slices.{goes_one_way};
 ghost use Rattle.gm_cut.specs.Taken.{run_piece};
 ghost use Rattle.gm_cut.specs.Walks.{adds_in, branch_pieces, cut_pieces, is_block, loops_of, walked};
 
@@ -29,13 +29,14 @@ use gm_value::Op1;
 use std::alloc::{AllocError, Global};
 
 /// Cuts the body of each loop over nodes into pieces, each of which becomes a loop. A program whose loops may be written
-/// so means the same, and is cut, with inner loops of the same kind; where each goes one way, it is ready for flipping.
+/// so means the same, and is parted, with inner loops of the same kind; where each goes one way, and nothing in it can
+/// fault behind a Sum or Product through a node variable, it is ready for flipping.
 /// It takes time linear in the tree times the depth of its Ifs, but for the masks, which are copied for each piece.
 pub fn cut_bodies(alloc: Global, program: Work) -> Result<Work, NoMemory>
     ensures made { IfOk result (λ r. program_of r ≡ in_pieces (program_of program)) }
     ensures same { IfOk result (λ r. (kind : Kind) → Ready2 (program_of program) → can_be_parted kind (program_of program) ≡ true → SameMeaning (program_of program) (program_of r)) }
-    ensures cut { IfOk result (λ r. (kind : Kind) → Ready2 (program_of program) → can_be_parted kind (program_of program) ≡ true → IsCutBy kind (program_of r)) }
-    ensures ready { IfOk result (λ r. Ready2 (program_of program) → can_be_parted has_a_way (program_of program) ≡ true → Ready3 (program_of r)) }
+    ensures cut { IfOk result (λ r. (kind : Kind) → Ready2 (program_of program) → can_be_parted kind (program_of program) ≡ true → IsPartedBy kind (program_of r)) }
+    ensures ready { IfOk result (λ r. Ready2 (program_of program) → can_be_parted goes_one_way (program_of program) ≡ true → Ready3 (program_of r)) }
 {
     let mut tree = program.into_tree();
     let outcome = cut_tree(alloc, &mut tree);

@@ -4,7 +4,7 @@ use Rattle.gm_ast.specs.Tree.{program_of}
 use Rattle.gm_dissect.proofs.Trees.{finished, ok-then}
 use Rattle.gm_forms.specs.Meanings.{SameMeaning}
 use Rattle.gm_forms.specs.Ready.{Ready3}
-use Rattle.gm_cut.specs.Parts.{in_pieces, IsCutBy}
+use Rattle.gm_cut.specs.Parts.{in_pieces, IsPartedBy}
 use Rattle.gm_cut.proofs.PartLaws.{flippable-parted, ready-parted, same-parted}
 use Rattle.gm_cut.proofs.pieces.cut_bodies.Goals as goal
 
@@ -25,7 +25,7 @@ pub returns-clause-cut : goal.returns-clause-cut
 returns-clause-cut c =
     let p = program_of c.args.program in
     let made : IfOk c.finish.result (λ r. program_of r ≡ in_pieces p) = returns-clause-made c in
-    ok-then c.finish.result made (λ r same kind ready asks. subst (IsCutBy kind) (sym same) (ready-parted kind p ready asks))
+    ok-then c.finish.result made (λ r same kind ready asks. subst (IsPartedBy kind) (sym same) (ready-parted kind p ready asks))
 
 pub returns-clause-ready : goal.returns-clause-ready
 returns-clause-ready c =
