@@ -6,6 +6,8 @@ use Rattle.gm_base.specs.declared.places.Place.{Place}
 use Rattle.gm_value.specs.declared.values.Value.{Value}
 use Rattle.gm_ast.specs.declared.tree.Expr as E
 use Rattle.gm_ast.specs.declared.tree.Expr.{the_lemmas}
+use Rattle.gm_ast.specs.declared.tree.Fold.{Fold}
+use Rattle.gm_ast.specs.declared.tree.Head.{Head}
 use Rattle.gm_ast.specs.declared.tree.Target.{Target}
 use Rattle.gm_value.specs.declared.operations.Op1.{Op1}
 use Rattle.gm_value.specs.declared.operations.Op2.{Op2}
@@ -28,6 +30,9 @@ expr_of-Either a b = search (rules, the_lemmas)
 
 pub expr_of-Choose : (c a b : Box E.Expr Global) → expr_of (E.Choose c a b) ≡ P.Choose (expr_of (box_value c)) (expr_of (box_value a)) (expr_of (box_value b))
 expr_of-Choose c a b = search (rules, the_lemmas)
+
+pub expr_of-Fold : (f : Fold) (h : Head) (test body : Box E.Expr Global) → expr_of (E.Fold f h test body) ≡ P.Folded f h (expr_of (box_value test)) (expr_of (box_value body))
+expr_of-Fold f h test body = search (rules, the_lemmas)
 
 pub all_moved-block : (home : ℕ → Option ℕ) (n : ℕ) (at : Place) (zero : ℕ → Value) (xs : List Stmt) → all_moved home n at zero (sequence xs) ≡ sequence (map (all_moved home n at zero) xs)
 all_moved-block home n at zero [] = refl

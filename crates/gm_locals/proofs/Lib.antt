@@ -18,6 +18,7 @@ pub mod Partly
 pub mod AllGroupsWalk
 pub mod Rounds
 pub mod SetBefore
+pub mod KeptLoops
 pub mod AllGroupsAlike
 pub mod AllGroupsKept
 pub mod AllGroupsLaws

@@ -1,0 +1,10 @@
+use Rattle.std.proofs.Common.{◌≡◌, ◌++◌, drop, map}
+use Rattle.gm_ast.specs.Program.{sequence}
+use Rattle.gm_ast.specs.Tree.{stmt_of}
+use Rattle.gm_dissect.specs.Locals.{locals_of}
+use Rattle.gm_locals.proofs.groups.+listing.Given as goal
+
+-- what is there and what is left make the whole
+abbrev pub invariant-list_block-loop-stmt : goal.invariant-list_block-loop-stmt
+invariant-list_block-loop-stmt l =
+    l.locals.items ++ locals_of (sequence (map stmt_of (drop l.stmt-index l.stmts.items))) ≡ l.initial.locals.items ++ locals_of (sequence (map stmt_of l.stmts.items))
