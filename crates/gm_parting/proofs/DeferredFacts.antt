@@ -1,5 +1,5 @@
 -- What is known of a program stays where its deferred writes go to copies.
-use Rattle.std.proofs.Common.{◌≡◌, ◌<◌, ◌≤◌, arith, ℕ, Bool, true, false, cond, List, [], ◌∷◌, ◌++◌, length, refl, ap, ◌∙◌, Option, ⊎_elim}
+use Rattle.std.proofs.Common.{◌≡◌, ◌<◌, ◌≤◌, arith, ℕ, Bool, true, false, cond, List, [], ◌∷◌, ◌++◌, length, refl, ap, ◌∙◌, Option}
 use Rattle.std.specs.Prelude.{◌&&◌, ◌||◌, not, nat_eq, nat_lt}
 use Rattle.std.specs.List.{list_all}
 use Rattle.std.proofs.lemmas.Bool.{both_ways}
@@ -9,13 +9,9 @@ use Rattle.gm_value.specs.declared.values.VType.TheVariants as V
 use Rattle.gm_ast.specs.declared.tree.Declaration.{Declaration}
 use Rattle.gm_ast.specs.declared.tree.Head.{Head}
 use Rattle.gm_ast.specs.declared.tree.Key.{Key}
-use Rattle.gm_ast.specs.declared.tree.Sort.TheVariants as Sorts
 use Rattle.gm_ast.specs.declared.tree.Target.TheVariants as T
-use Rattle.gm_ast.specs.declared.tree.Variable.{Variable}
-use Rattle.gm_ast.specs.Names.{sort_eq}
 use Rattle.gm_ast.specs.Program.{Expr, Stmt, Then, Assign, Defer, Foreach, If, Program, sequence}
 use Rattle.gm_ast.specs.Ways.{is_in}
-use Rattle.gm_semantics.specs.Frames.{NamesBelow}
 use Rattle.gm_semantics.specs.Statements.{variable_at}
 use Rattle.gm_forms.specs.Cut.{is_no_local, is_own_body, is_own_code, is_own_loop, adds_last}
 use Rattle.gm_forms.specs.Forms.{depth_at}
@@ -24,22 +20,18 @@ use Rattle.gm_forms.specs.Sharing.{told_in}
 use Rattle.gm_forms.proofs.Named.{both-true, names-below}
 use Rattle.gm_forms.proofs.Weaker.{and-true}
 use Rattle.gm_loop_laws.specs.Deferring.{undeferred}
-use Rattle.gm_loop_laws.specs.Localised.{names_plainly, may_move}
 use Rattle.gm_dissect.specs.AllDeferred.{deferred_in, some_defers, without_each, without_deferred}
-use Rattle.gm_dissect.specs.Conditions.{holds_cut}
 use Rattle.gm_dissect.specs.Deferred.{copied, copy_of, defers, undeferred_loop, without_deferred_to}
 use Rattle.gm_dissect.specs.Locals.{declares}
 use Rattle.gm_dissect.specs.Loops.{each_loop}
 use Rattle.gm_dissect.proofs.DeferredKept.{length-one, ready-without_deferred}
 use Rattle.gm_dissect.proofs.DeferredLaws.{variable-longer}
-use Rattle.gm_dissect.proofs.DeferredLoops.{either-true}
 use Rattle.gm_dissect.proofs.Kept.{Sound}
 use Rattle.gm_dissect.proofs.Longer.{depth-same}
 use Rattle.gm_cut.specs.Parts.{each_passes}
 use Rattle.gm_cut.proofs.Grouped.{two-same}
-use Rattle.gm_parting.specs.InnerLoops.{inner_iterators_deep, inner_sums_last}
-use Rattle.gm_parting.specs.Lasting.{if_numbers, ifs_are_numbered}
-use Rattle.gm_parting.specs.Locals.{names_pass, may_be_kept, locals_may_go}
+use Rattle.gm_parting.specs.InnerLoops.{inner_iterators_deep}
+use Rattle.gm_parting.specs.Locals.{names_pass, declares_its_locals, checks_none, checks_nothing}
 use Rattle.gm_parting.specs.Passes.{MayBePrepared}
 use Rattle.gm_parting.specs.Tuples.{reduces_evenly}
 use Rattle.gm_parting.proofs.Loops.{Test, sound-of, each-kept}
@@ -65,11 +57,6 @@ module _ (p q : ℕ) where
         by false = refl
     undeferred-same s = refl
 
-  sums-same : (n : ℕ) (s : Stmt) → inner_sums_last n (ud s) ≡ inner_sums_last n s
-  sums-same n =
-      undeferred-same (inner_sums_last n) (λ a b a' b' x y. two-same (λ u v. u && v) (inner_sums_last n a) (inner_sums_last n a') (inner_sums_last n b) (inner_sums_last n b') x y)
-      (λ k c a b a' b' x y. two-same (λ u v. u && v) (inner_sums_last n a) (inner_sums_last n a') (inner_sums_last n b) (inner_sums_last n b') x y) (λ k x r s at e. refl)
-
   even-same : (ds : List Declaration) (s : Stmt) → reduces_evenly ds (ud s) ≡ reduces_evenly ds s
   even-same ds =
       undeferred-same (reduces_evenly ds) (λ a b a' b' x y. two-same (λ u v. u && v) (reduces_evenly ds a) (reduces_evenly ds a') (reduces_evenly ds b) (reduces_evenly ds b') x y)
@@ -85,33 +72,15 @@ module _ (p q : ℕ) where
       undeferred-same (declares z) (λ a b a' b' x y. two-same (λ u v. u || v) (declares z a) (declares z a') (declares z b) (declares z b') x y)
       (λ k c a b a' b' x y. two-same (λ u v. u || v) (declares z a) (declares z a') (declares z b) (declares z b') x y) (λ k x r s at e. refl)
 
-  moves-same : (z n : ℕ) (s : Stmt) → may_move z n (ud s) ≡ may_move z n s
-  moves-same z n =
-      undeferred-same (may_move z n) (λ a b a' b' x y. two-same (λ u v. u && v) (may_move z n a) (may_move z n a') (may_move z n b) (may_move z n b') x y)
-      (λ k c a b a' b' x y. ap (λ w. names_plainly z c && w) (two-same (λ u v. u && v) (may_move z n a) (may_move z n a') (may_move z n b) (may_move z n b') x y))
-      (λ k x r s at e. ap (λ b. b && names_plainly z e) (or-none (not (nat_eq x z))))
-    where
-      or-none : (b : Bool) → b || false ≡ b
-      or-none true = refl
-      or-none false = refl
+  checks-same : (s : Stmt) → checks_nothing (ud s) ≡ checks_nothing s
+  checks-same =
+      undeferred-same checks_nothing (λ a b a' b' x y. two-same (λ u v. u && v) (checks_nothing a) (checks_nothing a') (checks_nothing b) (checks_nothing b') x y)
+      (λ k c a b a' b' x y. ap (λ w. checks_none c && w) (two-same (λ u v. u && v) (checks_nothing a) (checks_nothing a') (checks_nothing b) (checks_nothing b') x y)) (λ k x r s at e. refl)
 
   names-same : (may : List ℕ → ℕ → Bool) (its : List ℕ) (s : Stmt) → names_pass may its (ud s) ≡ names_pass may its s
   names-same may its =
       undeferred-same (names_pass may its) (λ a b a' b' x y. two-same (λ u v. u && v) (names_pass may its a) (names_pass may its a') (names_pass may its b) (names_pass may its b') x y)
       (λ k c a b a' b' x y. ap (λ w. list_all (may its) (told_in c) && w) (two-same (λ u v. u && v) (names_pass may its a) (names_pass may its a') (names_pass may its b) (names_pass may its b') x y)) (λ k x r s at e. refl)
-
-  -- numbers of Ifs, what holds what is cut, and whether the numbers differ
-  abbrev Ifs : Type 0
-  Ifs = List ℕ × Bool × Bool
-
-  numbered-same : (n : ℕ) (s : Stmt) → ifs_are_numbered n (ud s) ≡ ifs_are_numbered n s
-  numbered-same n s =
-      ap (λ (w : Ifs). w.2)
-      (undeferred-same of (λ a b a' b' x y. two-same (λ (u v : Ifs). (u.0 ++ v.0, u.1 || v.1, u.2 && v.2)) (of a) (of a') (of b) (of b') x y)
-      (λ k c a b a' b' x y. two-same (λ (u v : Ifs). (k.statement ∷ (u.0 ++ v.0), u.1 || v.1, (not (u.1 || v.1) || not (is_in (u.0 ++ v.0) k.statement)) && (u.2 && v.2))) (of a) (of a') (of b) (of b') x y) (λ k x r s at e. refl) s)
-    where
-      of : Stmt → Ifs
-      of s = (if_numbers s, holds_cut n s, ifs_are_numbered n s)
 
   -- own statements defer nothing
   own-body-stays : (n : ℕ) (s : Stmt) → is_own_body n s ≡ true → ud s ≡ s
@@ -177,34 +146,18 @@ module _ (ds : List Declaration) (res : Option VType) (x : ℕ) where
 
   -- ---- each fact
 
-  locals-stay : (k : Key) (at : Place) (h : Head) (test : Expr) (body : Stmt) → Sound ds res (Foreach k at h test body) → locals_may_go ds h.iterator test body ≡ true →
-      (locals_may_go dt h.iterator test body ≡ true) × (locals_may_go dt h.iterator test (undeferred x q' body) ≡ true)
-  locals-stay k at h test body sound f =
-      (under body (λ z. refl) (λ z. refl), names-same x q' (λ its z. is_no_local dt its z || may_be_kept dt h.iterator test (undeferred x q' body) z) (h.iterator ∷ []) body ∙ under (undeferred x q' body) (λ z. declares-same x q' z body) (λ z. moves-same x q' z h.iterator body))
+  declared-stays : (k : Key) (at : Place) (h : Head) (test : Expr) (body : Stmt) → Sound ds res (Foreach k at h test body) → declares_its_locals ds h.iterator body ≡ true →
+      (declares_its_locals dt h.iterator body ≡ true) × (declares_its_locals dt h.iterator (undeferred x q' body) ≡ true)
+  declared-stays k at h test body sound f =
+      (under body (λ z. refl), names-same x q' (λ its z. is_no_local dt its z || declares z (undeferred x q' body)) (h.iterator ∷ []) body ∙ under (undeferred x q' body) (λ z. declares-same x q' z body))
     where
-      below : NamesBelow q' (Foreach k at h test body)
-      below = names-below ds (Foreach k at h test body) sound.named
-
-      second : (a b : Bool) → b ≡ true → a || b ≡ true
-      second true b h = refl
-      second false b h = h
-
-      under : (new : Stmt) → ((z : ℕ) → declares z new ≡ declares z body) → ((z : ℕ) → may_move z h.iterator new ≡ may_move z h.iterator body) → names_pass (λ its z. is_no_local dt its z || may_be_kept dt h.iterator test new z) (h.iterator ∷ []) body ≡ true
-      under new d m =
-          names-more q' (λ its z. is_no_local ds its z || may_be_kept ds h.iterator test body z) (λ its z. is_no_local dt its z || may_be_kept dt h.iterator test new z) on (h.iterator ∷ []) body below.3 f
+      under : (new : Stmt) → ((z : ℕ) → declares z new ≡ declares z body) → names_pass (λ its z. is_no_local dt its z || declares z new) (h.iterator ∷ []) body ≡ true
+      under new d =
+          names-more q' (λ its z. is_no_local ds its z || declares z body) (λ its z. is_no_local dt its z || declares z new) on (h.iterator ∷ []) body (names-below ds (Foreach k at h test body) sound.named).3 f
         where
-          on : (its : List ℕ) (z : ℕ) → z < q' → is_no_local ds its z || may_be_kept ds h.iterator test body z ≡ true → is_no_local dt its z || may_be_kept dt h.iterator test new z ≡ true
+          on : (its : List ℕ) (z : ℕ) → z < q' → is_no_local ds its z || declares z body ≡ true → is_no_local dt its z || declares z new ≡ true
           on its z low e =
-              let n = h.iterator in
-              ⊎_elim (λ (g : is_no_local ds its z ≡ true). ap (λ b. b || may_be_kept dt n test new z) (ap (λ d. is_in its z || not (nat_eq d 1)) (depth-same ds dt same more z low) ∙ g))
-              (λ (g : may_be_kept ds n test body z ≡ true).
-              let a = both-true (sort_eq Sorts.Scalar (variable_at ds z).sort) (declares z body && (names_plainly z test && may_move z n body)) g in
-              let b = both-true (declares z body) (names_plainly z test && may_move z n body) a.1 in
-              let c = both-true (names_plainly z test) (may_move z n body) b.1 in
-              second (is_no_local dt its z) (may_be_kept dt n test new z)
-              (and-true (sort_eq Sorts.Scalar (variable_at dt z).sort) (declares z new && (names_plainly z test && may_move z n new)) (ap (λ (v : Variable). sort_eq Sorts.Scalar v.sort) (same z low) ∙ a.0)
-              (and-true (declares z new) (names_plainly z test && may_move z n new) (d z ∙ b.0) (and-true (names_plainly z test) (may_move z n new) c.0 (m z ∙ c.1)))))
-              (either-true (is_no_local ds its z) (may_be_kept ds n test body z) e)
+              two-same (λ a b. a || b) (is_no_local dt its z) (is_no_local ds its z) (declares z new) (declares z body) (ap (λ d. is_in its z || not (nat_eq d 1)) (depth-same ds dt same more z low)) (d z) ∙ e
 
   even-stays : (k : Key) (at : Place) (h : Head) (test : Expr) (body : Stmt) → Sound ds res (Foreach k at h test body) → reduces_evenly ds body ≡ true → (reduces_evenly dt body ≡ true) × (reduces_evenly dt (undeferred x q' body) ≡ true)
   even-stays k at h test body sound f =
@@ -234,9 +187,8 @@ one-known x p w =
     record {
       ready = ready-without_deferred x p w.ready;
       facts = record {
-        numbered = stays ds p.result x (λ n test body. ifs_are_numbered n body) (λ n test body. ifs_are_numbered n body) (λ k at h test body s e. (e, numbered-same x q h.iterator body ∙ e)) p.body s w.facts.numbered;
-        locals = stays ds p.result x (λ n test body. locals_may_go ds n test body) (λ n test body. locals_may_go dt n test body) (locals-stay ds p.result x) p.body s w.facts.locals;
-        sums = stays ds p.result x (λ n test body. inner_sums_last n body) (λ n test body. inner_sums_last n body) (λ k at h test body s e. (e, sums-same x q h.iterator body ∙ e)) p.body s w.facts.sums;
+        declared = stays ds p.result x (λ n test body. declares_its_locals ds n body) (λ n test body. declares_its_locals dt n body) (declared-stays ds p.result x) p.body s w.facts.declared;
+        checks = stays ds p.result x (λ n test body. checks_nothing body) (λ n test body. checks_nothing body) (λ k at h test body s e. (e, checks-same x q body ∙ e)) p.body s w.facts.checks;
         tuples = stays ds p.result x (λ n test body. reduces_evenly ds body) (λ n test body. reduces_evenly dt body) (even-stays ds p.result x) p.body s w.facts.tuples;
         iterators = stays ds p.result x (λ n test body. nat_lt (depth_at ds n) 2 && inner_iterators_deep ds body) (λ n test body. nat_lt (depth_at dt n) 2 && inner_iterators_deep dt body) (place-stays ds p.result x) p.body s w.facts.iterators;
       };

@@ -1,44 +1,34 @@
 -- What is known of a program stays where its loops save their filters.
-use Rattle.std.proofs.Common.{◌≡◌, ◌<◌, ◌≤◌, arith, ℕ, Bool, true, false, cond, List, [], ◌∷◌, ◌++◌, length, refl, sym, ap, subst, ◌∙◌, Option, ⊎_elim}
+use Rattle.std.proofs.Common.{◌≡◌, ◌<◌, ◌≤◌, arith, ℕ, Bool, true, false, cond, List, [], ◌∷◌, ◌++◌, length, refl, ap, ◌∙◌, Option}
 use Rattle.std.specs.Prelude.{◌&&◌, ◌||◌, not, nat_eq, nat_lt}
-use Rattle.std.proofs.lemmas.Bool.{eqb-true}
 use Rattle.gm_base.specs.declared.places.Place.{Place}
 use Rattle.gm_value.specs.declared.values.VType.{VType}
 use Rattle.gm_value.specs.declared.values.VType.TheVariants as V
 use Rattle.gm_ast.specs.declared.tree.Declaration.{Declaration}
 use Rattle.gm_ast.specs.declared.tree.Head.{Head}
 use Rattle.gm_ast.specs.declared.tree.Key.{Key}
-use Rattle.gm_ast.specs.declared.tree.Sort.TheVariants as Sorts
-use Rattle.gm_ast.specs.declared.tree.Variable.{Variable}
-use Rattle.gm_ast.specs.Names.{sort_eq}
 use Rattle.gm_ast.specs.Program.{Expr, Property, Stmt, Foreach, Program}
 use Rattle.gm_ast.specs.Ways.{is_in}
-use Rattle.gm_semantics.specs.Frames.{NamesBelow}
 use Rattle.gm_semantics.specs.Statements.{variable_at}
 use Rattle.gm_forms.specs.Cut.{is_no_local, is_own_loop}
 use Rattle.gm_forms.specs.Forms.{depth_at}
 use Rattle.gm_forms.specs.Ready.{Ready2}
-use Rattle.gm_forms.specs.Uses.{Iterates, has_role}
 use Rattle.gm_forms.proofs.Named.{both-true, names-below}
 use Rattle.gm_forms.proofs.Weaker.{and-true}
-use Rattle.gm_loop_laws.specs.Localised.{names_plainly, may_move}
 use Rattle.gm_dissect.specs.Locals.{declares}
 use Rattle.gm_dissect.specs.Loops.{each_loop}
 use Rattle.gm_dissect.proofs.DeferredKept.{length-one}
 use Rattle.gm_dissect.proofs.DeferredLaws.{variable-longer}
-use Rattle.gm_dissect.proofs.DeferredLoops.{either-true}
 use Rattle.gm_dissect.proofs.Kept.{Sound}
 use Rattle.gm_dissect.proofs.Longer.{depth-same}
 use Rattle.gm_cut.specs.Parts.{each_passes}
-use Rattle.gm_cut.proofs.Roles.{iterates-of}
 use Rattle.gm_parting.specs.Filters.{flag_property, saves_filter, filter_saved, filtered_loop, with_saved_filters}
-use Rattle.gm_parting.specs.InnerLoops.{inner_iterators_deep, inner_sums_last, has_inner_sums_last, has_iterators_in_place}
-use Rattle.gm_parting.specs.Lasting.{ifs_are_numbered, has_numbered_ifs}
-use Rattle.gm_parting.specs.Locals.{may_be_kept, locals_may_go, has_movable_locals}
+use Rattle.gm_parting.specs.InnerLoops.{inner_iterators_deep, has_iterators_in_place}
+use Rattle.gm_parting.specs.Locals.{declares_its_locals, has_declared_locals, checks_nothing, has_no_checks}
 use Rattle.gm_parting.specs.Tuples.{reduces_evenly, has_even_tuples}
 use Rattle.gm_parting.proofs.Loops.{Test, sound-of, each-kept}
 use Rattle.gm_parting.proofs.MovedNames.{evenly-longer, deep-longer}
-use Rattle.gm_parting.proofs.MovedPrograms.{names-more, part-of, scalar-apart}
+use Rattle.gm_parting.proofs.MovedPrograms.{names-more, part-of}
 
 -- a fact of loops that are not of own statements, by iterator, filter and body
 abbrev Fact : Type 0
@@ -74,41 +64,14 @@ module _ (ds : List Declaration) (res : Option VType) where
               (part-of (is_own_loop h.iterator body) (F h.iterator test body) (G h.iterator (Property h.iterator q at) body) (λ f. (loops k at h test body sound f).1) e) refl
           by false = part-of (is_own_loop h.iterator body) (F h.iterator test body) (G h.iterator test body) (λ f. (loops k at h test body sound f).0) e
 
-  -- what may go may go under either filter
-  locals-stay : (k : Key) (at : Place) (h : Head) (test : Expr) (body : Stmt) → Sound ds res (Foreach k at h test body) → locals_may_go ds h.iterator test body ≡ true →
-      (locals_may_go dt h.iterator test body ≡ true) × (locals_may_go dt h.iterator (Property h.iterator q at) body ≡ true)
-  locals-stay k at h test body sound f = (under test (λ z s p. p), under (Property h.iterator q at) (λ z s p. ap not (free (nat_eq h.iterator z) (λ e. scalar-apart (variable_at ds h.iterator) (subst (λ w. sort_eq Sorts.Scalar (variable_at ds w).sort ≡ true) (sym (eqb-true h.iterator z e)) s) iterates))))
+  -- what a body declares is as it was
+  declared-stays : (k : Key) (at : Place) (h : Head) (test : Expr) (body : Stmt) → Sound ds res (Foreach k at h test body) → declares_its_locals ds h.iterator body ≡ true →
+      (declares_its_locals dt h.iterator body ≡ true) × (declares_its_locals dt h.iterator body ≡ true)
+  declared-stays k at h test body sound f =
+      let e = names-more q (λ its z. is_no_local ds its z || declares z body) (λ its z. is_no_local dt its z || declares z body) on (h.iterator ∷ []) body (names-below ds (Foreach k at h test body) sound.named).3 f in (e, e)
     where
-      iterates : has_role (variable_at ds h.iterator) Iterates ≡ true
-      iterates = iterates-of ds k at h test body sound.named
-
-      below : NamesBelow q (Foreach k at h test body)
-      below = names-below ds (Foreach k at h test body) sound.named
-
-      free : (b : Bool) → (b ≡ true → ⊥) → b ≡ false
-      free true o = absurd (o refl)
-      free false o = refl
-
-      second : (a b : Bool) → b ≡ true → a || b ≡ true
-      second true b h = refl
-      second false b h = h
-
-      under : (asked : Expr) → ((z : ℕ) → sort_eq Sorts.Scalar (variable_at ds z).sort ≡ true → names_plainly z test ≡ true → names_plainly z asked ≡ true) → locals_may_go dt h.iterator asked body ≡ true
-      under asked plain =
-          names-more q (λ its z. is_no_local ds its z || may_be_kept ds h.iterator test body z) (λ its z. is_no_local dt its z || may_be_kept dt h.iterator asked body z) on (h.iterator ∷ []) body below.3 f
-        where
-          on : (its : List ℕ) (z : ℕ) → z < q → is_no_local ds its z || may_be_kept ds h.iterator test body z ≡ true → is_no_local dt its z || may_be_kept dt h.iterator asked body z ≡ true
-          on its z low e =
-              let n = h.iterator in
-              ⊎_elim (λ (g : is_no_local ds its z ≡ true). ap (λ b. b || may_be_kept dt n asked body z) (ap (λ d. is_in its z || not (nat_eq d 1)) (depth-same ds dt same more z low) ∙ g))
-              (λ (g : may_be_kept ds n test body z ≡ true).
-              let a = both-true (sort_eq Sorts.Scalar (variable_at ds z).sort) (declares z body && (names_plainly z test && may_move z n body)) g in
-              let b = both-true (declares z body) (names_plainly z test && may_move z n body) a.1 in
-              let c = both-true (names_plainly z test) (may_move z n body) b.1 in
-              second (is_no_local dt its z) (may_be_kept dt n asked body z)
-              (and-true (sort_eq Sorts.Scalar (variable_at dt z).sort) (declares z body && (names_plainly z asked && may_move z n body)) (ap (λ (v : Variable). sort_eq Sorts.Scalar v.sort) (same z low) ∙ a.0)
-              (and-true (declares z body) (names_plainly z asked && may_move z n body) b.0 (and-true (names_plainly z asked) (may_move z n body) (plain z a.0 c.0) c.1))))
-              (either-true (is_no_local ds its z) (may_be_kept ds n test body z) e)
+      on : (its : List ℕ) (z : ℕ) → z < q → is_no_local ds its z || declares z body ≡ true → is_no_local dt its z || declares z body ≡ true
+      on its z low e = ap (λ b. b || declares z body) (ap (λ d. is_in its z || not (nat_eq d 1)) (depth-same ds dt same more z low)) ∙ e
 
   even-stays : (k : Key) (at : Place) (h : Head) (test : Expr) (body : Stmt) → Sound ds res (Foreach k at h test body) → reduces_evenly ds body ≡ true → (reduces_evenly dt body ≡ true) × (reduces_evenly dt body ≡ true)
   even-stays k at h test body sound f =
@@ -123,15 +86,12 @@ module _ (ds : List Declaration) (res : Option VType) where
       (e, e)
 
 -- facts of a program
-pub numbered-stay : (p : Program) → Ready2 p → has_numbered_ifs p ≡ true → has_numbered_ifs (with_saved_filters p) ≡ true
-numbered-stay p r f = stays p.declarations p.result (λ n test body. ifs_are_numbered n body) (λ n test body. ifs_are_numbered n body) (λ k at h test body s e. (e, e)) p.body (sound-of p r) f
+pub declared-stay : (p : Program) → Ready2 p → has_declared_locals p ≡ true → has_declared_locals (with_saved_filters p) ≡ true
+declared-stay p r f =
+    stays p.declarations p.result (λ n test body. declares_its_locals p.declarations n body) (λ n test body. declares_its_locals (p.declarations ++ (flag_property ∷ [])) n body) (declared-stays p.declarations p.result) p.body (sound-of p r) f
 
-pub sums-stay : (p : Program) → Ready2 p → has_inner_sums_last p ≡ true → has_inner_sums_last (with_saved_filters p) ≡ true
-sums-stay p r f = stays p.declarations p.result (λ n test body. inner_sums_last n body) (λ n test body. inner_sums_last n body) (λ k at h test body s e. (e, e)) p.body (sound-of p r) f
-
-pub movable-stay : (p : Program) → Ready2 p → has_movable_locals p ≡ true → has_movable_locals (with_saved_filters p) ≡ true
-movable-stay p r f =
-    stays p.declarations p.result (λ n test body. locals_may_go p.declarations n test body) (λ n test body. locals_may_go (p.declarations ++ (flag_property ∷ [])) n test body) (locals-stay p.declarations p.result) p.body (sound-of p r) f
+pub checks-stay : (p : Program) → Ready2 p → has_no_checks p ≡ true → has_no_checks (with_saved_filters p) ≡ true
+checks-stay p r f = stays p.declarations p.result (λ n test body. checks_nothing body) (λ n test body. checks_nothing body) (λ k at h test body s e. (e, e)) p.body (sound-of p r) f
 
 pub tuples-stay : (p : Program) → Ready2 p → has_even_tuples p ≡ true → has_even_tuples (with_saved_filters p) ≡ true
 tuples-stay p r f = stays p.declarations p.result (λ n test body. reduces_evenly p.declarations body) (λ n test body. reduces_evenly (p.declarations ++ (flag_property ∷ [])) body) (even-stays p.declarations p.result) p.body (sound-of p r) f

@@ -19,5 +19,19 @@ pub mod SavedNames
 pub mod SavedPrograms
 pub mod FilterFacts
 pub mod DeferredFacts
+pub mod NodesLoops
+pub mod NodesRead
+pub mod NodesKept
+pub mod NodesLaws
+pub mod GroupsOf
+pub mod Movable
+pub mod Tidy
+pub mod Homes
+pub mod HomeFacts
+pub mod GroupFacts
+pub mod GroupLoops
+pub mod GroupPrograms
+pub mod Numbers
+pub mod SavedGroups
 pub mod Prepared
 mod Samples

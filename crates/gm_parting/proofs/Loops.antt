@@ -48,7 +48,7 @@ module _ (ds : List Declaration) (res : Option VType) where
   abbrev phase : Stmt → Bool
   phase s = is_phase (is_flat_loop ds false) no_loop ds s
 
-  sound-both : (a b : Stmt) → Sound ds res (Then a b) → Sound ds res a × Sound ds res b
+  pub sound-both : (a b : Stmt) → Sound ds res (Then a b) → Sound ds res a × Sound ds res b
   sound-both a b h =
       let n = all-append (suits ds) (uses_of a) (uses_of b) h.named in
       let t = both-true (is_typed_in ds res a) (is_typed_in ds res b) h.typed in
@@ -57,7 +57,7 @@ module _ (ds : List Declaration) (res : Option VType) where
       let g = both-true (phase a) (phase b) h.form in
       (record { named = n.0; typed = t.0; order = o.0; share = s.0; form = g.0 }, record { named = n.1; typed = t.1; order = o.1; share = s.1; form = g.1 })
 
-  sound-branches : (k : Key) (c : Expr) (a b : Stmt) → Sound ds res (If k c a b) → Sound ds res a × Sound ds res b
+  pub sound-branches : (k : Key) (c : Expr) (a b : Stmt) → Sound ds res (If k c a b) → Sound ds res a × Sound ds res b
   sound-branches k c a b h =
       sound-both a b (record {
         named = (all-append (suits ds) (uses_in c) (uses_of a ++ uses_of b) h.named).1;
@@ -67,7 +67,7 @@ module _ (ds : List Declaration) (res : Option VType) where
         form = (both-true (is_told c) (phase a && phase b) h.form).1;
       })
 
-  sound-for : (k : Key) (at : Place) (hd : Head) (test : Expr) (body : Stmt) → Sound ds res (For k at hd test body) → Sound ds res body
+  pub sound-for : (k : Key) (at : Place) (hd : Head) (test : Expr) (body : Stmt) → Sound ds res (For k at hd test body) → Sound ds res body
   sound-for k at hd test body h = record {
     named = (all-append (suits ds) (uses_in test) (uses_of body) (all-append (suits ds) (uses_of_head hd) (uses_in test ++ uses_of body) h.named).1).1;
     typed = (both-true (has_type ds Flag test) (is_typed_in ds res body) h.typed).1;
@@ -76,7 +76,7 @@ module _ (ds : List Declaration) (res : Option VType) where
     form = (both-true (is_told test) (phase body) h.form).1;
   }
 
-  sound-while : (k : Key) (at : Place) (c : Expr) (body : Stmt) → Sound ds res (While k at c body) → Sound ds res body
+  pub sound-while : (k : Key) (at : Place) (c : Expr) (body : Stmt) → Sound ds res (While k at c body) → Sound ds res body
   sound-while k at c body h = record {
     named = (all-append (suits ds) (uses_in c) (uses_of body) h.named).1;
     typed = (both-true (has_type ds Flag c) (is_typed_in ds res body) h.typed).1;
@@ -85,7 +85,7 @@ module _ (ds : List Declaration) (res : Option VType) where
     form = (both-true (is_told c) (phase body) h.form).1;
   }
 
-  sound-do : (k : Key) (at : Place) (body : Stmt) (c : Expr) → Sound ds res (Do k at body c) → Sound ds res body
+  pub sound-do : (k : Key) (at : Place) (body : Stmt) (c : Expr) → Sound ds res (Do k at body c) → Sound ds res body
   sound-do k at body c h = record {
     named = (all-append (suits ds) (uses_of body) (uses_in c) h.named).0;
     typed = (both-true (is_typed_in ds res body) (has_type ds Flag c) h.typed).0;

@@ -29,7 +29,6 @@ use Rattle.gm_dissect.proofs.Moved.{flat-moved}
 use Rattle.gm_dissect.proofs.MovedOrder.{safe-moved}
 use Rattle.gm_dissect.proofs.Undeferred.{append-true, two-same}
 use Rattle.gm_locals.proofs.MovedAll.{holds-moved}
-use Rattle.gm_parting.specs.InnerLoops.{inner_sums_last}
 use Rattle.gm_parting.specs.Lasting.{is_shallow, may_be_repeated, conditions_repeat}
 use Rattle.gm_parting.proofs.Lasting.{not-in, out-of}
 use Rattle.gm_parting.proofs.Loops.{told-below}
@@ -233,22 +232,6 @@ module _ (x q n : ℕ) (at : Place) (t : VType) where
 
   pub own-moved : (s : Stmt) → is_own_loop n (mv s) ≡ is_own_loop n s
   own-moved s = two-same (λ c d. c && d) (is_own_code n (mv s)) (adds_last (n ∷ []) (mv s)) (is_own_code n s) (adds_last (n ∷ []) s) (code-moved s) (last-moved (n ∷ []) (ap (λ b. b || false) here) s)
-
-  pub sums-moved : (s : Stmt) → inner_sums_last n (mv s) ≡ inner_sums_last n s
-  sums-moved (Then a b) = two-same (λ c d. c && d) (inner_sums_last n (mv a)) (inner_sums_last n (mv b)) (inner_sums_last n a) (inner_sums_last n b) (sums-moved a) (sums-moved b)
-  sums-moved (If k c a b) = two-same (λ c d. c && d) (inner_sums_last n (mv a)) (inner_sums_last n (mv b)) (inner_sums_last n a) (inner_sums_last n b) (sums-moved a) (sums-moved b)
-  sums-moved (Foreach k p hd test body) = last-moved (n ∷ hd.iterator ∷ []) (ap (λ b. b || (nat_eq n hd.iterator || false)) here) body
-  sums-moved (Declare k y None) = by (nat_eq y x)
-    where
-      by : (b : Bool) → inner_sums_last n (cond b (Assign k (T.Property n q at) (Const (zero_of t))) (Declare k y None)) ≡ true
-      by true = refl
-      by false = refl
-  sums-moved (Declare k y (Some e)) = by (nat_eq y x)
-    where
-      by : (b : Bool) → inner_sums_last n (cond b (Assign k (T.Property n q at) (mi e)) (Declare k y (Some (mi e)))) ≡ true
-      by true = refl
-      by false = refl
-  sums-moved s = refl
 
   pub deferred-of-moved : (s : Stmt) → deferred_of (mv s) ≡ deferred_of s
   deferred-of-moved (Then a b) = two-same (λ c d. c ++ d) (deferred_of (mv a)) (deferred_of (mv b)) (deferred_of a) (deferred_of b) (deferred-of-moved a) (deferred-of-moved b)

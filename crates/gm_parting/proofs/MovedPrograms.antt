@@ -46,7 +46,7 @@ use Rattle.gm_locals.specs.AllLocals.{keeps_none, keeps_none_in}
 use Rattle.gm_locals.proofs.MovedAll.{locals-moved-out}
 use Rattle.gm_cut.specs.Parts.{each_passes}
 use Rattle.gm_cut.proofs.Roles.{touched-apart, iterates-of}
-use Rattle.gm_parting.specs.InnerLoops.{inner_iterators_deep, inner_sums_last, has_inner_sums_last, has_iterators_in_place}
+use Rattle.gm_parting.specs.InnerLoops.{inner_iterators_deep, has_iterators_in_place}
 use Rattle.gm_parting.specs.Lasting.{is_outside, is_lasting, conditions_repeat, has_lasting_filters, has_repeatable_conditions}
 use Rattle.gm_parting.specs.Locals.{target_passes, names_pass, names_no_local, may_be_kept, locals_may_go, has_movable_locals}
 use Rattle.gm_parting.specs.Prepared.{IsPrepared}
@@ -54,7 +54,7 @@ use Rattle.gm_parting.specs.Tuples.{reduces_evenly, has_even_tuples}
 use Rattle.gm_parting.proofs.Lasting.{Lasts, lasts, lasting, lasts-fewer}
 use Rattle.gm_parting.proofs.Loops.{Test, sound-of, each-kept, both, each-both, each-so, defers_nothing, deferred-each, told-below, outside-longer}
 use Rattle.gm_parting.proofs.MovedNames.{declared-on, may-on, plain-on, names-on, evenly-longer, evenly-on, deep-longer, deep-on}
-use Rattle.gm_parting.proofs.MovedParts.{unmoved, spares-more, own-moved, sums-moved, deferred-of-moved, touched-moved, repeat-longer, repeat-moved}
+use Rattle.gm_parting.proofs.MovedParts.{unmoved, spares-more, own-moved, deferred-of-moved, touched-moved, repeat-longer, repeat-moved}
 use Rattle.gm_parting.proofs.Pieces.{own-uncut, own-adds, own-code}
 use Rattle.gm_parting.proofs.Programs.{nothing-deferred}
 use Rattle.gm_parting.proofs.WithoutLocals.{without-locals}
@@ -124,32 +124,29 @@ pub record Facts (ds : List Declaration) (n : ℕ) (test : Expr) (body : Stmt) :
   pub even : reduces_evenly ds body ≡ true
   pub outer : nat_lt (depth_at ds n) 2 ≡ true
   pub deep : inner_iterators_deep ds body ≡ true
-  pub sums : inner_sums_last n body ≡ true
 
 -- the same as a test
 abbrev pub bundle : List Declaration → ℕ → Expr → Stmt → Bool
 bundle ds n test body =
-    is_lasting ds n (touched body) test && (conditions_repeat ds n body && (locals_may_go ds n test body && (reduces_evenly ds body && ((nat_lt (depth_at ds n) 2 && inner_iterators_deep ds body) && inner_sums_last n body))))
+    is_lasting ds n (touched body) test && (conditions_repeat ds n body && (locals_may_go ds n test body && (reduces_evenly ds body && (nat_lt (depth_at ds n) 2 && inner_iterators_deep ds body))))
 
 pub facts-of : (ds : List Declaration) (n : ℕ) (test : Expr) (body : Stmt) → bundle ds n test body ≡ true → Facts ds n test body
 facts-of ds n test body h =
     let place = nat_lt (depth_at ds n) 2 && inner_iterators_deep ds body in
-    let a = both-true (is_lasting ds n (touched body) test) (conditions_repeat ds n body && (locals_may_go ds n test body && (reduces_evenly ds body && (place && inner_sums_last n body)))) h in
-    let b = both-true (conditions_repeat ds n body) (locals_may_go ds n test body && (reduces_evenly ds body && (place && inner_sums_last n body))) a.1 in
-    let c = both-true (locals_may_go ds n test body) (reduces_evenly ds body && (place && inner_sums_last n body)) b.1 in
-    let d = both-true (reduces_evenly ds body) (place && inner_sums_last n body) c.1 in
-    let e = both-true place (inner_sums_last n body) d.1 in
-    let f = both-true (nat_lt (depth_at ds n) 2) (inner_iterators_deep ds body) e.0 in
-    record { filter = a.0; conditions = b.0; locals = c.0; even = d.0; outer = f.0; deep = f.1; sums = e.1 }
+    let a = both-true (is_lasting ds n (touched body) test) (conditions_repeat ds n body && (locals_may_go ds n test body && (reduces_evenly ds body && place))) h in
+    let b = both-true (conditions_repeat ds n body) (locals_may_go ds n test body && (reduces_evenly ds body && place)) a.1 in
+    let c = both-true (locals_may_go ds n test body) (reduces_evenly ds body && place) b.1 in
+    let d = both-true (reduces_evenly ds body) place c.1 in
+    let f = both-true (nat_lt (depth_at ds n) 2) (inner_iterators_deep ds body) d.1 in
+    record { filter = a.0; conditions = b.0; locals = c.0; even = d.0; outer = f.0; deep = f.1 }
 
 pub of-facts : (ds : List Declaration) (n : ℕ) (test : Expr) (body : Stmt) → Facts ds n test body → bundle ds n test body ≡ true
 of-facts ds n test body f =
     let place = nat_lt (depth_at ds n) 2 && inner_iterators_deep ds body in
-    and-true (is_lasting ds n (touched body) test) (conditions_repeat ds n body && (locals_may_go ds n test body && (reduces_evenly ds body && (place && inner_sums_last n body)))) f.filter
-    (and-true (conditions_repeat ds n body) (locals_may_go ds n test body && (reduces_evenly ds body && (place && inner_sums_last n body))) f.conditions
-    (and-true (locals_may_go ds n test body) (reduces_evenly ds body && (place && inner_sums_last n body)) f.locals
-    (and-true (reduces_evenly ds body) (place && inner_sums_last n body) f.even
-    (and-true place (inner_sums_last n body) (and-true (nat_lt (depth_at ds n) 2) (inner_iterators_deep ds body) f.outer f.deep) f.sums))))
+    and-true (is_lasting ds n (touched body) test) (conditions_repeat ds n body && (locals_may_go ds n test body && (reduces_evenly ds body && place))) f.filter
+    (and-true (conditions_repeat ds n body) (locals_may_go ds n test body && (reduces_evenly ds body && place)) f.conditions
+    (and-true (locals_may_go ds n test body) (reduces_evenly ds body && place) f.locals
+    (and-true (reduces_evenly ds body) place f.even (and-true (nat_lt (depth_at ds n) 2) (inner_iterators_deep ds body) f.outer f.deep))))
 
 abbrev pub bundled : List Declaration → Test
 bundled ds k at h test body = is_own_loop h.iterator body || bundle ds h.iterator test body
@@ -222,7 +219,6 @@ module _ (ds : List Declaration) (res : Option VType) (x : ℕ) where
           even = evenly-longer x q n at t ds dt same more refl body below.3 f.even;
           outer = ap (λ d. nat_lt d 2) deep-n ∙ f.outer;
           deep = deep-longer x q n at t ds dt same more refl body below.3 f.deep;
-          sums = f.sums;
         }
       where
         on : (its : List ℕ) (z : ℕ) → z < q → is_no_local ds its z || may_be_kept ds n test body z ≡ true → is_no_local dt its z || may_be_kept dt n test body z ≡ true
@@ -246,7 +242,6 @@ module _ (ds : List Declaration) (res : Option VType) (x : ℕ) where
           even = evenly-on x q n at t ds dt same more refl body below.3 keeps.moves f.even;
           outer = ap (λ d. nat_lt d 2) deep-n ∙ f.outer;
           deep = deep-on x q n at t ds dt same more refl body below.3 f.deep;
-          sums = sums-moved x q n at t body ∙ f.sums;
         }
       where
         l : Lasts ds n (touched body) test
@@ -359,7 +354,7 @@ keeps-each ds (While k at c body) h = keeps-each ds body h
 keeps-each ds (Do k at body c) h = keeps-each ds body h
 keeps-each ds s h = refl
 
-declared-listed : (x : ℕ) (s : Stmt) → declares x s ≡ true → IsIn x (locals_of s)
+pub declared-listed : (x : ℕ) (s : Stmt) → declares x s ≡ true → IsIn x (locals_of s)
 declared-listed x (Then a b) h =
     ⊎_elim (λ l. in-left x (locals_of a) (locals_of b) (declared-listed x a l)) (λ l. in-right x (locals_of a) (locals_of b) (declared-listed x b l)) (either-true (declares x a) (declares x b) h)
 declared-listed x (If k c a b) h =
@@ -407,31 +402,24 @@ module _ (ds : List Declaration) (res : Option VType) (k : Key) (at : Place) (hd
 
 -- ---- all facts as one, and one of them
 
-all-bundled : (p : Program) → Ready2 p → has_lasting_filters p ≡ true → has_repeatable_conditions p ≡ true → has_movable_locals p ≡ true → has_inner_sums_last p ≡ true → has_even_tuples p ≡ true → has_iterators_in_place p ≡ true →
+all-bundled : (p : Program) → Ready2 p → has_lasting_filters p ≡ true → has_repeatable_conditions p ≡ true → has_movable_locals p ≡ true → has_even_tuples p ≡ true → has_iterators_in_place p ≡ true →
     each_passes (bundled p.declarations) p.body ≡ true
-all-bundled p r f1 f2 f3 f4 f5 f6 =
+all-bundled p r f1 f2 f3 f5 f6 =
     let ds = p.declarations in
     let A : Test = λ k at h test body. is_own_loop h.iterator body || is_lasting ds h.iterator (touched body) test in
     let B : Test = λ k at h test body. is_own_loop h.iterator body || conditions_repeat ds h.iterator body in
     let C : Test = λ k at h test body. is_own_loop h.iterator body || locals_may_go ds h.iterator test body in
-    let D : Test = λ k at h test body. is_own_loop h.iterator body || inner_sums_last h.iterator body in
     let E : Test = λ k at h test body. is_own_loop h.iterator body || reduces_evenly ds body in
     let F : Test = λ k at h test body. is_own_loop h.iterator body || (nat_lt (depth_at ds h.iterator) 2 && inner_iterators_deep ds body) in
-    each-so ds p.result (both A (both B (both C (both D (both E F))))) (bundled ds)
-    (λ k at h test body w q. all (is_own_loop h.iterator body) (is_lasting ds h.iterator (touched body) test) (conditions_repeat ds h.iterator body) (locals_may_go ds h.iterator test body) (inner_sums_last h.iterator body) (reduces_evenly ds body)
+    each-so ds p.result (both A (both B (both C (both E F)))) (bundled ds)
+    (λ k at h test body w q. all (is_own_loop h.iterator body) (is_lasting ds h.iterator (touched body) test) (conditions_repeat ds h.iterator body) (locals_may_go ds h.iterator test body) (reduces_evenly ds body)
     (nat_lt (depth_at ds h.iterator) 2 && inner_iterators_deep ds body) q)
     p.body (sound-of p r)
-    (each-both A (both B (both C (both D (both E F)))) p.body f1 (each-both B (both C (both D (both E F))) p.body f2 (each-both C (both D (both E F)) p.body f3 (each-both D (both E F) p.body f4 (each-both E F p.body f5 f6)))))
+    (each-both A (both B (both C (both E F))) p.body f1 (each-both B (both C (both E F)) p.body f2 (each-both C (both E F) p.body f3 (each-both E F p.body f5 f6))))
   where
-    all : (o a b c d e f : Bool) → (o || a) && ((o || b) && ((o || c) && ((o || d) && ((o || e) && (o || f))))) ≡ true → o || (a && (b && (c && (e && (f && d))))) ≡ true
-    all true a b c d e f h = refl
-    all false a b c d e f h =
-        let r = both-true a (b && (c && (d && (e && f)))) h in
-        let s = both-true b (c && (d && (e && f))) r.1 in
-        let t = both-true c (d && (e && f)) s.1 in
-        let u = both-true d (e && f) t.1 in
-        let v = both-true e f u.1 in
-        and-true a (b && (c && (e && (f && d)))) r.0 (and-true b (c && (e && (f && d))) s.0 (and-true c (e && (f && d)) t.0 (and-true e (f && d) v.0 (and-true f d v.1 u.0))))
+    all : (o a b c e f : Bool) → (o || a) && ((o || b) && ((o || c) && ((o || e) && (o || f)))) ≡ true → o || (a && (b && (c && (e && f)))) ≡ true
+    all true a b c e f h = refl
+    all false a b c e f h = h
 
 pub part-of : (o x y : Bool) → (x ≡ true → y ≡ true) → o || x ≡ true → o || y ≡ true
 part-of true x y f h = refl
@@ -456,14 +444,13 @@ known-prepared p known =
     let b = both-true (keeps_none ds h.iterator test body) (bundled ds k at h test body) a.1 in
     gone ds out.result k at h test body c a.0 b.0 b.1)
     out.body s (each-both defers_nothing (both kept (bundled ds)) out.body w.none (each-both kept (bundled ds) out.body (keeps-each ds out.body (locals-moved-out p)) w.facts)))
-    (still (λ k at h test body. is_own_loop h.iterator body || inner_sums_last h.iterator body) (λ k at h test body q. part-of (is_own_loop h.iterator body) (bundle ds h.iterator test body) (inner_sums_last h.iterator body) (λ g. (facts-of ds h.iterator test body g).sums) q))
     (still (λ k at h test body. is_own_loop h.iterator body || reduces_evenly ds body) (λ k at h test body q. part-of (is_own_loop h.iterator body) (bundle ds h.iterator test body) (reduces_evenly ds body) (λ g. (facts-of ds h.iterator test body g).even) q))
     (still (λ k at h test body. is_own_loop h.iterator body || (nat_lt (depth_at ds h.iterator) 2 && inner_iterators_deep ds body))
     (λ k at h test body q. part-of (is_own_loop h.iterator body) (bundle ds h.iterator test body) (nat_lt (depth_at ds h.iterator) 2 && inner_iterators_deep ds body)
     (λ g. let f = facts-of ds h.iterator test body g in and-true (nat_lt (depth_at ds h.iterator) 2) (inner_iterators_deep ds body) f.outer f.deep) q))
 
 -- a program whose locals may all go to properties is prepared then
-pub locals-gone : (p : Program) → Ready2 p → has_no_deferred p ≡ true → has_lasting_filters p ≡ true → has_repeatable_conditions p ≡ true → has_movable_locals p ≡ true → has_inner_sums_last p ≡ true → has_even_tuples p ≡ true → has_iterators_in_place p ≡ true →
+pub locals-gone : (p : Program) → Ready2 p → has_no_deferred p ≡ true → has_lasting_filters p ≡ true → has_repeatable_conditions p ≡ true → has_movable_locals p ≡ true → has_even_tuples p ≡ true → has_iterators_in_place p ≡ true →
     IsPrepared (with_kept_locals p)
-locals-gone p r none f1 f2 f3 f4 f5 f6 =
-    known-prepared p (record { ready = r; none = sym (deferred-each p.body) ∙ none; facts = all-bundled p r f1 f2 f3 f4 f5 f6 })
+locals-gone p r none f1 f2 f3 f5 f6 =
+    known-prepared p (record { ready = r; none = sym (deferred-each p.body) ∙ none; facts = all-bundled p r f1 f2 f3 f5 f6 })

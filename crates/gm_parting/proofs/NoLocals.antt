@@ -10,11 +10,12 @@ use Rattle.gm_ast.specs.declared.tree.Sort.TheVariants as Sorts
 use Rattle.gm_ast.specs.declared.tree.Target.{Target}
 use Rattle.gm_ast.specs.declared.tree.Target.TheVariants as T
 use Rattle.gm_ast.specs.Names.{sort_eq}
-use Rattle.gm_ast.specs.Program.{NodeCount, Stmt, Skip, Then, Declare, DeclareEdge, Assign, Combine, Foreach, If}
+use Rattle.gm_ast.specs.Program.{NodeCount, Stmt, Skip, Then, Declare, DeclareEdge, Assign, Defer, Combine, Foreach, If}
 use Rattle.gm_ast.specs.Ways.{is_in}
 use Rattle.gm_semantics.specs.Statements.{variable_at}
-use Rattle.gm_forms.specs.Cut.{adds_last, is_own_loop, is_no_local, is_outer_local, spares_locals}
-use Rattle.gm_forms.specs.Fission.{left, changed}
+use Rattle.gm_forms.specs.Cut.{is_own_loop, is_no_local, is_outer_local, spares_locals}
+use Rattle.gm_forms.specs.Fission.{left, changed, reduced_locals}
+use Rattle.gm_forms.specs.Fission as Fission
 use Rattle.gm_forms.specs.Forms.{depth_at, may, is_flat, are_reduced, is_given, is_within, is_inner_head, is_inner_body, is_outer_body}
 use Rattle.gm_forms.specs.Order.{first_key}
 use Rattle.gm_forms.specs.Sharing.{told_in, sights_in_option, sights_in_all, sights_of_target, sights_at_target, sights_by, are_at_once, is_kept, sights_of, variables_of, variables_where, reduced_by, reduced, owned_in, kept_in, targets_alike}
@@ -30,7 +31,7 @@ use Rattle.gm_locals.proofs.Across.{none-across}
 use Rattle.gm_cut.specs.Parts.{locals_stay}
 use Rattle.gm_cut.proofs.Roles.{touched-apart, iterates-of}
 use Rattle.gm_cut.proofs.Shared.{kept-split}
-use Rattle.gm_parting.specs.InnerLoops.{inner_loops_apart, inner_sums_last}
+use Rattle.gm_parting.specs.InnerLoops.{inner_loops_apart}
 use Rattle.gm_parting.specs.Locals.{target_passes, names_pass}
 use Rattle.gm_parting.specs.Staying.{locals_stay_within}
 use Rattle.gm_parting.specs.Tuples.{reduces_evenly}
@@ -86,7 +87,7 @@ module _ (ds : List Declaration) (n : ℕ) (iterates : has_role (variable_at ds 
 
   -- ---- what is written is no iterator
 
-  abbrev Apart : List ℕ → Type 0
+  abbrev pub Apart : List ℕ → Type 0
   Apart its = (x : ℕ) → Suit (use_as Written x) → is_in its x ≡ false
 
   no-one : (its : List ℕ) (x : ℕ) → is_in its x ≡ false → is_no_local ds its x ≡ true → nat_eq (depth_at ds x) 1 ≡ false
@@ -187,30 +188,28 @@ module _ (ds : List Declaration) (n : ℕ) (iterates : has_role (variable_at ds 
           absurd (touched-apart ds t it (Assign first_key (T.Scalar t (record { line = 0; col = 0 })) NodeCount) (subst (λ z. Suit (use_as Written z)) (eqb-true x t e) u) (inl refl))
       by false e = refl
 
-  written-apart : Apart (n ∷ [])
+  pub written-apart : Apart (n ∷ [])
   written-apart x u = ap (λ b. b || false) (iterator-apart n iterates x u)
 
-  inner-apart : (t : ℕ) → has_role (variable_at ds t) Iterates ≡ true → Apart (n ∷ t ∷ [])
+  pub inner-apart : (t : ℕ) → has_role (variable_at ds t) Iterates ≡ true → Apart (n ∷ t ∷ [])
   inner-apart t it x u = ap (λ b. b || (nat_eq x t || false)) (iterator-apart n iterates x u) ∙ ap (λ b. b || false) (iterator-apart t it x u)
 
   -- ---- inner loops
 
-  pub loops-apart : (s : Stmt) → is_outer_body ds false n s ≡ true → Suit (uses_of s) → Free (n ∷ []) s → inner_sums_last n s ≡ true → inner_loops_apart ds n s ≡ true
-  loops-apart (Then a b) f u h l =
+  pub loops-apart : (s : Stmt) → is_outer_body ds false n s ≡ true → Suit (uses_of s) → Free (n ∷ []) s → inner_loops_apart ds n s ≡ true
+  loops-apart (Then a b) f u h =
       let g = both-true (is_outer_body ds false n a) (is_outer_body ds false n b) f in
       let v = all-append (suits ds) (uses_of a) (uses_of b) u in
       let r = both-true (names_pass (is_no_local ds) (n ∷ []) a) (names_pass (is_no_local ds) (n ∷ []) b) h in
-      let m = both-true (inner_sums_last n a) (inner_sums_last n b) l in
-      and-true (inner_loops_apart ds n a) (inner_loops_apart ds n b) (loops-apart a g.0 v.0 r.0 m.0) (loops-apart b g.1 v.1 r.1 m.1)
-  loops-apart (If k c a b) f u h l =
+      and-true (inner_loops_apart ds n a) (inner_loops_apart ds n b) (loops-apart a g.0 v.0 r.0) (loops-apart b g.1 v.1 r.1)
+  loops-apart (If k c a b) f u h =
       let e = both-true (is_flat (n ∷ []) false c) (is_outer_body ds false n a && is_outer_body ds false n b) f in
       let g = both-true (is_outer_body ds false n a) (is_outer_body ds false n b) e.1 in
       let v = all-append (suits ds) (uses_of a) (uses_of b) (all-append (suits ds) (uses_in c) (uses_of a ++ uses_of b) u).1 in
       let q = both-true (list_all (is_no_local ds (n ∷ [])) (told_in c)) (names_pass (is_no_local ds) (n ∷ []) a && names_pass (is_no_local ds) (n ∷ []) b) h in
       let r = both-true (names_pass (is_no_local ds) (n ∷ []) a) (names_pass (is_no_local ds) (n ∷ []) b) q.1 in
-      let m = both-true (inner_sums_last n a) (inner_sums_last n b) l in
-      and-true (inner_loops_apart ds n a) (inner_loops_apart ds n b) (loops-apart a g.0 v.0 r.0 m.0) (loops-apart b g.1 v.1 r.1 m.1)
-  loops-apart (Foreach k at hd test body) f u h l =
+      and-true (inner_loops_apart ds n a) (inner_loops_apart ds n b) (loops-apart a g.0 v.0 r.0) (loops-apart b g.1 v.1 r.1)
+  loops-apart (Foreach k at hd test body) f u h =
       let t = hd.iterator in
       let its = n ∷ (t ∷ []) in
       let g = both-true (is_inner_head false n hd) (is_flat its true test && is_inner_body ds its true body) f in
@@ -219,10 +218,10 @@ module _ (ds : List Declaration) (n : ℕ) (iterates : has_role (variable_at ds 
       let w = all-append (suits ds) (uses_in test) (uses_of body) v.1 in
       let q = both-true (is_no_local ds (n ∷ []) hd.owner) (list_all (is_no_local ds its) (told_in test) && names_pass (is_no_local ds) its body) h in
       let r = both-true (list_all (is_no_local ds its) (told_in test)) (names_pass (is_no_local ds) its body) q.1 in
-      and-true (list_all (is_no_local ds its) (told_in test ++ (sights_of ds n true body).scalars)) (spares_locals ds body && adds_last its body)
+      and-true (list_all (is_no_local ds its) (told_in test ++ (sights_of ds n true body).scalars)) (spares_locals ds body)
       (append-true (is_no_local ds its) (told_in test) (sights_of ds n true body).scalars r.0 (inner-told its its body i.1 r.1))
-      (and-true (spares_locals ds body) (adds_last its body) (inner-spares its its (inner-apart t (iterates-of ds k at hd test body u)) body i.1 w.1 r.1) l)
-  loops-apart s f u h l = refl
+      (inner-spares its its (inner-apart t (iterates-of ds k at hd test body u)) body i.1 w.1 r.1)
+  loops-apart s f u h = refl
 
   -- ---- what the whole changes
 
@@ -327,7 +326,7 @@ module _ (ds : List Declaration) (n : ℕ) (iterates : has_role (variable_at ds 
   listed [] f = refl
   listed (x ∷ xs) f = and-true (sort_eq Sorts.NodeProperty (variable_at ds x).sort) (list_all (λ x. sort_eq Sorts.NodeProperty (variable_at ds x).sort) xs) (f x (inl refl)) (listed xs (λ y i. f y (inr i)))
 
-  changes-none : (s : Stmt) → is_outer_body ds false n s ≡ true → Suit (uses_of s) → Free (n ∷ []) s → targets_alike s ≡ true → reduces_evenly ds s ≡ true → changes_no_scalar ds n s ≡ true
+  pub changes-none : (s : Stmt) → is_outer_body ds false n s ≡ true → Suit (uses_of s) → Free (n ∷ []) s → targets_alike s ≡ true → reduces_evenly ds s ≡ true → changes_no_scalar ds n s ≡ true
   changes-none s f u h a e =
       listed (changed ds n s) (properties-both (left ds n s) (owned_in (reduced ds n false s)) (leaves s f u h) (λ y i. outer-kept s f u h y (owned-kept ds n (reduced ds n false s) (all-clear ds n false s a e) y i)))
 
@@ -362,3 +361,102 @@ module _ (ds : List Declaration) (n : ℕ) (iterates : has_role (variable_at ds 
       orelse true y h = refl
       orelse false y h = h
   stays-within s f u h k e = refl
+
+  -- ---- a local of the outer body is neither told nor reduced
+
+  pub record Deep (y : ℕ) : Type 0 where
+    pub written : list_all (suits ds) (use_as Written y) ≡ true
+    pub deep : nat_eq (depth_at ds y) 1 ≡ true
+
+  pub not-told : (its : List ℕ) → Apart its → (xs : List ℕ) → list_all (is_no_local ds its) xs ≡ true → (y : ℕ) → Deep y → IsIn y xs → ⊥
+  not-told its apart [] h y d i = i
+  not-told its apart (x ∷ xs) h y d i =
+      let r = both-true (is_no_local ds its x) (list_all (is_no_local ds its) xs) h in
+      ⊎_elim (λ (e : y ≡ x). both_ways (nat_eq (depth_at ds y) 1) (no-one its y (apart y d.written) (subst (λ w. is_no_local ds its w ≡ true) (sym e) r.0)) d.deep) (λ j. not-told its apart xs r.1 y d j) i
+
+  pub plain-told : (s : Stmt) → is_outer_body ds false n s ≡ true → Suit (uses_of s) → Free (n ∷ []) s → (y : ℕ) → Deep y → IsIn y (sights_of ds n false s).scalars → ⊥
+  plain-told (Then a b) f u h y d i =
+      let g = both-true (is_outer_body ds false n a) (is_outer_body ds false n b) f in
+      let v = all-append (suits ds) (uses_of a) (uses_of b) u in
+      let r = both-true (names_pass (is_no_local ds) (n ∷ []) a) (names_pass (is_no_local ds) (n ∷ []) b) h in
+      ⊎_elim (plain-told a g.0 v.0 r.0 y d) (plain-told b g.1 v.1 r.1 y d) (in-either y (sights_of ds n false a).scalars (sights_of ds n false b).scalars i)
+  plain-told (If k c a b) f u h y d i =
+      let e = both-true (is_flat (n ∷ []) false c) (is_outer_body ds false n a && is_outer_body ds false n b) f in
+      let g = both-true (is_outer_body ds false n a) (is_outer_body ds false n b) e.1 in
+      let v = all-append (suits ds) (uses_of a) (uses_of b) (all-append (suits ds) (uses_in c) (uses_of a ++ uses_of b) u).1 in
+      let q = both-true (list_all (is_no_local ds (n ∷ [])) (told_in c)) (names_pass (is_no_local ds) (n ∷ []) a && names_pass (is_no_local ds) (n ∷ []) b) h in
+      let r = both-true (names_pass (is_no_local ds) (n ∷ []) a) (names_pass (is_no_local ds) (n ∷ []) b) q.1 in
+      ⊎_elim (not-told (n ∷ []) written-apart (told_in c) q.0 y d)
+      (λ j. ⊎_elim (plain-told a g.0 v.0 r.0 y d) (plain-told b g.1 v.1 r.1 y d) (in-either y (sights_of ds n false a).scalars (sights_of ds n false b).scalars j)) (in-either y (told_in c) ((sights_of ds n false a).scalars ++ (sights_of ds n false b).scalars) i)
+  plain-told (Declare k x None) f u h y d i = i
+  plain-told (Declare k x (Some e)) f u h y d i = not-told (n ∷ []) written-apart (told_in e) (both-true (is_no_local ds (n ∷ []) x) (list_all (is_no_local ds (n ∷ [])) (told_in e)) h).1 y d i
+  plain-told (Assign k t e) f u h y d i =
+      let r = both-true (target_passes (is_no_local ds) (n ∷ []) t) (list_all (is_no_local ds (n ∷ [])) (told_in e)) h in
+      not-told (n ∷ []) written-apart ((sights_of_target t).scalars ++ told_in e) (append-true (is_no_local ds (n ∷ [])) (sights_of_target t).scalars (told_in e) (target-only (n ∷ []) t r.0) r.1) y d i
+  plain-told (Defer k t e) f u h y d i =
+      let r = both-true (target_passes (is_no_local ds) (n ∷ []) t) (list_all (is_no_local ds (n ∷ [])) (told_in e)) h in
+      not-told (n ∷ []) written-apart ((sights_of_target t).scalars ++ told_in e) (append-true (is_no_local ds (n ∷ [])) (sights_of_target t).scalars (told_in e) (target-only (n ∷ []) t r.0) r.1) y d i
+  plain-told (Combine k total o ts es) f u h y d i =
+      let r = both-true (list_all (target_passes (is_no_local ds) (n ∷ [])) ts) (list_all (is_no_local ds (n ∷ [])) (sights_in_all es).scalars) h in
+      let once = are_at_once ds n false ts in
+      not-told (n ∷ []) written-apart ((sights_by (cond once sights_at_target sights_of_target) ts).scalars ++ (sights_in_all es).scalars)
+      (append-true (is_no_local ds (n ∷ [])) (sights_by (cond once sights_at_target sights_of_target) ts).scalars (sights_in_all es).scalars (targets-told (n ∷ []) once ts r.0) r.1) y d i
+  plain-told (Foreach k at hd test body) f u h y d i =
+      let t = hd.iterator in
+      let its = n ∷ (t ∷ []) in
+      let g = both-true (is_inner_head false n hd) (is_flat its true test && is_inner_body ds its true body) f in
+      let e = both-true (is_flat its true test) (is_inner_body ds its true body) g.1 in
+      let q = both-true (is_no_local ds (n ∷ []) hd.owner) (list_all (is_no_local ds its) (told_in test) && names_pass (is_no_local ds) its body) h in
+      let r = both-true (list_all (is_no_local ds its) (told_in test)) (names_pass (is_no_local ds) its body) q.1 in
+      ⊎_elim (λ (o : y ≡ hd.owner). not-told (n ∷ []) written-apart (hd.owner ∷ []) (and-true (is_no_local ds (n ∷ []) hd.owner) true q.0 refl) y d (inl o))
+      (not-told its (inner-apart t (iterates-of ds k at hd test body u)) (told_in test ++ (sights_of ds n true body).scalars) (append-true (is_no_local ds its) (told_in test) (sights_of ds n true body).scalars r.0 (inner-told its its body e.1 r.1)) y d) i
+  plain-told Skip f u h y d i = i
+  plain-told s f u h y d i = absurd (both_ways false refl f)
+
+  -- the locals of targets are named
+  targets-spared : (its : List ℕ) → Apart its → (ts : List Target) → list_all (target_passes (is_no_local ds) its) ts ≡ true → (y : ℕ) → Deep y → IsIn y (Fission.locals_of ds ts) → ⊥
+  targets-spared its apart [] h y d i = i
+  targets-spared its apart (T.Scalar x at ∷ ts) h y d i =
+      let r = both-true (is_no_local ds its x) (list_all (target_passes (is_no_local ds) its) ts) h in by (nat_eq (depth_at ds x) 0) (targets-spared its apart ts r.1 y d) i r.0
+    where
+      by : (b : Bool) → (IsIn y (Fission.locals_of ds ts) → ⊥) → IsIn y (cond b (Fission.locals_of ds ts) (x ∷ Fission.locals_of ds ts)) → is_no_local ds its x ≡ true → ⊥
+      by true f i g = f i
+      by false f i g = ⊎_elim (λ (e : y ≡ x). not-told its apart (x ∷ []) (and-true (is_no_local ds its x) true g refl) y d (inl e)) f i
+  targets-spared its apart (T.Property x p at ∷ ts) h y d i = targets-spared its apart ts (both-true (is_no_local ds its x) (list_all (target_passes (is_no_local ds) its) ts) h).1 y d i
+
+  inner-spared : (js its : List ℕ) → Apart its → (s : Stmt) → is_inner_body ds js true s ≡ true → Free its s → (y : ℕ) → Deep y → IsIn y (reduced_locals ds s) → ⊥
+  inner-spared js its apart (Then a b) f h y d i =
+      let g = both-true (is_inner_body ds js true a) (is_inner_body ds js true b) f in
+      let r = both-true (names_pass (is_no_local ds) its a) (names_pass (is_no_local ds) its b) h in
+      ⊎_elim (inner-spared js its apart a g.0 r.0 y d) (inner-spared js its apart b g.1 r.1 y d) (in-either y (reduced_locals ds a) (reduced_locals ds b) i)
+  inner-spared js its apart (If k c a b) f h y d i =
+      let e = both-true (is_flat js true c) (is_inner_body ds js true a && is_inner_body ds js true b) f in
+      let g = both-true (is_inner_body ds js true a) (is_inner_body ds js true b) e.1 in
+      let q = both-true (list_all (is_no_local ds its) (told_in c)) (names_pass (is_no_local ds) its a && names_pass (is_no_local ds) its b) h in
+      let r = both-true (names_pass (is_no_local ds) its a) (names_pass (is_no_local ds) its b) q.1 in
+      ⊎_elim (inner-spared js its apart a g.0 r.0 y d) (inner-spared js its apart b g.1 r.1 y d) (in-either y (reduced_locals ds a) (reduced_locals ds b) i)
+  inner-spared js its apart (Combine k total o ts es) f h y d i = targets-spared its apart ts (both-true (list_all (target_passes (is_no_local ds) its) ts) (list_all (is_no_local ds its) (sights_in_all es).scalars) h).0 y d i
+  inner-spared js its apart (Foreach k at hd test body) f h y d i = absurd (both_ways false refl f)
+  inner-spared js its apart s f h y d i = i
+
+  pub plain-spared : (s : Stmt) → is_outer_body ds false n s ≡ true → Suit (uses_of s) → Free (n ∷ []) s → (y : ℕ) → Deep y → IsIn y (reduced_locals ds s) → ⊥
+  plain-spared (Then a b) f u h y d i =
+      let g = both-true (is_outer_body ds false n a) (is_outer_body ds false n b) f in
+      let v = all-append (suits ds) (uses_of a) (uses_of b) u in
+      let r = both-true (names_pass (is_no_local ds) (n ∷ []) a) (names_pass (is_no_local ds) (n ∷ []) b) h in
+      ⊎_elim (plain-spared a g.0 v.0 r.0 y d) (plain-spared b g.1 v.1 r.1 y d) (in-either y (reduced_locals ds a) (reduced_locals ds b) i)
+  plain-spared (If k c a b) f u h y d i =
+      let e = both-true (is_flat (n ∷ []) false c) (is_outer_body ds false n a && is_outer_body ds false n b) f in
+      let g = both-true (is_outer_body ds false n a) (is_outer_body ds false n b) e.1 in
+      let v = all-append (suits ds) (uses_of a) (uses_of b) (all-append (suits ds) (uses_in c) (uses_of a ++ uses_of b) u).1 in
+      let q = both-true (list_all (is_no_local ds (n ∷ [])) (told_in c)) (names_pass (is_no_local ds) (n ∷ []) a && names_pass (is_no_local ds) (n ∷ []) b) h in
+      let r = both-true (names_pass (is_no_local ds) (n ∷ []) a) (names_pass (is_no_local ds) (n ∷ []) b) q.1 in
+      ⊎_elim (plain-spared a g.0 v.0 r.0 y d) (plain-spared b g.1 v.1 r.1 y d) (in-either y (reduced_locals ds a) (reduced_locals ds b) i)
+  plain-spared (Combine k total o ts es) f u h y d i = targets-spared (n ∷ []) written-apart ts (both-true (list_all (target_passes (is_no_local ds) (n ∷ [])) ts) (list_all (is_no_local ds (n ∷ [])) (sights_in_all es).scalars) h).0 y d i
+  plain-spared (Foreach k at hd test body) f u h y d i =
+      let t = hd.iterator in
+      let its = n ∷ (t ∷ []) in
+      let g = both-true (is_inner_head false n hd) (is_flat its true test && is_inner_body ds its true body) f in
+      let q = both-true (is_no_local ds (n ∷ []) hd.owner) (list_all (is_no_local ds its) (told_in test) && names_pass (is_no_local ds) its body) h in
+      inner-spared its its (inner-apart t (iterates-of ds k at hd test body u)) body (both-true (is_flat its true test) (is_inner_body ds its true body) g.1).1 (both-true (list_all (is_no_local ds its) (told_in test)) (names_pass (is_no_local ds) its body) q.1).1 y d i
+  plain-spared s f u h y d i = i

@@ -15,7 +15,7 @@ use Rattle.gm_ast.specs.declared.tree.Target.TheVariants as T
 use Rattle.gm_ast.specs.Program.{Expr, Unary, Both, Stmt, Skip, Then, Declare, Assign, Defer, Combine, Foreach, If}
 use Rattle.gm_ast.specs.Ways.{is_in}
 use Rattle.gm_semantics.specs.Statements.{variable_at}
-use Rattle.gm_forms.specs.Cut.{is_mask, touched, can_overflow, is_there, adds_elsewhere, is_calm, adds_last, is_here, is_own_body, is_own_code, is_own_loop, is_no_local, spares_locals, knows_no_locals, mask_stays, has_plain_locals, is_edge_loop, is_along_edges, is_cut}
+use Rattle.gm_forms.specs.Cut.{is_mask, touched, can_overflow, is_there, adds_elsewhere, is_calm, adds_last, is_here, is_own_body, is_own_code, is_own_loop, is_no_local, spares_locals, knows_no_locals, mask_stays, has_plain_locals}
 use Rattle.gm_forms.specs.Fission.{is_nil}
 use Rattle.gm_forms.specs.Forms.{depth_at, is_flat, is_flat_loop, is_range, is_inner_head, is_inner_body, is_outer_body}
 use Rattle.gm_forms.specs.Order.{cannot_fail}
@@ -29,7 +29,7 @@ use Rattle.gm_loop_laws.specs.Pieces.{Piece, piece, pieces_of}
 use Rattle.gm_loop_laws.proofs.Chosen.{apart-disjoint}
 use Rattle.gm_dissect.specs.Conditions.{holds_cut, is_random}
 use Rattle.gm_dissect.proofs.Undeferred.{append-true}
-use Rattle.gm_cut.specs.Parts.{goes_any_way, locals_stay, falls_apart, piece_is_cut}
+use Rattle.gm_cut.specs.Parts.{goes_any_way, locals_stay, falls_apart, stands_at_edges, stands_along, is_parted, piece_is_parted}
 use Rattle.gm_cut.proofs.Roles.{touched-apart, iterates-of}
 use Rattle.gm_cut.proofs.Shared.{Under}
 use Rattle.gm_parting.specs.Tuples.{reduces_evenly}
@@ -240,18 +240,18 @@ module _ (ds : List Declaration) (n : ℕ) where
     -- ---- each piece is cut
 
     abbrev Cut : List Piece → Type 0
-    Cut ps = list_all (piece_is_cut goes_any_way ds n) ps ≡ true
+    Cut ps = list_all (piece_is_parted goes_any_way ds n) ps ≡ true
 
-    one-cut : (s : Stmt) (mask : Expr) → Part s → Lasts ds n (touched s) mask → own s || (is_mask n mask && is_along_edges (goes_any_way ds) ds n mask s) ≡ true → Cut (piece mask s)
+    one-cut : (s : Stmt) (mask : Expr) → Part s → Lasts ds n (touched s) mask → own s || (is_mask n mask && stands_along goes_any_way ds n mask s) ≡ true → Cut (piece mask s)
     one-cut s mask p l h =
         let m = and-true (cannot_fail mask) (is_flat (n ∷ []) false mask) l.sure l.flat in
         let part : Piece = record { mask = mask; part = s } in
-        and-true (piece_is_cut goes_any_way ds n part) true
-        (and-true (is_mask n mask) (is_cut goes_any_way ds n mask s) m
-        (and-true (is_flat_loop ds false n mask s) (own s || (is_mask n mask && is_along_edges (goes_any_way ds) ds n mask s)) (and-true (is_flat (n ∷ []) false mask) (is_outer_body ds false n s) l.flat p.form) h)) refl
+        and-true (piece_is_parted goes_any_way ds n part) true
+        (and-true (is_mask n mask) (is_parted goes_any_way ds n mask s) m
+        (and-true (is_flat_loop ds false n mask s) (own s || (is_mask n mask && stands_along goes_any_way ds n mask s)) (and-true (is_flat (n ∷ []) false mask) (is_outer_body ds false n s) l.flat p.form) h)) refl
 
     own-cut : (s : Stmt) (mask : Expr) → Part s → Lasts ds n (touched s) mask → own s ≡ true → Cut (piece mask s)
-    own-cut s mask p l o = one-cut s mask p l (ap (λ b. b || (is_mask n mask && is_along_edges (goes_any_way ds) ds n mask s)) o)
+    own-cut s mask p l o = one-cut s mask p l (ap (λ b. b || (is_mask n mask && stands_along goes_any_way ds n mask s)) o)
 
     wider-locals : (t : ℕ) (xs : List ℕ) → list_all (is_outside ds n) xs ≡ true → list_all (is_no_local ds (n ∷ t ∷ [])) xs ≡ true
     wider-locals t [] h = refl
@@ -291,12 +291,11 @@ module _ (ds : List Declaration) (n : ℕ) where
         let i = both-true (is_flat its true test) (is_inner_body ds its true body) f.1 in
         let u = all-append (suits ds) (uses_of_head hd) (uses_in test ++ uses_of body) p.named in
         let v = all-append (suits ds) (uses_in test) (uses_of body) u.1 in
-        let a = both-true (list_all (is_no_local ds its) seen) (spares_locals ds body && adds_last its body) p.apart in
-        let b = both-true (spares_locals ds body) (adds_last its body) a.1 in
+        let a = both-true (list_all (is_no_local ds its) seen) (spares_locals ds body) p.apart in
         let c = both-true (disjoint (kept_in all) (read_at n (with_reads (sights_in test) (sights_of ds n true body)).properties ++ seen)) (all_last_one_way all) p.inners in
         let reads = read_anywhere (reads_in mask) ++ told_in mask in
         let knows : knows_no_locals ds n t mask test body ≡ true =
-        and-true (list_all (is_no_local ds its) (told_in mask ++ seen)) (spares_locals ds body) (append-true (is_no_local ds its) (told_in mask) seen (wider-locals t (told_in mask) l.plain) a.0) b.0 in
+        and-true (list_all (is_no_local ds its) (told_in mask ++ seen)) (spares_locals ds body) (append-true (is_no_local ds its) (told_in mask) seen (wider-locals t (told_in mask) l.plain) a.0) a.1 in
         let clear : disjoint (touched body) (n ∷ (t ∷ reads)) ≡ true =
         apart-disjoint (touched body) (n ∷ (t ∷ reads)) (λ y j m.
         ⊎_elim (λ (e : y ≡ n). touched-apart ds n iterates body v.1 (subst (λ z. IsIn z (touched body)) e j))
@@ -304,12 +303,11 @@ module _ (ds : List Declaration) (n : ℕ) where
         let stays : mask_stays n mask hd body ≡ true =
         and-true (disjoint (touched body) (n ∷ (t ∷ reads))) (not (is_in (told_in mask) t)) clear
         (not-in (told_in mask) t (told-once t (told_in mask) l.plain (no-true (nat_eq t n) other.1) p.deep)) in
-        let edge : is_edge_loop ds n mask hd test body ≡ true =
-        and-true (knows_no_locals ds n t mask test body) (mask_stays n mask hd body && (has_plain_locals ds n test body && (all_one all && adds_last its body))) knows
-        (and-true (mask_stays n mask hd body) (has_plain_locals ds n test body && (all_one all && adds_last its body)) stays
-        (and-true (has_plain_locals ds n test body) (all_one all && adds_last its body) (plain-locals ds n its test body i.0 i.1 v.0 v.1)
-        (and-true (all_one all) (adds_last its body) (all-same-way all (all-clear ds n true body p.alike p.even) c.1) b.1))) in
-        one-cut (Foreach k at hd test body) mask p l (and-true (is_mask n mask) (is_edge_loop ds n mask hd test body) (and-true (cannot_fail mask) (is_flat (n ∷ []) false mask) l.sure l.flat) edge)
+        let edge : stands_at_edges ds n mask hd test body ≡ true =
+        and-true (knows_no_locals ds n t mask test body) (mask_stays n mask hd body && (has_plain_locals ds n test body && all_one all)) knows
+        (and-true (mask_stays n mask hd body) (has_plain_locals ds n test body && all_one all) stays
+        (and-true (has_plain_locals ds n test body) (all_one all) (plain-locals ds n its test body i.0 i.1 v.0 v.1) (all-same-way all (all-clear ds n true body p.alike p.even) c.1))) in
+        one-cut (Foreach k at hd test body) mask p l (and-true (is_mask n mask) (stands_at_edges ds n mask hd test body) (and-true (cannot_fail mask) (is_flat (n ∷ []) false mask) l.sure l.flat) edge)
       where
         no-true : (b : Bool) → not b ≡ true → b ≡ false
         no-true true h = absurd (both_ways false refl h)
@@ -326,7 +324,7 @@ module _ (ds : List Declaration) (n : ℕ) where
       where
         by : (o : Bool) → own (Then a b) ≡ o → Cut (pieces mask a) → Cut (pieces mask b) → Cut (cond o (piece mask (Then a b)) (pieces mask a ++ pieces mask b))
         by true o first second = own-cut (Then a b) mask p l o
-        by false o first second = append-true (piece_is_cut goes_any_way ds n) (pieces mask a) (pieces mask b) first second
+        by false o first second = append-true (piece_is_parted goes_any_way ds n) (pieces mask a) (pieces mask b) first second
     cuts (If k c a b) mask p l =
         let r = part-branches k c a b p in
         by (own (If k c a b)) refl (λ m. cuts a (Both mask c) r.0 (yes-lasts mask c a b l m)) (λ m. cuts b (Both mask (Unary Not here c)) r.1 (no-lasts mask c a b l m))
@@ -335,7 +333,7 @@ module _ (ds : List Declaration) (n : ℕ) where
             Cut (cond o (piece mask (If k c a b)) (pieces (Both mask c) a ++ pieces (Both mask (Unary Not here c)) b))
         by true o first second = own-cut (If k c a b) mask p l o
         by false o first second =
-            let m = condition-lasts k c a b p o in append-true (piece_is_cut goes_any_way ds n) (pieces (Both mask c) a) (pieces (Both mask (Unary Not here c)) b) (first m) (second m)
+            let m = condition-lasts k c a b p o in append-true (piece_is_parted goes_any_way ds n) (pieces (Both mask c) a) (pieces (Both mask (Unary Not here c)) b) (first m) (second m)
     cuts (Declare k x e) mask p l = own-cut (Declare k x e) mask p l refl
     cuts (Assign k t e) mask p l = own-cut (Assign k t e) mask p l refl
     cuts (Combine k total r ts es) mask p l = own-cut (Combine k total r ts es) mask p l refl

@@ -5,40 +5,39 @@ use Rattle.gm_forms.specs.Meanings.{SameMeaning}
 use Rattle.gm_forms.specs.Ready.{Ready2, Ready3}
 use Rattle.gm_forms.proofs.Meanings.{same-trans}
 use Rattle.gm_dissect.specs.AllDeferred.{without_deferred}
-use Rattle.gm_dissect.specs.Conditions.{with_saved_conditions}
 use Rattle.gm_dissect.proofs.AllDeferred as Deferred
-use Rattle.gm_dissect.proofs.LocalLaws.{all-same, all-ready}
-use Rattle.gm_dissect.proofs.SavedConditions as Conditions
-use Rattle.gm_cut.specs.Parts.{goes_any_way, in_pieces, IsCutBy}
+use Rattle.gm_cut.specs.Parts.{goes_any_way, in_pieces, IsPartedBy}
 use Rattle.gm_cut.specs.Slices.{can_be_sliced}
 use Rattle.gm_cut.proofs.PartLaws.{same-parted, ready-parted}
 use Rattle.gm_cut.proofs.SlicesLaws.{same-sliced, ready-sliced}
 use Rattle.gm_parting.specs.Filters.{with_saved_filters}
+use Rattle.gm_parting.specs.Numbers.{with_conditions_apart}
 use Rattle.gm_parting.specs.Passes.{prepared, dissected, MayBePrepared}
 use Rattle.gm_parting.specs.Prepared.{IsPrepared}
 use Rattle.gm_parting.proofs.DeferredFacts.{facts-stay}
-use Rattle.gm_parting.proofs.FilterFacts.{numbered-stay, sums-stay, movable-stay, tuples-stay, iterators-stay}
+use Rattle.gm_parting.proofs.FilterFacts.{declared-stay, checks-stay, tuples-stay, iterators-stay}
 use Rattle.gm_parting.proofs.FilterLaws as Filters
+use Rattle.gm_parting.proofs.GroupPrograms.{gone-ready, gone-same}
 use Rattle.gm_parting.proofs.Programs.{programs-parted}
-use Rattle.gm_parting.proofs.SavedPrograms.{all-prepared}
+use Rattle.gm_parting.proofs.SavedGroups.{all-kept, all-gone, apart-ready, apart-same}
 
 pub prepared-ready : (p : Program) → Ready2 p → Ready2 (prepared p)
 prepared-ready p r =
     let a = without_deferred p in
     let b = with_saved_filters a in
-    let c = with_saved_conditions b in
-    all-ready c (Conditions.ready-saved b (Filters.ready-saved a (Deferred.ready-all p r)))
+    let c = with_conditions_apart b in
+    gone-ready c (apart-ready b (Filters.ready-saved a (Deferred.ready-all p r)))
 
 pub prepared-same : (p : Program) → Ready2 p → SameMeaning p (prepared p)
 prepared-same p r =
     let a = without_deferred p in
     let b = with_saved_filters a in
-    let c = with_saved_conditions b in
+    let c = with_conditions_apart b in
     let ra = Deferred.ready-all p r in
     let rb = Filters.ready-saved a ra in
-    let rc = Conditions.ready-saved b rb in
+    let rc = apart-ready b rb in
     same-trans p a (prepared p) (Deferred.same-all p r)
-    (same-trans a b (prepared p) (Filters.same-saved a ra (Deferred.none-deferred p)) (same-trans b c (prepared p) (Conditions.same-saved b rb) (all-same c rc)))
+    (same-trans a b (prepared p) (Filters.same-saved a ra (Deferred.none-deferred p)) (same-trans b c (prepared p) (apart-same b rb) (gone-same c rc)))
 
 pub is-prepared : (p : Program) → Ready2 p → MayBePrepared p → IsPrepared (prepared p)
 is-prepared p r f =
@@ -47,14 +46,15 @@ is-prepared p r f =
     let ra = Deferred.ready-all p r in
     let rb = Filters.ready-saved a ra in
     let g = facts-stay p r f in
-    all-prepared b rb (Filters.none-saved a ra (Deferred.none-deferred p)) (Filters.filters-saved a ra) (numbered-stay a ra g.numbered) (movable-stay a ra g.locals) (sums-stay a ra g.sums) (tuples-stay a ra g.tuples) (iterators-stay a ra g.iterators)
+    all-gone b rb (Filters.none-saved a ra (Deferred.none-deferred p))
+    (all-kept b rb (Filters.filters-saved a ra) (declared-stay a ra g.declared) (checks-stay a ra g.checks) (tuples-stay a ra g.tuples) (iterators-stay a ra g.iterators))
 
 pub pieces-same : (p : Program) → Ready2 p → MayBePrepared p → SameMeaning p (in_pieces (prepared p))
 pieces-same p r f =
     let s = prepared-ready p r in
     same-trans p (prepared p) (in_pieces (prepared p)) (prepared-same p r) (same-parted goes_any_way (prepared p) s (programs-parted (prepared p) s (is-prepared p r f)))
 
-pub pieces-cut : (p : Program) → Ready2 p → MayBePrepared p → IsCutBy goes_any_way (in_pieces (prepared p))
+pub pieces-cut : (p : Program) → Ready2 p → MayBePrepared p → IsPartedBy goes_any_way (in_pieces (prepared p))
 pieces-cut p r f = let s = prepared-ready p r in ready-parted goes_any_way (prepared p) s (programs-parted (prepared p) s (is-prepared p r f))
 
 -- inner loops go to slices where they may

@@ -20,7 +20,7 @@ use Rattle.gm_forms.specs.Uses.{suits, uses_in, uses_of_head, uses_of}
 use Rattle.gm_forms.proofs.Named.{both-true, all-append}
 use Rattle.gm_forms.proofs.Weaker.{and-true}
 use Rattle.gm_dissect.specs.AllDeferred.{deferred_of, deferred_in, is_empty}
-use Rattle.gm_cut.specs.Parts.{goes_any_way, parts_of, piece_is_cut, falls_apart, is_separable, can_part, each_passes, can_be_parted}
+use Rattle.gm_cut.specs.Parts.{goes_any_way, parts_of, piece_is_parted, falls_apart, is_separable, can_part, each_passes, can_be_parted}
 use Rattle.gm_cut.specs.Runs.{joins_run, with_runs}
 use Rattle.gm_cut.proofs.Grouped.{uses-same, form-same, deferred-same, shares-same}
 use Rattle.gm_cut.proofs.Roles.{iterates-of}
@@ -99,7 +99,7 @@ module _ (ds : List Declaration) where
       } in
       let mine : Lasts ds n (touched whole) mask = subst (λ xs. Lasts ds n xs mask) (sym lasting.0) (lasts ds n (touched body) mask known.filter) in
       let iterates = iterates-of ds k at hd mask body known.named in
-      let all = list_all (piece_is_cut goes_any_way ds n) (parts_of n at mask body) in
+      let all = list_all (piece_is_parted goes_any_way ds n) (parts_of n at mask body) in
       and-true (is_mask n mask) (is_separable ds n whole && (falls_apart ds n at mask whole && all)) (and-true (cannot_fail mask) (is_flat (n ∷ []) false mask) mine.sure mine.flat)
       (and-true (is_separable ds n whole) (falls_apart ds n at mask whole && all) (separable ds n mask whole share even nothing known.outer)
       (and-true (falls_apart ds n at mask whole) all (falls ds n iterates at whole mask part mine known.stay) (cuts ds n iterates at whole mask part mine)))

@@ -17,7 +17,7 @@ use Rattle.gm_ast.specs.declared.tree.Sort.TheVariants as Sorts
 use Rattle.gm_ast.specs.declared.tree.Stage.TheVariants.{Operator, Total}
 use Rattle.gm_ast.specs.declared.tree.Target.{Target}
 use Rattle.gm_ast.specs.declared.tree.Target.TheVariants as T
-use Rattle.gm_ast.specs.Program.{Expr, Const, Var, Property, Binary, always, Stmt, Skip, Declare, Assign, Combine, Foreach, If, Program, sequence}
+use Rattle.gm_ast.specs.Program.{Expr, Const, Var, Property, Live, Binary, always, Stmt, Skip, Declare, Assign, Combine, Foreach, If, Program, sequence}
 use Rattle.gm_forms.specs.Cut.{adds_elsewhere, is_own_loop}
 use Rattle.gm_forms.specs.Forms.{is_levelled}
 use Rattle.gm_forms.specs.Order.{is_ordered}
@@ -29,12 +29,13 @@ use Rattle.gm_dissect.specs.Conditions.{with_saved_conditions, has_saved_conditi
 use Rattle.gm_dissect.specs.Locals.{with_kept_locals}
 use Rattle.gm_locals.specs.AllLocals.{has_moved_locals}
 use Rattle.gm_locals.specs.Groups.{with_locals_kept}
-use Rattle.gm_cut.specs.Parts.{goes_any_way, can_be_parted}
+use Rattle.gm_cut.specs.Parts.{goes_any_way, in_pieces, can_be_parted}
 use Rattle.gm_cut.specs.Runs.{with_runs, grouped}
+use Rattle.gm_cut.specs.Slices.{can_be_sliced}
 use Rattle.gm_parting.specs.Filters.{filter_saved, with_saved_filters}
-use Rattle.gm_parting.specs.InnerLoops.{has_inner_loops_apart, has_inner_sums_last, has_iterators_in_place}
+use Rattle.gm_parting.specs.InnerLoops.{has_inner_loops_apart, has_iterators_in_place}
 use Rattle.gm_parting.specs.Lasting.{has_lasting_filters, has_lasting_conditions, has_numbered_ifs, has_repeatable_conditions}
-use Rattle.gm_parting.specs.Locals.{has_movable_locals}
+use Rattle.gm_parting.specs.Locals.{has_declared_locals, has_no_checks}
 use Rattle.gm_parting.specs.Passes.{prepared}
 use Rattle.gm_parting.specs.Staying.{locals_stay_within, has_staying_locals}
 use Rattle.gm_parting.specs.Tuples.{has_even_tuples}
@@ -216,7 +217,7 @@ uneven-may = refl
 uneven-facts : facts uneven ≡ true ∷ true ∷ true ∷ true ∷ false ∷ true ∷ []
 uneven-facts = refl
 
--- what can fault behind a Sum through a node variable within an inner loop: Foreach (t: n.Nbrs) { r.c += 1; n.a min= 1 / t.b; } with r of the procedure
+-- what can fault behind a Sum through a node variable within an inner loop: Foreach (t: n.Nbrs) { r.c += 1; n.a min= 1 / t.b; } with r of the procedure. It may be a piece, and falls into slices
 abbrev table_with_node : List Declaration
 table_with_node =
     row Sorts.Graph V.I32 0 ∷ row Sorts.Iterator V.Node 1 ∷ row Sorts.Iterator V.Node 2 ∷ row Sorts.NodeProperty V.I32 0 ∷ row Sorts.NodeProperty V.I32 0 ∷ row Sorts.NodeProperty V.I32 0 ∷ row Sorts.NodeProperty V.Node 0 ∷ row Sorts.Scalar V.Node 0 ∷ []
@@ -227,10 +228,10 @@ behind = record (program (each always (along 2 (gives 3 Sum (T.Property 7 5 (at 
 behind-row : (is_ready behind && is_passed behind) ≡ true
 behind-row = refl
 
-behind-may : may behind ≡ false
+behind-may : may behind ≡ true
 behind-may = refl
 
-behind-facts : facts behind ≡ true ∷ true ∷ true ∷ false ∷ true ∷ true ∷ []
+behind-facts : facts behind ≡ true ∷ true ∷ true ∷ true ∷ true ∷ true ∷ []
 behind-facts = refl
 
 -- an outer iterator that is declared too deep, as a tree may have it
@@ -297,17 +298,24 @@ twin-conditions = refl
 twin-may : may (with_kept_locals (with_saved_conditions twin)) ≡ false
 twin-may = refl
 
--- ---- what a program must have for the passes, and what comes of them: numbered Ifs, locals that may go, calm Sums, even tuples, iterators in place
-abbrev needs : Program → List Bool
-needs p = has_numbered_ifs p ∷ has_movable_locals p ∷ has_inner_sums_last p ∷ has_even_tuples p ∷ has_iterators_in_place p ∷ []
+-- a check of a local, of which a tree may tell: Node y = n.d; Foreach (t: n.Nbrs) { t.c += n.b; } Node z = y, if it is one;
+abbrev checking : Program
+checking = program (each always (Declare (key 2) 7 (Some (own 6 2)) ∷ push 3 ∷ Declare (key 5) 8 (Some (Live 7 (at 5))) ∷ []))
 
-all-needs : needs plain ≡ true ∷ true ∷ true ∷ true ∷ true ∷ []
+checking-row : is_ready checking ≡ true
+checking-row = refl
+
+-- ---- what a program must have for the passes, and what comes of them: locals that are declared, no checks of nodes, even tuples, iterators in place
+abbrev needs : Program → List Bool
+needs p = has_declared_locals p ∷ has_no_checks p ∷ has_even_tuples p ∷ has_iterators_in_place p ∷ []
+
+all-needs : needs plain ≡ true ∷ true ∷ true ∷ true ∷ []
 all-needs = refl
 
-faulting-needs : needs faulting ≡ true ∷ true ∷ true ∷ true ∷ true ∷ []
+faulting-needs : needs faulting ≡ true ∷ true ∷ true ∷ true ∷ []
 faulting-needs = refl
 
-asking-needs : needs asking ≡ true ∷ true ∷ true ∷ true ∷ true ∷ []
+asking-needs : needs asking ≡ true ∷ true ∷ true ∷ true ∷ []
 asking-needs = refl
 
 plain-prepared : may (prepared plain) ≡ true
@@ -319,45 +327,85 @@ faulting-prepared = refl
 changing-prepared : may (prepared changing) ≡ true
 changing-prepared = refl
 
+behind-prepared : may (prepared behind) ≡ true
+behind-prepared = refl
+
+-- what can fault behind the Sum stands in another slice then
+behind-slices : can_be_sliced (in_pieces (prepared behind)) ≡ true
+behind-slices = refl
+
 asking-prepared : may (prepared asking) ≡ true
 asking-prepared = refl
 
--- each of these lacks one, and may not be cut then
-later-needs : needs later ≡ true ∷ false ∷ true ∷ true ∷ true ∷ []
+later-needs : needs later ≡ true ∷ true ∷ true ∷ true ∷ []
 later-needs = refl
 
-later-prepared : may (prepared later) ≡ false
+later-prepared : may (prepared later) ≡ true
 later-prepared = refl
 
-undeclared-needs : needs undeclared ≡ true ∷ false ∷ true ∷ true ∷ true ∷ []
+later-slices : can_be_sliced (in_pieces (prepared later)) ≡ true
+later-slices = refl
+
+inside-needs : needs inside ≡ true ∷ true ∷ true ∷ true ∷ []
+inside-needs = refl
+
+inside-prepared : may (prepared inside) ≡ true
+inside-prepared = refl
+
+inside-slices : can_be_sliced (in_pieces (prepared inside)) ≡ true
+inside-slices = refl
+
+twice-needs : needs twice ≡ true ∷ true ∷ true ∷ true ∷ []
+twice-needs = refl
+
+twice-prepared : may (prepared twice) ≡ true
+twice-prepared = refl
+
+twice-slices : can_be_sliced (in_pieces (prepared twice)) ≡ true
+twice-slices = refl
+
+-- its Ifs get numbers of their own
+twin-needs : needs twin ≡ true ∷ true ∷ true ∷ true ∷ []
+twin-needs = refl
+
+twin-prepared : may (prepared twin) ≡ true
+twin-prepared = refl
+
+-- a condition around reductions that go several ways: Foreach (t: n.Nbrs) { If (n.b == 0) { t.c += n.b; n.a min= t.b; } }. It may be cut, but does not go to slices
+abbrev several : Program
+several =
+    program (each always (along 2 (If (key 3) (Binary Eq (at 3) (own 4 3) (number 0)) (sequence (gives 4 Sum (T.Property 2 5 (at 4) ∷ []) (own 4 4 ∷ []) ∷ gives 5 Min (T.Property 1 3 (at 5) ∷ []) (Property 2 4 (at 5) ∷ []) ∷ [])) Skip ∷ []) ∷ []))
+
+several-row : (is_ready several && may (prepared several)) ≡ true
+several-row = refl
+
+several-slices : can_be_sliced (in_pieces (prepared several)) ≡ false
+several-slices = refl
+
+-- each of these lacks one, and may not be cut then
+checking-needs : needs checking ≡ true ∷ false ∷ true ∷ true ∷ []
+checking-needs = refl
+
+checking-prepared : may (prepared checking) ≡ false
+checking-prepared = refl
+
+undeclared-needs : needs undeclared ≡ false ∷ true ∷ true ∷ true ∷ []
 undeclared-needs = refl
 
 undeclared-prepared : may (prepared undeclared) ≡ false
 undeclared-prepared = refl
 
-uneven-needs : needs uneven ≡ true ∷ false ∷ true ∷ false ∷ true ∷ []
+uneven-needs : needs uneven ≡ true ∷ true ∷ false ∷ true ∷ []
 uneven-needs = refl
 
 uneven-prepared : may (prepared uneven) ≡ false
 uneven-prepared = refl
 
-behind-needs : needs behind ≡ true ∷ true ∷ false ∷ true ∷ true ∷ []
-behind-needs = refl
-
-behind-prepared : may (prepared behind) ≡ false
-behind-prepared = refl
-
-deep-needs : needs deep ≡ true ∷ true ∷ true ∷ true ∷ false ∷ []
+deep-needs : needs deep ≡ true ∷ true ∷ true ∷ false ∷ []
 deep-needs = refl
 
 deep-prepared : may (prepared deep) ≡ false
 deep-prepared = refl
-
-twin-needs : needs twin ≡ false ∷ true ∷ true ∷ true ∷ true ∷ []
-twin-needs = refl
-
-twin-prepared : may (prepared twin) ≡ false
-twin-prepared = refl
 
 -- ---- nodes through which something is reached: what would do
 
@@ -398,10 +446,10 @@ paired = record (program (each always (Declare (key 2) 9 (Some (number 0)) ∷ D
 paired-row : is_ready paired ≡ true
 paired-row = refl
 
-paired-needs : needs paired ≡ true ∷ false ∷ true ∷ true ∷ true ∷ []
+paired-needs : needs paired ≡ true ∷ true ∷ true ∷ true ∷ []
 paired-needs = refl
 
-paired-prepared : may (prepared paired) ≡ false
+paired-prepared : may (prepared paired) ≡ true
 paired-prepared = refl
 
 paired-together : may (with_locals_kept (9 ∷ 12 ∷ []) paired) ≡ true

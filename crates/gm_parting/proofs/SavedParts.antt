@@ -18,8 +18,9 @@ use Rattle.gm_loop_laws.proofs.Kept.{touched-below}
 use Rattle.gm_dissect.specs.AllDeferred.{deferred_of, is_empty}
 use Rattle.gm_dissect.specs.Conditions.{holds_cut, numbers_of, saved_first, with_saved}
 use Rattle.gm_cut.proofs.Grouped.{and-one, two-same}
-use Rattle.gm_parting.specs.InnerLoops.{inner_sums_last, inner_iterators_deep}
+use Rattle.gm_parting.specs.InnerLoops.{inner_iterators_deep}
 use Rattle.gm_parting.specs.Lasting.{may_be_repeated, conditions_repeat, if_numbers, ifs_are_numbered}
+use Rattle.gm_parting.specs.Locals.{checks_none, checks_nothing}
 use Rattle.gm_parting.specs.Tuples.{reduces_evenly}
 use Rattle.gm_parting.proofs.Lasting.{not-in, out-of}
 
@@ -55,9 +56,6 @@ module _ (local : Key → Option ℕ) (at : Place) where
   pub body-saved : (n : ℕ) (s : Stmt) → is_own_body n (sv s) ≡ is_own_body n s
   body-saved n = test-saved (is_own_body n) refl (λ a b. refl) (λ k c a b. refl) (λ k y e. refl)
 
-  pub sums-saved : (n : ℕ) (s : Stmt) → inner_sums_last n (sv s) ≡ inner_sums_last n s
-  sums-saved n = test-saved (inner_sums_last n) refl (λ a b. refl) (λ k c a b. refl) (λ k y e. refl)
-
   pub deep-saved : (ds : List Declaration) (s : Stmt) → inner_iterators_deep ds (sv s) ≡ inner_iterators_deep ds s
   deep-saved ds = test-saved (inner_iterators_deep ds) refl (λ a b. refl) (λ k c a b. refl) (λ k y e. refl)
 
@@ -70,6 +68,18 @@ module _ (local : Key → Option ℕ) (at : Place) where
 
   pub none-saved : (s : Stmt) → is_empty (deferred_of (sv s)) ≡ is_empty (deferred_of s)
   none-saved = test-saved (λ s. is_empty (deferred_of s)) refl (λ a b. empty-both (deferred_of a) (deferred_of b)) (λ k c a b. empty-both (deferred_of a) (deferred_of b)) (λ k y e. refl)
+
+  pub checks-saved : (s : Stmt) → checks_nothing s ≡ true → checks_nothing (sv s) ≡ true
+  checks-saved (Then a b) h = let r = both-true (checks_nothing a) (checks_nothing b) h in and-true (checks_nothing (sv a)) (checks_nothing (sv b)) (checks-saved a r.0) (checks-saved b r.1)
+  checks-saved (If k c a b) h =
+      let r = both-true (checks_none c) (checks_nothing a && checks_nothing b) h in
+      let p = both-true (checks_nothing a) (checks_nothing b) r.1 in
+      by (local k) r.0 (and-true (checks_nothing (sv a)) (checks_nothing (sv b)) (checks-saved a p.0) (checks-saved b p.1))
+    where
+      by : (o : Option ℕ) → checks_none c ≡ true → checks_nothing (sv a) && checks_nothing (sv b) ≡ true → checks_nothing (saved_first o at k c (sv a) (sv b)) ≡ true
+      by None e f = and-true (checks_none c) (checks_nothing (sv a) && checks_nothing (sv b)) e f
+      by (Some y) e f = and-true (checks_none c) ((checks_nothing (sv a) && checks_nothing (sv b)) && true) e (and-true (checks_nothing (sv a) && checks_nothing (sv b)) true f refl)
+  checks-saved s h = h
 
   -- ---- what is own
 

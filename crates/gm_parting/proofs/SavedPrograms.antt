@@ -39,9 +39,9 @@ use Rattle.gm_dissect.proofs.Longer.{depth-same}
 use Rattle.gm_dissect.proofs.SavedConditions.{ready-saved}
 use Rattle.gm_cut.specs.Parts.{each_passes}
 use Rattle.gm_cut.proofs.Roles.{touched-apart, iterates-of}
-use Rattle.gm_parting.specs.InnerLoops.{inner_iterators_deep, inner_sums_last, has_inner_sums_last, has_iterators_in_place}
+use Rattle.gm_parting.specs.InnerLoops.{inner_iterators_deep, has_iterators_in_place}
 use Rattle.gm_parting.specs.Lasting.{is_lasting, ifs_are_numbered, conditions_repeat, has_lasting_filters, has_repeatable_conditions, has_numbered_ifs}
-use Rattle.gm_parting.specs.Locals.{may_be_kept, locals_may_go, has_movable_locals}
+use Rattle.gm_parting.specs.Locals.{may_be_kept, locals_may_go, has_movable_locals, declares_its_locals, checks_nothing}
 use Rattle.gm_parting.specs.Prepared.{IsPrepared}
 use Rattle.gm_parting.specs.Tuples.{reduces_evenly, has_even_tuples}
 use Rattle.gm_parting.proofs.Lasting.{lasts, lasting, not-in, out-of}
@@ -49,7 +49,7 @@ use Rattle.gm_parting.proofs.Loops.{Test, sound-of, each-kept, both, each-both, 
 use Rattle.gm_parting.proofs.MovedNames.{evenly-longer, deep-longer}
 use Rattle.gm_parting.proofs.MovedPrograms.{Facts, Known, bundle, bundled, facts-of, of-facts, part-of, either-way, known-prepared}
 use Rattle.gm_parting.proofs.SavedNames.{plain-fresh, outer-fresh, may-still, declared-still, names-still}
-use Rattle.gm_parting.proofs.SavedParts.{New, own-saved, sums-saved, deep-saved, even-saved, none-saved, touched-saved, repeat-saved}
+use Rattle.gm_parting.proofs.SavedParts.{New, own-saved, deep-saved, even-saved, none-saved, checks-saved, touched-saved, repeat-saved}
 
 -- ---- the locals of conditions
 
@@ -73,7 +73,7 @@ local-range first (x ∷ xs) k y h = by (nat_eq x k.statement) (local-range (suc
     by true rest h = let same : first ≡ y = cc in (omega (arith, same), omega (arith, same))
     by false rest h = let r = rest h in let a = r.0 in let b = r.1 in (omega (arith, a), omega (arith, b))
 
-local-found : (first : ℕ) (xs : List ℕ) (k : Key) → IsIn k.statement xs → local_of first xs k ≡ None → ⊥
+pub local-found : (first : ℕ) (xs : List ℕ) (k : Key) → IsIn k.statement xs → local_of first xs k ≡ None → ⊥
 local-found first [] k i h = absurd i
 local-found first (x ∷ xs) k i h = by (nat_eq x k.statement) refl (local-found (suc first) xs k) h
   where
@@ -97,7 +97,7 @@ local-one first (x ∷ xs) k j y h g = by (nat_eq x k.statement) (nat_eq x j.sta
     by false false e f h g rest = rest h g
 
 -- what reads none of some variables reads none of fresh ones either
-spares-apart : (q : ℕ) (xs ys : List ℕ) → ((y : ℕ) → IsIn y ys → IsIn y xs ⊎ (q ≤ y)) → (e : Expr) → ReadsBelow q e → spares xs e ≡ true → spares ys e ≡ true
+pub spares-apart : (q : ℕ) (xs ys : List ℕ) → ((y : ℕ) → IsIn y ys → IsIn y xs ⊎ (q ≤ y)) → (e : Expr) → ReadsBelow q e → spares xs e ≡ true → spares ys e ≡ true
 spares-apart q xs ys now e below h = by e below h
   where
     one : (z : ℕ) → z < q → not (is_in xs z) ≡ true → not (is_in ys z) ≡ true
@@ -122,6 +122,10 @@ spares-apart q xs ys now e below h = by e below h
         and-true (spares ys f) (spares ys c && spares ys d) (by f b.0 r.0) (and-true (spares ys c) (spares ys d) (by c b.1 s.0) (by d b.2 s.1))
     by (Folded f hd test e) b h = absurd (both_ways false refl h)
 
+-- what is kept of a loop whose locals are declared in it
+abbrev pub keeps : List Declaration → ℕ → Expr → Stmt → Bool
+keeps ds n test body = is_lasting ds n (touched body) test && (declares_its_locals ds n body && (checks_nothing body && (reduces_evenly ds body && (nat_lt (depth_at ds n) 2 && inner_iterators_deep ds body))))
+
 -- what is known of a loop before
 record Before (ds : List Declaration) (n : ℕ) (test : Expr) (body : Stmt) : Type 0 where
   filter : is_lasting ds n (touched body) test ≡ true
@@ -130,17 +134,16 @@ record Before (ds : List Declaration) (n : ℕ) (test : Expr) (body : Stmt) : Ty
   even : reduces_evenly ds body ≡ true
   outer : nat_lt (depth_at ds n) 2 ≡ true
   deep : inner_iterators_deep ds body ≡ true
-  sums : inner_sums_last n body ≡ true
 
 -- ds: the table; res: the result's type; xs: the numbers of the statements whose conditions are saved
 module _ (ds : List Declaration) (res : Option VType) (xs : List ℕ) where
-  abbrev dt : List Declaration
+  abbrev pub dt : List Declaration
   dt = ds ++ flag_locals xs
 
   abbrev q : ℕ
   q = length ds
 
-  abbrev local : Key → Option ℕ
+  abbrev pub local : Key → Option ℕ
   local = local_of (length ds) xs
 
   more : length ds ≤ length dt
@@ -189,7 +192,6 @@ module _ (ds : List Declaration) (res : Option VType) (xs : List ℕ) where
           even = even-saved local at dt body ∙ evenly-longer 0 q n at V.Flag ds dt same more refl body below.3 f.even;
           outer = ap (λ d. nat_lt d 2) (depth-same ds dt same more n below.0) ∙ f.outer;
           deep = deep-saved local at dt body ∙ deep-longer 0 q n at V.Flag ds dt same more refl body below.3 f.deep;
-          sums = sums-saved local at n body ∙ f.sums;
         }
       where
         second : (a b : Bool) → b ≡ true → a || b ≡ true
@@ -217,19 +219,59 @@ module _ (ds : List Declaration) (res : Option VType) (xs : List ℕ) where
             (and-true (declares z (sv body)) (names_plainly z test && may_move z n (sv body)) d
             (and-true (names_plainly z test) (may_move z n (sv body)) (plain-fresh q z high (n ∷ []) false test form.0 below.2) (outer-fresh q z high ds n local at beyond below.0 body form.1 below.3 off))))
 
+    pub repeats-saved : ((j : Key) → IsIn j.statement (numbers_of n body) → local j ≡ None → ⊥) → ifs_are_numbered n body ≡ true → conditions_repeat dt n (sv body) ≡ true
+    repeats-saved listed numbered = repeat-saved local at dt n q beyond (λ j y e. ap (λ (v : Variable). nat_lt v.depth 2) (is-flag j y e)) (λ i j y. local-one (length ds) xs i j y) body listed below.3 numbered
+
+    -- where its locals are declared in it
+    pub keeps-saved : keeps ds n test body ≡ true → keeps dt n test (sv body) ≡ true
+    keeps-saved f =
+        let place = nat_lt (depth_at ds n) 2 && inner_iterators_deep ds body in
+        let r1 = both-true (is_lasting ds n (touched body) test) (declares_its_locals ds n body && (checks_nothing body && (reduces_evenly ds body && place))) f in
+        let r2 = both-true (declares_its_locals ds n body) (checks_nothing body && (reduces_evenly ds body && place)) r1.1 in
+        let r3 = both-true (checks_nothing body) (reduces_evenly ds body && place) r2.1 in
+        let r4 = both-true (reduces_evenly ds body) place r3.1 in
+        let r5 = both-true (nat_lt (depth_at ds n) 2) (inner_iterators_deep ds body) r4.1 in
+        let l = lasts ds n (touched body) test r1.0 in
+        let place' = nat_lt (depth_at dt n) 2 && inner_iterators_deep dt (sv body) in
+        and-true (is_lasting dt n (touched (sv body)) test) (declares_its_locals dt n (sv body) && (checks_nothing (sv body) && (reduces_evenly dt (sv body) && place')))
+        (lasting dt n (touched (sv body)) test (record {
+          sure = l.sure;
+          flat = l.flat;
+          spare = spares-apart q (touched body) (touched (sv body)) (λ y i. ⊎_elim (λ j. inl j) (λ (r : New local at body y). inr (beyond r.key y r.is)) (touched-saved local at body y i)) test below.2 l.spare;
+          plain = outside-longer ds dt same more n (told_in test) (told-below q test below.2) l.plain;
+        }))
+        (and-true (declares_its_locals dt n (sv body)) (checks_nothing (sv body) && (reduces_evenly dt (sv body) && place'))
+        (names-still local at n q beyond below.0 (λ its z. is_no_local ds its z || declares z body) (λ its z. is_no_local dt its z || declares z (sv body)) (λ z. declares z (sv body) ≡ true) known flag (n ∷ []) body below.3 (λ z e. e) r2.0)
+        (and-true (checks_nothing (sv body)) (reduces_evenly dt (sv body) && place') (checks-saved local at body r3.0)
+        (and-true (reduces_evenly dt (sv body)) place' (even-saved local at dt body ∙ evenly-longer 0 q n at V.Flag ds dt same more refl body below.3 r4.0)
+        (and-true (nat_lt (depth_at dt n) 2) (inner_iterators_deep dt (sv body)) (ap (λ d. nat_lt d 2) (depth-same ds dt same more n below.0) ∙ r5.0)
+        (deep-saved local at dt body ∙ deep-longer 0 q n at V.Flag ds dt same more refl body below.3 r5.1)))))
+      where
+        second : (a b : Bool) → b ≡ true → a || b ≡ true
+        second true b h = refl
+        second false b h = h
+
+        known : (its : List ℕ) (z : ℕ) → z < q → is_no_local ds its z || declares z body ≡ true → is_no_local dt its z || declares z (sv body) ≡ true
+        known its z low h =
+            ⊎_elim (λ (g : is_no_local ds its z ≡ true). ap (λ b. b || declares z (sv body)) (ap (λ d. is_in its z || not (nat_eq d 1)) (depth-same ds dt same more z low) ∙ g))
+            (λ (g : declares z body ≡ true). second (is_no_local dt its z) (declares z (sv body)) (declared-still local at n q beyond below.0 z body g)) (either-true (is_no_local ds its z) (declares z body) h)
+
+        flag : (its : List ℕ) (j : Key) (z : ℕ) → local j ≡ Some z → declares z (sv body) ≡ true → is_no_local dt its z || declares z (sv body) ≡ true
+        flag its j z e d = second (is_no_local dt its z) (declares z (sv body)) d
+
 -- the statements whose conditions are saved are listed
-abbrev listed : List ℕ → Test
+abbrev pub listed : List ℕ → Test
 listed xs k at h test body = list_all (is_in xs) (numbers_of h.iterator body)
 
 all-in : (ys xs : List ℕ) → ((y : ℕ) → IsIn y ys → IsIn y xs) → list_all (is_in xs) ys ≡ true
 all-in [] xs u = refl
 all-in (y ∷ ys) xs u = and-true (is_in xs y) (list_all (is_in xs) ys) (finds xs y (u y (inl refl))) (all-in ys xs (λ z i. u z (inr i)))
 
-in-all : (ys xs : List ℕ) → list_all (is_in xs) ys ≡ true → (y : ℕ) → IsIn y ys → IsIn y xs
+pub in-all : (ys xs : List ℕ) → list_all (is_in xs) ys ≡ true → (y : ℕ) → IsIn y ys → IsIn y xs
 in-all [] xs h y i = absurd i
 in-all (z ∷ ys) xs h y i = let r = both-true (is_in xs z) (list_all (is_in xs) ys) h in ⊎_elim (λ (e : y ≡ z). subst (λ w. IsIn w xs) (sym e) (found xs z r.0)) (λ j. in-all ys xs r.1 y j) i
 
-each-listed : (xs : List ℕ) (s : Stmt) → ((y : ℕ) → IsIn y (numbers_in s) → IsIn y xs) → each_passes (listed xs) s ≡ true
+pub each-listed : (xs : List ℕ) (s : Stmt) → ((y : ℕ) → IsIn y (numbers_in s) → IsIn y xs) → each_passes (listed xs) s ≡ true
 each-listed xs (Then a b) u =
     and-true (each_passes (listed xs) a) (each_passes (listed xs) b) (each-listed xs a (λ y i. u y (in-left y (numbers_in a) (numbers_in b) i))) (each-listed xs b (λ y i. u y (in-right y (numbers_in a) (numbers_in b) i)))
 each-listed xs (Foreach k at hd test body) u = all-in (numbers_of hd.iterator body) xs u
@@ -242,37 +284,36 @@ each-listed xs s u = refl
 
 -- ---- programs
 
-saved-known : (p : Program) → Ready2 p → has_no_deferred p ≡ true → has_lasting_filters p ≡ true → has_numbered_ifs p ≡ true → has_movable_locals p ≡ true → has_inner_sums_last p ≡ true → has_even_tuples p ≡ true → has_iterators_in_place p ≡ true →
+saved-known : (p : Program) → Ready2 p → has_no_deferred p ≡ true → has_lasting_filters p ≡ true → has_numbered_ifs p ≡ true → has_movable_locals p ≡ true → has_even_tuples p ≡ true → has_iterators_in_place p ≡ true →
     Known (with_saved_conditions p)
-saved-known p r none f1 f2 f3 f4 f5 f6 =
+saved-known p r none f1 f2 f3 f5 f6 =
     let ds = p.declarations in
     let xs = numbers_in p.body in
     let s = sound-of p r in
     let A : Test = λ k at h test body. is_own_loop h.iterator body || is_lasting ds h.iterator (touched body) test in
     let B : Test = λ k at h test body. is_own_loop h.iterator body || ifs_are_numbered h.iterator body in
     let C : Test = λ k at h test body. is_own_loop h.iterator body || locals_may_go ds h.iterator test body in
-    let D : Test = λ k at h test body. is_own_loop h.iterator body || inner_sums_last h.iterator body in
     let E : Test = λ k at h test body. is_own_loop h.iterator body || reduces_evenly ds body in
     let F : Test = λ k at h test body. is_own_loop h.iterator body || (nat_lt (depth_at ds h.iterator) 2 && inner_iterators_deep ds body) in
     record {
       ready = ready-saved p r;
       none = each-kept ds p.result defers_nothing defers_nothing (saved_loop (local ds p.result xs)) (λ k at h test body w e. none-saved (local ds p.result xs) at body ∙ e) p.body s (sym (deferred-each p.body) ∙ none);
-      facts = each-kept ds p.result (both (listed xs) (both A (both B (both C (both D (both E F)))))) (bundled (dt ds p.result xs)) (saved_loop (local ds p.result xs))
+      facts = each-kept ds p.result (both (listed xs) (both A (both B (both C (both E F))))) (bundled (dt ds p.result xs)) (saved_loop (local ds p.result xs))
           (λ k at h test body w e.
           let n = h.iterator in
-          let a = both-true (list_all (is_in xs) (numbers_of n body)) (both A (both B (both C (both D (both E F)))) k at h test body) e in
+          let a = both-true (list_all (is_in xs) (numbers_of n body)) (both A (both B (both C (both E F))) k at h test body) e in
           loop k at h test body w (in-all (numbers_of n body) xs a.0) a.1)
-          p.body s (each-both (listed xs) (both A (both B (both C (both D (both E F))))) p.body (each-listed xs p.body (λ y i. i))
-          (each-both A (both B (both C (both D (both E F)))) p.body f1 (each-both B (both C (both D (both E F))) p.body f2 (each-both C (both D (both E F)) p.body f3 (each-both D (both E F) p.body f4 (each-both E F p.body f5 f6))))));
+          p.body s (each-both (listed xs) (both A (both B (both C (both E F)))) p.body (each-listed xs p.body (λ y i. i))
+          (each-both A (both B (both C (both E F))) p.body f1 (each-both B (both C (both E F)) p.body f2 (each-both C (both E F) p.body f3 (each-both E F p.body f5 f6)))));
     }
   where
-    all : (o a b c d e f : Bool) → (o || a) && ((o || b) && ((o || c) && ((o || d) && ((o || e) && (o || f))))) ≡ true → o || (a && (b && (c && (d && (e && f))))) ≡ true
-    all true a b c d e f h = refl
-    all false a b c d e f h = h
+    all : (o a b c e f : Bool) → (o || a) && ((o || b) && ((o || c) && ((o || e) && (o || f)))) ≡ true → o || (a && (b && (c && (e && f)))) ≡ true
+    all true a b c e f h = refl
+    all false a b c e f h = h
 
     loop : (k : Key) (at : Place) (h : Head) (test : Expr) (body : Stmt) → Sound p.declarations p.result (Foreach k at h test body) → ((y : ℕ) → IsIn y (numbers_of h.iterator body) → IsIn y (numbers_in p.body)) →
         (is_own_loop h.iterator body || is_lasting p.declarations h.iterator (touched body) test) && ((is_own_loop h.iterator body || ifs_are_numbered h.iterator body) && ((is_own_loop h.iterator body || locals_may_go p.declarations h.iterator test body)
-        && ((is_own_loop h.iterator body || inner_sums_last h.iterator body) && ((is_own_loop h.iterator body || reduces_evenly p.declarations body) && (is_own_loop h.iterator body || (nat_lt (depth_at p.declarations h.iterator) 2 && inner_iterators_deep p.declarations body)))))) ≡ true →
+        && ((is_own_loop h.iterator body || reduces_evenly p.declarations body) && (is_own_loop h.iterator body || (nat_lt (depth_at p.declarations h.iterator) 2 && inner_iterators_deep p.declarations body))))) ≡ true →
         bundled (dt p.declarations p.result (numbers_in p.body)) k at h test (with_saved (local p.declarations p.result (numbers_in p.body)) at body) ≡ true
     loop k at h test body w u e =
         let ds = p.declarations in
@@ -282,32 +323,30 @@ saved-known p r none f1 f2 f3 f4 f5 f6 =
         let a = is_lasting ds n (touched body) test in
         let b = ifs_are_numbered n body in
         let c = locals_may_go ds n test body in
-        let d = inner_sums_last n body in
         let v = reduces_evenly ds body in
         let f = nat_lt (depth_at ds n) 2 && inner_iterators_deep ds body in
-        either-way (is_own_loop n body) (is_own_loop n new) (a && (b && (c && (d && (v && f))))) (bundle (dt ds p.result xs) n test new) (own-saved (local ds p.result xs) at n body)
+        either-way (is_own_loop n body) (is_own_loop n new) (a && (b && (c && (v && f)))) (bundle (dt ds p.result xs) n test new) (own-saved (local ds p.result xs) at n body)
         (λ g.
-        let g1 = both-true a (b && (c && (d && (v && f)))) g in
-        let g2 = both-true b (c && (d && (v && f))) g1.1 in
-        let g3 = both-true c (d && (v && f)) g2.1 in
-        let g4 = both-true d (v && f) g3.1 in
-        let g5 = both-true v f g4.1 in
+        let g1 = both-true a (b && (c && (v && f))) g in
+        let g2 = both-true b (c && (v && f)) g1.1 in
+        let g3 = both-true c (v && f) g2.1 in
+        let g5 = both-true v f g3.1 in
         let g6 = both-true (nat_lt (depth_at ds n) 2) (inner_iterators_deep ds body) g5.1 in
         of-facts (dt ds p.result xs) n test new
-        (saved-facts ds p.result xs k at h test body w (λ j i. local-found (length ds) xs j (u j.statement i)) (record { filter = g1.0; numbered = g2.0; locals = g3.0; even = g5.0; outer = g6.0; deep = g6.1; sums = g4.0 })))
-        (all (is_own_loop n body) a b c d v f e)
+        (saved-facts ds p.result xs k at h test body w (λ j i. local-found (length ds) xs j (u j.statement i)) (record { filter = g1.0; numbered = g2.0; locals = g3.0; even = g5.0; outer = g6.0; deep = g6.1 })))
+        (all (is_own_loop n body) a b c v f e)
 
 -- conditions that are saved may be repeated
-pub conditions-saved : (p : Program) → Ready2 p → has_no_deferred p ≡ true → has_lasting_filters p ≡ true → has_numbered_ifs p ≡ true → has_movable_locals p ≡ true → has_inner_sums_last p ≡ true → has_even_tuples p ≡ true → has_iterators_in_place p ≡ true →
+pub conditions-saved : (p : Program) → Ready2 p → has_no_deferred p ≡ true → has_lasting_filters p ≡ true → has_numbered_ifs p ≡ true → has_movable_locals p ≡ true → has_even_tuples p ≡ true → has_iterators_in_place p ≡ true →
     has_repeatable_conditions (with_saved_conditions p) ≡ true
-conditions-saved p r none f1 f2 f3 f4 f5 f6 =
-    let known = saved-known p r none f1 f2 f3 f4 f5 f6 in
+conditions-saved p r none f1 f2 f3 f5 f6 =
+    let known = saved-known p r none f1 f2 f3 f5 f6 in
     let out = with_saved_conditions p in
     let ds = out.declarations in
     each-so ds out.result (bundled ds) (λ k at h test body. is_own_loop h.iterator body || conditions_repeat ds h.iterator body)
     (λ k at h test body c q. part-of (is_own_loop h.iterator body) (bundle ds h.iterator test body) (conditions_repeat ds h.iterator body) (λ g. (facts-of ds h.iterator test body g).conditions) q) out.body (sound-of out known.ready) known.facts
 
 -- a program whose conditions are saved, and whose locals have gone to properties then, is prepared
-pub all-prepared : (p : Program) → Ready2 p → has_no_deferred p ≡ true → has_lasting_filters p ≡ true → has_numbered_ifs p ≡ true → has_movable_locals p ≡ true → has_inner_sums_last p ≡ true → has_even_tuples p ≡ true → has_iterators_in_place p ≡ true →
+pub all-prepared : (p : Program) → Ready2 p → has_no_deferred p ≡ true → has_lasting_filters p ≡ true → has_numbered_ifs p ≡ true → has_movable_locals p ≡ true → has_even_tuples p ≡ true → has_iterators_in_place p ≡ true →
     IsPrepared (with_kept_locals (with_saved_conditions p))
-all-prepared p r none f1 f2 f3 f4 f5 f6 = known-prepared (with_saved_conditions p) (saved-known p r none f1 f2 f3 f4 f5 f6)
+all-prepared p r none f1 f2 f3 f5 f6 = known-prepared (with_saved_conditions p) (saved-known p r none f1 f2 f3 f5 f6)

@@ -25,7 +25,7 @@ use Rattle.gm_cut.specs.Runs.{joins_run, with_runs}
 use Rattle.gm_cut.proofs.Grouped.{uses-same, form-same, alike-same}
 use Rattle.gm_cut.proofs.Roles.{iterates-of}
 use Rattle.gm_cut.proofs.Shared.{shares-alike}
-use Rattle.gm_parting.specs.InnerLoops.{inner_loops_apart, inner_sums_last, has_iterators_in_place, has_inner_sums_last}
+use Rattle.gm_parting.specs.InnerLoops.{inner_loops_apart, has_iterators_in_place}
 use Rattle.gm_parting.specs.Lasting.{is_outside, is_shallow, is_lasting, conditions_last, may_be_repeated, conditions_repeat, has_lasting_filters, has_repeatable_conditions}
 use Rattle.gm_parting.specs.Locals.{names_pass, names_no_local, has_no_locals}
 use Rattle.gm_parting.specs.Prepared.{IsPrepared}
@@ -41,9 +41,6 @@ module _ (ds : List Declaration) (res : Option VType) where
 
   abbrev tuples : Test
   tuples k at h test body = is_own_loop h.iterator body || reduces_evenly ds body
-
-  abbrev sums : Test
-  sums k at h test body = is_own_loop h.iterator body || inner_sums_last h.iterator body
 
   abbrev repeatable : Test
   repeatable k at h test body = is_own_loop h.iterator body || conditions_repeat ds h.iterator body
@@ -105,11 +102,15 @@ module _ (ds : List Declaration) (res : Option VType) where
         stays-within ds n (iterates-of ds k at hd test body sound.named) (with_runs n body) (form-same own joins ds n body ∙ form) (ap (list_all (suits ds)) (uses-same own joins body) ∙ named) (names-same own joins (is_no_local ds) (n ∷ []) body ∙ l)
         (alike-same own joins body ∙ shares-alike ds n test body sound.share) (even-same own joins ds body ∙ e)
 
-    apart : names_no_local ds n body ≡ true → inner_sums_last n body ≡ true → inner_loops_apart ds n body ≡ true
-    apart l e = loops-apart ds n (iterates-of ds k at hd test body sound.named) body form named l e
+    apart : names_no_local ds n body ≡ true → inner_loops_apart ds n body ≡ true
+    apart l = loops-apart ds n (iterates-of ds k at hd test body sound.named) body form named l
 
-pub without-locals : (p : Program) → Ready2 p → has_no_deferred p ≡ true → has_lasting_filters p ≡ true → has_repeatable_conditions p ≡ true → has_no_locals p ≡ true → has_inner_sums_last p ≡ true → has_even_tuples p ≡ true → has_iterators_in_place p ≡ true → IsPrepared p
-without-locals p r none filters conditions locals last even placed =
+spared : (o x y : Bool) → (x ≡ true → y ≡ true) → o || x ≡ true → o || y ≡ true
+spared true x y f h = refl
+spared false x y f h = f h
+
+pub without-locals : (p : Program) → Ready2 p → has_no_deferred p ≡ true → has_lasting_filters p ≡ true → has_repeatable_conditions p ≡ true → has_no_locals p ≡ true → has_even_tuples p ≡ true → has_iterators_in_place p ≡ true → IsPrepared p
+without-locals p r none filters conditions locals even placed =
     let ds = p.declarations in
     let res = p.result in
     let s = sound-of p r in
@@ -122,9 +123,9 @@ without-locals p r none filters conditions locals last even placed =
       locals = each-so ds res (both (no_locals ds res) (tuples ds res)) (λ k at h test body. is_own_loop h.iterator body || locals_stay_within ds h.iterator (with_runs h.iterator body))
           (λ k at h test body w q. beside (is_own_loop h.iterator body) (names_no_local ds h.iterator body) (reduces_evenly ds body) (locals_stay_within ds h.iterator (with_runs h.iterator body)) (stays ds res k at h test body w) q)
           p.body s (each-both (no_locals ds res) (tuples ds res) p.body locals even);
-      inners = each-so ds res (both (no_locals ds res) (sums ds res)) (λ k at h test body. is_own_loop h.iterator body || inner_loops_apart ds h.iterator body)
-          (λ k at h test body w q. beside (is_own_loop h.iterator body) (names_no_local ds h.iterator body) (inner_sums_last h.iterator body) (inner_loops_apart ds h.iterator body) (apart ds res k at h test body w) q)
-          p.body s (each-both (no_locals ds res) (sums ds res) p.body locals last);
+      inners = each-so ds res (no_locals ds res) (λ k at h test body. is_own_loop h.iterator body || inner_loops_apart ds h.iterator body)
+          (λ k at h test body w q. spared (is_own_loop h.iterator body) (names_no_local ds h.iterator body) (inner_loops_apart ds h.iterator body) (apart ds res k at h test body w) q)
+          p.body s locals;
       tuples = even;
       iterators = placed;
     }

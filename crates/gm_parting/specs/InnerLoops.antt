@@ -3,25 +3,18 @@ use Rattle.std.specs.Prelude.{ℕ, nat_eq, nat_lt, Bool, true, ◌&&◌, ◌||�
 use Rattle.std.specs.List.{list_all}
 use Rattle.gm_ast.specs.declared.tree.Declaration.{Declaration}
 use Rattle.gm_ast.specs.Program.{Stmt, Then, Foreach, If, Program}
-use Rattle.gm_forms.specs.Cut.{is_own_loop, is_no_local, spares_locals, adds_last}
+use Rattle.gm_forms.specs.Cut.{is_own_loop, is_no_local, spares_locals}
 use Rattle.gm_forms.specs.Forms.{depth_at}
 use Rattle.gm_forms.specs.Sharing.{with_reads, sights_in, sights_of}
 use Rattle.gm_cut.specs.Parts.{each_passes}
 
--- whether each inner loop of a body neither reads nor reduces a local of the outer body, and nothing in it can fault behind a Sum or Product through a node variable
+-- whether each inner loop of a body neither reads nor reduces a local of the outer body
 abbrev pub inner_loops_apart : List Declaration → ℕ → Stmt → Bool
 inner_loops_apart ds n (Then a b) = inner_loops_apart ds n a && inner_loops_apart ds n b
 inner_loops_apart ds n (If k c a b) = inner_loops_apart ds n a && inner_loops_apart ds n b
 inner_loops_apart ds n (Foreach k at h test body) =
-    list_all (is_no_local ds (n ∷ h.iterator ∷ [])) (with_reads (sights_in test) (sights_of ds n true body)).scalars && (spares_locals ds body && adds_last (n ∷ h.iterator ∷ []) body)
+    list_all (is_no_local ds (n ∷ h.iterator ∷ [])) (with_reads (sights_in test) (sights_of ds n true body)).scalars && spares_locals ds body
 inner_loops_apart ds n _ = true
-
--- whether nothing in an inner loop of a body can fault behind a Sum or Product through a node variable
-abbrev pub inner_sums_last : ℕ → Stmt → Bool
-inner_sums_last n (Then a b) = inner_sums_last n a && inner_sums_last n b
-inner_sums_last n (If k c a b) = inner_sums_last n a && inner_sums_last n b
-inner_sums_last n (Foreach k at h test body) = adds_last (n ∷ h.iterator ∷ []) body
-inner_sums_last n _ = true
 
 -- whether each inner iterator of a body is declared inside of a parallel loop
 abbrev pub inner_iterators_deep : List Declaration → Stmt → Bool
@@ -33,10 +26,6 @@ inner_iterators_deep ds _ = true
 -- whether the inner loops of each loop of a program that is not of own statements stand apart
 abbrev pub has_inner_loops_apart : Program → Bool
 has_inner_loops_apart p = each_passes (λ k at h test body. is_own_loop h.iterator body || inner_loops_apart p.declarations h.iterator body) p.body
-
--- whether nothing can fault there behind such a Sum or Product
-abbrev pub has_inner_sums_last : Program → Bool
-has_inner_sums_last p = each_passes (λ k at h test body. is_own_loop h.iterator body || inner_sums_last h.iterator body) p.body
 
 -- whether the iterator of each such loop is declared inside of one parallel loop at most, and those of its inner loops inside of one at least
 abbrev pub has_iterators_in_place : Program → Bool

@@ -6,3 +6,5 @@ pub mod Prepared
 pub mod Filters
 pub mod Locals
 pub mod Passes
+pub mod Nodes
+pub mod Numbers

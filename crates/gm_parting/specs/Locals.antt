@@ -1,12 +1,12 @@
 -- Bodies that name no local, and bodies of which each local may go to a property.
-use Rattle.std.specs.Prelude.{ℕ, Bool, true, ◌&&◌, ◌||◌, List, [], ◌∷◌, ◌++◌}
+use Rattle.std.specs.Prelude.{ℕ, Bool, true, false, ◌&&◌, ◌||◌, List, [], ◌∷◌, ◌++◌, Option, Some, None}
 use Rattle.std.specs.List.{list_all}
 use Rattle.gm_ast.specs.declared.tree.Declaration.{Declaration}
 use Rattle.gm_ast.specs.declared.tree.Sort.TheVariants.{Scalar}
 use Rattle.gm_ast.specs.declared.tree.Target.{Target}
 use Rattle.gm_ast.specs.declared.tree.Target.TheVariants as T
 use Rattle.gm_ast.specs.Names.{sort_eq}
-use Rattle.gm_ast.specs.Program.{Expr, Stmt, Then, Declare, Assign, Defer, Combine, Foreach, If, Program}
+use Rattle.gm_ast.specs.Program.{Expr, Live, Unary, Binary, Both, Either, Choose, Stmt, Then, Declare, Assign, Defer, Combine, Foreach, If, Program}
 use Rattle.gm_semantics.specs.Statements.{variable_at}
 use Rattle.gm_forms.specs.Cut.{is_own_loop, is_no_local}
 use Rattle.gm_forms.specs.Sharing.{told_in, sights_in_option, sights_in_all}
@@ -52,3 +52,40 @@ has_no_locals p = each_passes (λ k at h test body. is_own_loop h.iterator body 
 -- whether each local that such a loop names may go to a property
 abbrev pub has_movable_locals : Program → Bool
 has_movable_locals p = each_passes (λ k at h test body. is_own_loop h.iterator body || locals_may_go p.declarations h.iterator test body) p.body
+
+-- whether each local that a loop's body names is declared in it
+abbrev pub declares_its_locals : List Declaration → ℕ → Stmt → Bool
+declares_its_locals ds n body = names_pass (λ its x. is_no_local ds its x || declares x body) (n ∷ []) body
+
+-- whether each that a loop names is, if it is not of own statements
+abbrev pub has_declared_locals : Program → Bool
+has_declared_locals p = each_passes (λ k at h test body. is_own_loop h.iterator body || declares_its_locals p.declarations h.iterator body) p.body
+
+-- whether an expression checks no node variable
+abbrev pub checks_none : Expr → Bool
+checks_none (Live x at) = false
+checks_none (Unary op at e) = checks_none e
+checks_none (Binary op at a b) = checks_none a && checks_none b
+checks_none (Both a b) = checks_none a && checks_none b
+checks_none (Either a b) = checks_none a && checks_none b
+checks_none (Choose c a b) = checks_none c && (checks_none a && checks_none b)
+checks_none e = true
+
+abbrev pub may_check_none : Option Expr → Bool
+may_check_none None = true
+may_check_none (Some e) = checks_none e
+
+-- whether no expression of a body does
+abbrev pub checks_nothing : Stmt → Bool
+checks_nothing (Then a b) = checks_nothing a && checks_nothing b
+checks_nothing (Declare k x e) = may_check_none e
+checks_nothing (Assign k t e) = checks_none e
+checks_nothing (Defer k t e) = checks_none e
+checks_nothing (Combine k total r ts es) = list_all checks_none es
+checks_nothing (If k c a b) = checks_none c && (checks_nothing a && checks_nothing b)
+checks_nothing (Foreach k at h test body) = checks_none test && checks_nothing body
+checks_nothing _ = true
+
+-- whether no loop that is not of own statements does
+abbrev pub has_no_checks : Program → Bool
+has_no_checks p = each_passes (λ k at h test body. is_own_loop h.iterator body || checks_nothing body) p.body
