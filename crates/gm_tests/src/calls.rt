@@ -4,7 +4,7 @@ use gm_base::{Gate, NoMemory, OpenGate, Status};
 use gm_driver::gm;
 use gm_files::{MemFiles, MemSink, MemSource};
 use gm_observe::{Counter, Observer, Table};
-use std::alloc::Global;
+use std::alloc::{AllocError, Global};
 use std::process::Abort;
 use std::sync::Wait;
 use std::test::Fail;
@@ -29,7 +29,7 @@ pub const PLAIN: Streams = Streams {
 };
 
 // Streams that do not fail, and take one byte at a time.
-pub const BYTE_BY_BYTE: Streams = Streams {
+const BYTE_BY_BYTE: Streams = Streams {
     piece_in: 1,
     fails_in: 0,
     piece_out: 1,
@@ -75,6 +75,35 @@ pub fn watched_call(
     gated_call(rt, alloc, words, source, files, sink, &OpenGate, observers)
 }
 
+// One of the observers of the program.
+fn counter(alloc: Global) -> Result<Box<dyn Observer>, NoMemory> {
+    let counter: Box<dyn Observer> = Box::new(alloc, Counter::new(alloc))?;
+    Ok(counter)
+}
+
+// The other.
+fn table(alloc: Global) -> Result<Box<dyn Observer>, NoMemory> {
+    let table: Box<dyn Observer> = Box::new(alloc, Table::new(alloc))?;
+    Ok(table)
+}
+
+// Two observers in a row.
+pub fn both(
+    alloc: Global,
+    first: Box<dyn Observer>,
+    second: Box<dyn Observer>,
+) -> Result<Vec<Box<dyn Observer>>, NoMemory> {
+    let mut observers: Vec<Box<dyn Observer>> = Vec::new(alloc);
+    observers.push(first)?;
+    observers.push(second)?;
+    Ok(observers)
+}
+
+// The observers of the program.
+fn program_observers(alloc: Global) -> Result<Vec<Box<dyn Observer>>, NoMemory> {
+    both(alloc, counter(alloc)?, table(alloc)?)
+}
+
 // The call with the observers of the program.
 pub fn call(
     rt: &(impl Threads + Wait + Sync),
@@ -84,12 +113,42 @@ pub fn call(
     files: &mut MemFiles,
     sink: &mut MemSink,
 ) -> Result<Status, Fail> {
-    let mut observers: Vec<Box<dyn Observer>> = Vec::new(alloc);
-    let counter: Box<dyn Observer> = Box::new(alloc, Counter::new(alloc))?;
-    observers.push(counter).map_err(NoMemory::from)?;
-    let table: Box<dyn Observer> = Box::new(alloc, Table::new(alloc))?;
-    observers.push(table).map_err(NoMemory::from)?;
+    let mut observers = program_observers(alloc)?;
     watched_call(rt, alloc, words, source, files, sink, &mut observers)
+}
+
+// A source of this kind.
+fn source_of(alloc: Global, input: Vec<u8>, streams: Streams) -> Result<MemSource, Fail> {
+    let fails = vec![in alloc; streams.fails_in]?;
+    Ok(MemSource::new(input, streams.piece_in.max(1), fails))
+}
+
+// A sink of this kind.
+fn sink_of(alloc: Global, streams: Streams) -> Result<MemSink, Fail> {
+    let fails = vec![in alloc; streams.fails_out]?;
+    Ok(MemSink::new(alloc, streams.piece_out.max(1), fails, 65536)?)
+}
+
+// A status, and what a sink took.
+fn ended(alloc: Global, status: Status, sink: MemSink) -> Result<(Status, String), Fail> {
+    let written = String::from_utf8_lossy(alloc, sink.taken())?;
+    Ok((status, written))
+}
+
+// The status of a call over these files that these observers watch, and what it wrote.
+pub fn run_watched(
+    rt: &(impl Threads + Wait + Sync),
+    alloc: Global,
+    words: &str,
+    input: Vec<u8>,
+    streams: Streams,
+    files: &mut MemFiles,
+    observers: &mut Vec<Box<dyn Observer>>,
+) -> Result<(Status, String), Fail> {
+    let mut sink = sink_of(alloc, streams)?;
+    let mut source = source_of(alloc, input, streams)?;
+    let status = watched_call(rt, alloc, words, &mut source, files, &mut sink, observers)?;
+    ended(alloc, status, sink)
 }
 
 // The status of a call over these files, and what it wrote.
@@ -101,20 +160,20 @@ pub fn run_with(
     streams: Streams,
     files: &mut MemFiles,
 ) -> Result<(Status, String), Fail> {
-    let mut source = MemSource::new(
-        input,
-        streams.piece_in.max(1),
-        vec![in alloc; streams.fails_in]?,
-    );
-    let mut sink = MemSink::new(
-        alloc,
-        streams.piece_out.max(1),
-        vec![in alloc; streams.fails_out]?,
-        65536,
-    )?;
-    let status = call(rt, alloc, words, &mut source, files, &mut sink)?;
-    let written = String::from_utf8_lossy(alloc, sink.taken())?;
-    Ok((status, written))
+    let mut observers = program_observers(alloc)?;
+    run_watched(rt, alloc, words, input, streams, files, &mut observers)
+}
+
+// Adds a file.
+pub fn put_file(
+    alloc: Global,
+    files: &mut Vec<(String, Vec<u8>)>,
+    name: &str,
+    text: &[u8],
+) -> Result<(), AllocError> {
+    let bytes = Vec::from_slice(alloc, text)?;
+    files.push((String::from_str(alloc, name)?, bytes))?;
+    Ok(())
 }
 
 // No files.
@@ -148,58 +207,161 @@ pub fn two_texts(alloc: Global, program: &str, graph: &str) -> Result<Vec<u8>, F
     Ok(text)
 }
 
-// The status with which a call ends that writes this text, which tells by its first word.
-pub fn status_of(written: &str) -> Status {
-    match written.split(' ').next() {
-        Some("refused") => Status::Refused,
-        Some("usage:") => Status::Usage,
-        Some("graph" | "argument" | "image") => Status::BadInput,
-        Some("fault") => Status::Fault,
-        Some("cut") => Status::Cut,
-        Some("absent" | "read") => Status::ReadFault,
-        _ => Status::Done,
+// The first words of what is written, each with the name of the status with which a call ends that writes it.
+const STATUSES: &str = "
+refused Refused
+usage: Usage
+graph BadInput
+argument BadInput
+image BadInput
+fault Fault
+cut Cut
+absent ReadFault
+read ReadFault
+";
+
+// The name of the status with which a call ends that writes this text. (A loop over words costs its proof far less than a
+// match on them.)
+pub fn status_of(written: &str) -> &'static str {
+    let word = written.split(' ').next().unwrap_or("");
+    for line in STATUSES.lines() {
+        let (first, name) = line.split_once(' ').unwrap_or(("?", ""));
+        if first == word {
+            return name;
+        }
+    }
+    "Done"
+}
+
+// Compares the end of a call with the text that it is to write and the name of its status.
+pub fn ends_as(
+    rt: &impl Abort,
+    alloc: Global,
+    ended: &(Status, String),
+    text: &str,
+    name: &str,
+    what: &str,
+) -> Result<(), Fail> {
+    let (status, written) = ended;
+    same(rt, written.as_str(), text, what);
+    let status = format!(in alloc; "{status:?}")?;
+    same(rt, status.as_str(), name, what);
+    Ok(())
+}
+
+// Compares the end of a call with the text that it is to write and the status that belongs to this text.
+pub fn ends_with(
+    rt: &impl Abort,
+    alloc: Global,
+    ended: &(Status, String),
+    text: &str,
+    what: &str,
+) -> Result<(), Fail> {
+    ends_as(rt, alloc, ended, text, status_of(text), what)
+}
+
+// Compares two texts.
+pub fn same(rt: &impl Abort, found: &str, wanted: &str, what: &str) {
+    assert_eq!(rt; found, wanted, "{what}");
+}
+
+// The two sides of a mark.
+pub fn sides<'a>(text: &'a str, mark: &str) -> Result<(&'a str, &'a str), Fail> {
+    match text.split_once(mark) {
+        Some(parts) => Ok(parts),
+        None => Err(Fail::from("a row without its parts")),
     }
 }
 
-// Whether each call gives its answer, over streams of this kind: the words, the front and the rest of standard input,
-// and what is written.
+// The parts of a row: its first line, what stands behind it up to `=>`, and what stands behind that.
+pub fn parts_of(row: &str) -> Result<(&str, &str, &str), Fail> {
+    let (line, rest) = sides(row, "\n")?;
+    let (given, wanted) = sides(rest, "=>\n")?;
+    Ok((line, given, wanted))
+}
+
+// A number of a row.
+pub fn number_of(text: &str) -> Result<u64, Fail> {
+    match text.trim().parse::<u64>() {
+        Ok(number) => Ok(number),
+        Err(_) => Err(Fail::from("a row without its number")),
+    }
+}
+
+// Whether a part of a table between its `~` is a row: what stands before the first is none.
+pub fn is_row(part: &str) -> bool {
+    part.len() > 1
+}
+
+// The words of a row's first line, behind the name of the row where it has one.
+fn words_of(line: &str) -> &str {
+    match line.split_once(": ") {
+        Some((_, words)) => words,
+        None => line,
+    }
+}
+
+// How a call ends whose standard input has two parts.
+fn ending(
+    rt: &(impl Threads + Wait + Sync),
+    alloc: Global,
+    streams: Streams,
+    words: &str,
+    front: &str,
+    rest: &str,
+) -> Result<(Status, String), Fail> {
+    let input = joined(alloc, front, rest)?;
+    run(rt, alloc, words, input, streams)
+}
+
+// Whether a call gives its answer, over streams of this kind. The first line of a row has the words, behind the name of
+// the row where it has one; then comes what stands on standard input, behind a text that all rows share; last, what is
+// written.
+fn call_holds(
+    rt: &(impl Abort + Threads + Wait + Sync),
+    alloc: Global,
+    streams: Streams,
+    front: &str,
+    row: &str,
+) -> Result<(), Fail> {
+    let (line, rest, text) = parts_of(row)?;
+    let ended = ending(rt, alloc, streams, words_of(line), front, rest)?;
+    ends_with(rt, alloc, &ended, text, row)
+}
+
+// Compares how many rows were read with how many a table has.
+pub fn all_read(rt: &impl Abort, read: usize, count: usize) {
+    assert_eq!(rt; read, count, "rows");
+}
+
+// Whether each call of a table, which has so many rows with a `~` before each, gives its answer.
 pub fn calls_hold(
     rt: &(impl Abort + Threads + Wait + Sync),
     alloc: Global,
     streams: Streams,
-    rows: &[(&str, &str, &str, &str)],
+    front: &str,
+    table: &str,
+    count: usize,
 ) -> Result<(), Fail> {
-    for (words, front, rest, text) in rows {
-        let input = joined(alloc, front, rest)?;
-        let (status, written) = run(rt, alloc, words, input, streams)?;
-        assert_eq!(rt; written.as_str(), *text, "{words} {front:?} {rest:?}");
-        assert_eq!(rt; status, status_of(text), "{words} {front:?} {rest:?}");
+    let mut read = 0usize;
+    for row in table.split('~') {
+        if is_row(row) {
+            call_holds(rt, alloc, streams, front, row)?;
+            read = read.saturating_add(1);
+        }
     }
+    all_read(rt, read, count);
     Ok(())
 }
 
-// A program with its outcome: what it shows, the words behind `run - -`, its text, its graph and what is written.
-pub struct Row {
-    pub name: &'static str,
-    pub words: &'static str,
-    pub text: &'static str,
-    pub graph: &'static str,
-    pub printed: &'static str,
-}
-
-// Whether each program has its outcome, over streams of this kind.
-pub fn outcomes_hold(
+// The same, over streams that take many bytes at a time, and over those that take one.
+pub fn both_ways_hold(
     rt: &(impl Abort + Threads + Wait + Sync),
     alloc: Global,
-    streams: Streams,
-    rows: &[Row],
+    front: &str,
+    table: &str,
+    count: usize,
 ) -> Result<(), Fail> {
-    for row in rows {
-        let input = two_texts(alloc, row.text, row.graph)?;
-        let words = format!(in alloc; "run - - {}", row.words)?;
-        let (status, written) = run(rt, alloc, words.as_str(), input, streams)?;
-        assert_eq!(rt; written.as_str(), row.printed, "{}", row.name);
-        assert_eq!(rt; status, status_of(row.printed), "{}", row.name);
-    }
-    Ok(())
+    calls_hold(rt, alloc, PLAIN, front, table, count)?;
+    calls_hold(rt, alloc, BYTE_BY_BYTE, front, table, count)
 }

@@ -1,7 +1,6 @@
 //! One short program over graph texts of every kind, and the texts of a program and a graph on one input.
 
-use crate::calls::{BYTE_BY_BYTE, PLAIN, calls_hold, run, status_of};
-use gm_base::Status;
+use crate::calls::{PLAIN, both_ways_hold, ends_with, run};
 use std::alloc::Global;
 use std::process::Abort;
 use std::sync::Wait;
@@ -16,150 +15,271 @@ const ADD: &str =
 const ADD_OVER: &str =
     "Procedure add(G: Graph; p: N_P<Int>) {\n  Foreach (n: G.Nodes) { n.p = n.p + 7; }\n}\n%%\n";
 
-// The same with line ends as of another system.
-const ADD_OVER_CRLF: &str =
-    "Procedure add(G: Graph; p: N_P<Int>) {\r\n  Foreach (n: G.Nodes) { n.p = n.p + 7; }\r\n}\r\n%%\r\n";
+// Graphs behind it.
+const GRAPHS: &str = "
+~ run - -
+0 1
+1 2
+=>
+node p
+0 7
+1 7
+2 7
+turns 0
+~ run - -
+=>
+node p
+turns 0
+~ run - -
+9 3
+3 9
 
-// A sum that is out of range at each node.
-const PAST: &str =
-    "Procedure f(G: Graph; p: N_P<Int>) { Foreach (n: G.Nodes) { n.p = 2147483647 + 1; } }\n";
+ \t\x20
+12 3
+3 3
+3 9=>
+node p
+3 7
+9 7
+12 7
+turns 0
+~ run - -
+\t5   9223372036854775807\x20
+=>
+node p
+5 7
+9223372036854775807 7
+turns 0
+~ run - -
+007 7
+=>
+node p
+7 7
+turns 0
+~ run - -
+1 2 3 x
+=>
+node p
+1 7
+2 7
+turns 0
+~ run - -
+# a comment
+  #1 x
+=>
+node p
+turns 0
+~ run - -
+v 3
+v\t4 9
+1 3
+=>
+node p
+1 7
+3 7
+4 7
+turns 0
+~ run - -
+0 1
+1 x
+=>
+graph BadLine at line 2
+~ run - -
+0 1
 
-const GRAPHS: [(&str, &str, &str, &str); 27] = [
-    (
-        "run - -",
-        ADD_OVER,
-        "0 1\n1 2\n",
-        "node p\n0 7\n1 7\n2 7\nturns 0\n",
-    ),
-    ("run - -", ADD_OVER, "", "node p\nturns 0\n"),
-    (
-        "run - -",
-        ADD_OVER_CRLF,
-        "0 1\r\n1 2\r\n",
-        "node p\n0 7\n1 7\n2 7\nturns 0\n",
-    ),
-    (
-        "run - -",
-        ADD_OVER,
-        "9 3\n3 9\n\n \t \n12 3\n3 3\n3 9",
-        "node p\n3 7\n9 7\n12 7\nturns 0\n",
-    ),
-    (
-        "run - -",
-        ADD_OVER,
-        "\t5   9223372036854775807 \n",
-        "node p\n5 7\n9223372036854775807 7\nturns 0\n",
-    ),
-    ("run - -", ADD_OVER, "007 7\n", "node p\n7 7\nturns 0\n"),
-    (
-        "run - -",
-        ADD_OVER,
-        "1 2 3 x\n",
-        "node p\n1 7\n2 7\nturns 0\n",
-    ),
-    (
-        "run - -",
-        ADD_OVER,
-        "# a comment\n  #1 x\n",
-        "node p\nturns 0\n",
-    ),
-    (
-        "run - -",
-        ADD_OVER,
-        "v 3\nv\t4 9\n1 3\n",
-        "node p\n1 7\n3 7\n4 7\nturns 0\n",
-    ),
-    (
-        "run - -",
-        ADD_OVER,
-        "0 1\n1 x\n",
-        "graph BadLine at line 2\n",
-    ),
-    (
-        "run - -",
-        ADD_OVER,
-        "0 1\n\n1\n2 x\n",
-        "graph BadLine at line 3\n",
-    ),
-    ("run - -", ADD_OVER, "-1 2\n", "graph BadLine at line 1\n"),
-    ("run - -", ADD_OVER, "+1 2\n", "graph BadLine at line 1\n"),
-    ("run - -", ADD_OVER, "1.0 2\n", "graph BadLine at line 1\n"),
-    ("run - -", ADD_OVER, "0 1\r", "graph BadLine at line 1\n"),
-    ("run - -", ADD_OVER, "0\r1\n", "graph BadLine at line 1\n"),
-    (
-        "run - -",
-        ADD_OVER,
-        "1 2\n%%\n",
-        "graph BadLine at line 2\n",
-    ),
-    ("run - -", ADD_OVER, "v\n", "graph BadLine at line 1\n"),
-    ("run - -", ADD_OVER, "v x\n", "graph BadLine at line 1\n"),
-    ("run - -", ADD_OVER, "V 1\n", "graph BadLine at line 1\n"),
-    ("run - -", ADD_OVER, "1 v\n", "graph BadLine at line 1\n"),
-    (
-        "run - -",
-        ADD_OVER,
-        "v 1\n\nv 01\n",
-        "graph NodeTwice at line 3\n",
-    ),
-    (
-        "run - -",
-        ADD_OVER,
-        "0 9223372036854775808\n",
-        "graph OutOfRange at line 1\n",
-    ),
-    (
-        "run - -",
-        ADD_OVER,
-        "0 1\n99999999999999999999999 x\n",
-        "graph OutOfRange at line 2\n",
-    ),
-    (
-        "run - -",
-        ADD_OVER,
-        "x 99999999999999999999999\n",
-        "graph BadLine at line 1\n",
-    ),
-    (
-        "run - -",
-        ADD_OVER,
-        "v 9223372036854775808\n",
-        "graph OutOfRange at line 1\n",
-    ),
-    ("run - -", PAST, "%%\n4 4\n", "fault Overflow at 1:78\n"),
-];
+1
+2 x
+=>
+graph BadLine at line 3
+~ run - -
+-1 2
+=>
+graph BadLine at line 1
+~ run - -
++1 2
+=>
+graph BadLine at line 1
+~ run - -
+1.0 2
+=>
+graph BadLine at line 1
+~ run - -
+0 1\r=>
+graph BadLine at line 1
+~ run - -
+0\r1
+=>
+graph BadLine at line 1
+~ run - -
+1 2
+%%
+=>
+graph BadLine at line 2
+~ run - -
+v
+=>
+graph BadLine at line 1
+~ run - -
+v x
+=>
+graph BadLine at line 1
+~ run - -
+V 1
+=>
+graph BadLine at line 1
+~ run - -
+1 v
+=>
+graph BadLine at line 1
+~ run - -
+v 1
+
+v 01
+=>
+graph NodeTwice at line 3
+~ run - -
+0 9223372036854775808
+=>
+graph OutOfRange at line 1
+~ run - -
+0 1
+99999999999999999999999 x
+=>
+graph OutOfRange at line 2
+~ run - -
+x 99999999999999999999999
+=>
+graph BadLine at line 1
+~ run - -
+v 9223372036854775808
+=>
+graph OutOfRange at line 1
+";
+
+// Line ends as of another system, and a fault.
+const TEXTS: &str = "
+~ run - -
+Procedure add(G: Graph; p: N_P<Int>) {\r
+  Foreach (n: G.Nodes) { n.p = n.p + 7; }\r
+}\r
+%%\r
+0 1\r
+1 2\r
+=>
+node p
+0 7
+1 7
+2 7
+turns 0
+~ run - -
+Procedure f(G: Graph; p: N_P<Int>) { Foreach (n: G.Nodes) { n.p = 2147483647 + 1; } }
+%%
+4 4
+=>
+fault Overflow at 1:78
+";
 
 // The line that parts the two texts is `%%` alone, and its CR where it has one.
-const PARTED: [(&str, &str, &str, &str); 12] = [
-    ("run - -", ADD, "", "node p\nturns 0\n"),
-    ("run - -", PAST, "", "node p\nturns 0\n"),
-    ("run - -", ADD, "%%", "node p\nturns 0\n"),
-    ("run - -", ADD, "%%\r", "node p\nturns 0\n"),
-    (
-        "run - -",
-        ADD,
-        "%%\r\n1 2\r\n",
-        "node p\n1 7\n2 7\nturns 0\n",
-    ),
-    ("run - -", ADD, "%%\n%%\n1 2\n", "graph BadLine at line 1\n"),
-    ("run - -", ADD, " %%\n1 2\n", "refused Syntax at 4:2\n"),
-    ("run - -", ADD, "%% \n1 2\n", "refused Syntax at 4:1\n"),
-    ("run - -", ADD, "%%%\n1 2\n", "refused Syntax at 4:1\n"),
-    ("run - -", "%%\n", ADD, "refused Syntax at 1:1\n"),
-    ("run - -", "", "", "refused Syntax at 1:1\n"),
-    ("check -", ADD, "%%\n1 2\n", "refused Syntax at 4:1\n"),
-];
+const PARTED: &str = "
+~ run - -
+Procedure add(G: Graph; p: N_P<Int>) {
+  Foreach (n: G.Nodes) { n.p = n.p + 7; }
+}
+=>
+node p
+turns 0
+~ run - -
+Procedure f(G: Graph; p: N_P<Int>) { Foreach (n: G.Nodes) { n.p = 2147483647 + 1; } }
+=>
+node p
+turns 0
+~ run - -
+Procedure add(G: Graph; p: N_P<Int>) {
+  Foreach (n: G.Nodes) { n.p = n.p + 7; }
+}
+%%=>
+node p
+turns 0
+~ run - -
+Procedure add(G: Graph; p: N_P<Int>) {
+  Foreach (n: G.Nodes) { n.p = n.p + 7; }
+}
+%%\r=>
+node p
+turns 0
+~ run - -
+Procedure add(G: Graph; p: N_P<Int>) {
+  Foreach (n: G.Nodes) { n.p = n.p + 7; }
+}
+%%\r
+1 2\r
+=>
+node p
+1 7
+2 7
+turns 0
+~ run - -
+Procedure add(G: Graph; p: N_P<Int>) {
+  Foreach (n: G.Nodes) { n.p = n.p + 7; }
+}
+%%
+%%
+1 2
+=>
+graph BadLine at line 1
+~ run - -
+Procedure add(G: Graph; p: N_P<Int>) {
+  Foreach (n: G.Nodes) { n.p = n.p + 7; }
+}
+ %%
+1 2
+=>
+refused Syntax at 4:2
+~ run - -
+Procedure add(G: Graph; p: N_P<Int>) {
+  Foreach (n: G.Nodes) { n.p = n.p + 7; }
+}
+%%\x20
+1 2
+=>
+refused Syntax at 4:1
+~ run - -
+Procedure add(G: Graph; p: N_P<Int>) {
+  Foreach (n: G.Nodes) { n.p = n.p + 7; }
+}
+%%%
+1 2
+=>
+refused Syntax at 4:1
+~ run - -
+%%
+Procedure add(G: Graph; p: N_P<Int>) {
+  Foreach (n: G.Nodes) { n.p = n.p + 7; }
+}
+=>
+refused Syntax at 1:1
+~ run - -
+=>
+refused Syntax at 1:1
+~ check -
+Procedure add(G: Graph; p: N_P<Int>) {
+  Foreach (n: G.Nodes) { n.p = n.p + 7; }
+}
+%%
+1 2
+=>
+refused Syntax at 4:1
+";
 
 #[test]
 fn graphs(rt: HostRuntime) -> Result<(), Fail> {
-    calls_hold(&rt, rt.alloc(), PLAIN, &GRAPHS)?;
-    calls_hold(&rt, rt.alloc(), BYTE_BY_BYTE, &GRAPHS)
+    both_ways_hold(&rt, rt.alloc(), ADD_OVER, GRAPHS, 25)?;
+    both_ways_hold(&rt, rt.alloc(), "", TEXTS, 2)
 }
 
 #[test]
 fn parted_texts(rt: HostRuntime) -> Result<(), Fail> {
-    calls_hold(&rt, rt.alloc(), PLAIN, &PARTED)?;
-    calls_hold(&rt, rt.alloc(), BYTE_BY_BYTE, &PARTED)
+    both_ways_hold(&rt, rt.alloc(), "", PARTED, 12)
 }
 
 // Blanks, as many as bring a text to a length, with the text behind them and then a graph.
@@ -179,10 +299,8 @@ fn padded_holds(
     answer: &str,
 ) -> Result<(), Fail> {
     let input = padded(alloc, length, text)?;
-    let (status, written) = run(rt, alloc, "run - -", input, PLAIN)?;
-    assert_eq!(rt; written.as_str(), answer, "{length}");
-    assert_eq!(rt; status, status_of(answer), "{length}");
-    Ok(())
+    let ended = run(rt, alloc, "run - -", input, PLAIN)?;
+    ends_with(rt, alloc, &ended, answer, text)
 }
 
 #[test]

@@ -1,6 +1,9 @@
 //! Streams and files that fail in each of their calls in turn, and graphs that are cut anywhere.
 
-use crate::calls::{PLAIN, Streams, call, joined, no_files, run, run_with, status_of};
+use crate::calls::{
+    PLAIN, Streams, all_read, call, ends_as, ends_with, is_row, joined, no_files, number_of,
+    parts_of, put_file, run, run_with, sides, status_of,
+};
 use gm_base::{Failed, Status};
 use gm_files::{FileFault, Files, MemFiles, MemSink, MemSource, Source};
 use std::alloc::Global;
@@ -22,72 +25,120 @@ const DOUBLE: &str = "Procedure f(G: Graph) { Double d; }\n";
 
 const REFUSED: &str = "refused U1 at 1:25\n";
 
-// Calls that end in each way: the words, the front and the rest of standard input, and what is written.
-const ENDINGS: [(&str, &str, &str, &str); 10] = [
-    ("run - -", ADD, "%%\n0 1\n1 2\n", WRITTEN),
-    (
-        "run - -",
-        ADD,
-        "%%\n0 1\n1 x\n",
-        "graph BadLine at line 2\n",
-    ),
-    ("run - - k=1", ADD, "%%\n", "argument Unknown k\n"),
-    ("run - nofile", ADD, "", "absent nofile\n"),
-    ("run - nofile", DOUBLE, "", REFUSED),
-    (
-        "run - - --turns 3",
-        "Procedure f(G: Graph) { While (True) { ; } }",
-        "",
-        "cut after 3 turns\n",
-    ),
-    (
-        "run - -",
-        "Procedure f(G: Graph; a: Int) { a = 1 / a; }",
-        "",
-        "fault DivideByZero at 1:39\n",
-    ),
-    ("check -", ADD, "", "accepted\n"),
-    ("check -", DOUBLE, "", REFUSED),
-    ("demo 1", "", "", "demo 1 edges 4 reached 1 far 0 turns 1\n"),
-];
+// Calls that end in each way: the words, standard input, and what is written.
+const ENDINGS: &str = "
+~ run - -
+Procedure add(G: Graph; p: N_P<Int>) { Foreach (n: G.Nodes) { n.p = n.p + 7; } }
+%%
+0 1
+1 2
+=>
+node p
+0 7
+1 7
+2 7
+turns 0
+~ run - -
+Procedure add(G: Graph; p: N_P<Int>) { Foreach (n: G.Nodes) { n.p = n.p + 7; } }
+%%
+0 1
+1 x
+=>
+graph BadLine at line 2
+~ run - - k=1
+Procedure add(G: Graph; p: N_P<Int>) { Foreach (n: G.Nodes) { n.p = n.p + 7; } }
+%%
+=>
+argument Unknown k
+~ run - nofile
+Procedure add(G: Graph; p: N_P<Int>) { Foreach (n: G.Nodes) { n.p = n.p + 7; } }
+=>
+absent nofile
+~ run - nofile
+Procedure f(G: Graph) { Double d; }
+=>
+refused U1 at 1:25
+~ run - - --turns 3
+Procedure f(G: Graph) { While (True) { ; } }=>
+cut after 3 turns
+~ run - -
+Procedure f(G: Graph; a: Int) { a = 1 / a; }=>
+fault DivideByZero at 1:39
+~ check -
+Procedure add(G: Graph; p: N_P<Int>) { Foreach (n: G.Nodes) { n.p = n.p + 7; } }
+=>
+accepted
+~ check -
+Procedure f(G: Graph) { Double d; }
+=>
+refused U1 at 1:25
+~ demo 1
+=>
+demo 1 edges 4 reached 1 far 0 turns 1
+";
 
-// Whether a sink whose write of this number fails has taken exactly the pieces before it, each of so many bytes.
-fn takes_what_came_before(
-    rt: &(impl Abort + Threads + Wait + Sync),
+// The first of them.
+const FIRST: &str = "run - -
+Procedure add(G: Graph; p: N_P<Int>) { Foreach (n: G.Nodes) { n.p = n.p + 7; } }
+%%
+0 1
+1 2
+=>
+node p
+0 7
+1 7
+2 7
+turns 0
+";
+
+// The name of the status of a call of whose text so many bytes were taken before a write failed, if one did.
+fn name_after(text: &str, before: usize) -> &'static str {
+    if before < text.len() {
+        "WriteFault"
+    } else {
+        status_of(text)
+    }
+}
+
+// How a call ends whose write of this number fails.
+fn cut_ending(
+    rt: &(impl Threads + Wait + Sync),
     alloc: Global,
-    row: &(&str, &str, &str, &str),
+    words: &str,
+    given: &str,
     piece: usize,
     failing: usize,
-) -> Result<(), Fail> {
-    let (words, front, rest, text) = row;
+) -> Result<(Status, String), Fail> {
     let streams = Streams {
         piece_out: piece,
         fails_out: failing as u64,
         ..PLAIN
     };
-    let (status, written) = run(rt, alloc, words, joined(alloc, front, rest)?, streams)?;
+    run(rt, alloc, words, joined(alloc, given, "")?, streams)
+}
+
+// Whether a sink whose write of this number fails has taken exactly the pieces before it, each of so many bytes.
+fn takes_what_came_before(
+    rt: &(impl Abort + Threads + Wait + Sync),
+    alloc: Global,
+    row: &str,
+    piece: usize,
+    failing: usize,
+) -> Result<(), Fail> {
+    let (words, given, text) = parts_of(row)?;
+    let ended = cut_ending(rt, alloc, words, given, piece, failing)?;
     let before = piece
         .saturating_mul(failing.saturating_sub(1))
         .min(text.len());
-    let ending = if before < text.len() {
-        Status::WriteFault
-    } else {
-        status_of(text)
-    };
-    assert_eq!(rt; written.as_str().len(), before, "{words} {piece} {failing}");
-    assert!(rt;
-        text.starts_with(written.as_str()),
-        "{words} {piece} {failing}"
-    );
-    assert_eq!(rt; status, ending, "{words} {piece} {failing}");
-    Ok(())
+    let front = text.get(..before).unwrap_or(text);
+    ends_as(rt, alloc, &ended, front, name_after(text, before), row)
 }
 
 // Whether each write of pieces of so many bytes fails in turn, until the whole is written.
 fn writes_fail(
     rt: &(impl Abort + Threads + Wait + Sync),
     alloc: Global,
-    row: &(&str, &str, &str, &str),
+    row: &str,
     piece: usize,
     most: usize,
 ) -> Result<(), Fail> {
@@ -99,79 +150,125 @@ fn writes_fail(
 
 #[test]
 fn each_write_fails_in_turn(rt: HostRuntime) -> Result<(), Fail> {
-    for row in &ENDINGS {
-        writes_fail(&rt, rt.alloc(), row, 13, 5)?;
-        writes_fail(&rt, rt.alloc(), row, 65536, 3)?;
+    let mut read = 0usize;
+    for row in ENDINGS.split('~') {
+        if is_row(row) {
+            writes_fail(&rt, rt.alloc(), row, 13, 5)?;
+            writes_fail(&rt, rt.alloc(), row, 65536, 3)?;
+            read = read.saturating_add(1);
+        }
     }
+    all_read(&rt, read, 10);
     Ok(())
 }
 
 #[test]
 fn each_write_of_a_byte_fails_in_turn(rt: HostRuntime) -> Result<(), Fail> {
-    writes_fail(&rt, rt.alloc(), &ENDINGS[0], 1, 32)
+    writes_fail(&rt, rt.alloc(), FIRST, 1, 32)
 }
 
-// Calls that read standard input to its end.
-const READINGS: [(&str, &str, &str, &str); 6] = [
-    ("run - -", ADD, "%%\n0 1\n1 2\n", WRITTEN),
-    ("run - -", ADD, "", "node p\nturns 0\n"),
-    ("run - a.graph", ADD, "", WRITTEN),
-    ("run a.gm -", GRAPH, "", WRITTEN),
-    ("run - nofile", DOUBLE, "", REFUSED),
-    ("check -", ADD, "", "accepted\n"),
-];
+// Calls that read standard input to its end: the words, standard input, and what is written.
+const READINGS: &str = "
+~ run - -
+Procedure add(G: Graph; p: N_P<Int>) { Foreach (n: G.Nodes) { n.p = n.p + 7; } }
+%%
+0 1
+1 2
+=>
+node p
+0 7
+1 7
+2 7
+turns 0
+~ run - -
+Procedure add(G: Graph; p: N_P<Int>) { Foreach (n: G.Nodes) { n.p = n.p + 7; } }
+=>
+node p
+turns 0
+~ run - a.graph
+Procedure add(G: Graph; p: N_P<Int>) { Foreach (n: G.Nodes) { n.p = n.p + 7; } }
+=>
+node p
+0 7
+1 7
+2 7
+turns 0
+~ run a.gm -
+0 1
+1 2
+=>
+node p
+0 7
+1 7
+2 7
+turns 0
+~ run - nofile
+Procedure f(G: Graph) { Double d; }
+=>
+refused U1 at 1:25
+~ check -
+Procedure add(G: Graph; p: N_P<Int>) { Foreach (n: G.Nodes) { n.p = n.p + 7; } }
+=>
+accepted
+";
 
 // The files of a program and of its graph, of which the read of this number fails.
 fn two_files(alloc: Global, failing: u64) -> Result<MemFiles, Fail> {
     let mut files = Vec::new(alloc);
-    files.push((
-        String::from_str(alloc, "a.gm")?,
-        Vec::from_slice(alloc, ADD.as_bytes())?,
-    ))?;
-    files.push((
-        String::from_str(alloc, "a.graph")?,
-        Vec::from_slice(alloc, GRAPH.as_bytes())?,
-    ))?;
-    files.push((
-        String::from_str(alloc, "refused.gm")?,
-        Vec::from_slice(alloc, DOUBLE.as_bytes())?,
-    ))?;
+    put_file(alloc, &mut files, "a.gm", ADD.as_bytes())?;
+    put_file(alloc, &mut files, "a.graph", GRAPH.as_bytes())?;
+    put_file(alloc, &mut files, "refused.gm", DOUBLE.as_bytes())?;
     Ok(MemFiles::new(files, vec![in alloc; failing]?))
 }
 
-// Whether a call whose read of this number fails says so, where it comes to that read: its reads take so many bytes
-// each, and one more finds the end.
-fn says_that_a_read_failed(
-    rt: &(impl Abort + Threads + Wait + Sync),
+// What is written where so many bytes are read of a standard input before a read fails: its reads take so many bytes each,
+// and one more finds the end.
+fn written_after<'a>(given: &str, text: &'a str, piece: usize, reads_before: usize) -> &'a str {
+    if reads_before < given.len().saturating_add(piece) {
+        "read fault -\n"
+    } else {
+        text
+    }
+}
+
+// How a call ends whose read of this number fails.
+fn failed_ending(
+    rt: &(impl Threads + Wait + Sync),
     alloc: Global,
-    row: &(&str, &str, &str, &str),
+    words: &str,
+    given: &str,
     piece: usize,
     failing: usize,
-) -> Result<(), Fail> {
-    let (words, front, rest, text) = row;
+) -> Result<(Status, String), Fail> {
     let streams = Streams {
         piece_in: piece,
         fails_in: failing as u64,
         ..PLAIN
     };
-    let input = joined(alloc, front, rest)?;
+    let input = joined(alloc, given, "")?;
+    run_with(rt, alloc, words, input, streams, &mut two_files(alloc, 0)?)
+}
+
+// Whether a call whose read of this number fails says so, where it comes to that read.
+fn says_that_a_read_failed(
+    rt: &(impl Abort + Threads + Wait + Sync),
+    alloc: Global,
+    row: &str,
+    piece: usize,
+    failing: usize,
+) -> Result<(), Fail> {
+    let (words, given, text) = parts_of(row)?;
+    let ended = failed_ending(rt, alloc, words, given, piece, failing)?;
     let reads_before = piece.saturating_mul(failing.saturating_sub(1));
-    let answer = if reads_before < input.len().saturating_add(piece) {
-        "read fault -\n"
-    } else {
-        *text
-    };
-    let (status, written) = run_with(rt, alloc, words, input, streams, &mut two_files(alloc, 0)?)?;
-    assert_eq!(rt; written.as_str(), answer, "{words} {piece} {failing}");
-    assert_eq!(rt; status, status_of(answer), "{words} {piece} {failing}");
-    Ok(())
+    let answer = written_after(given, text, piece, reads_before);
+    ends_with(rt, alloc, &ended, answer, row)
 }
 
 // Whether each read of pieces of so many bytes fails in turn, until the end was read.
 fn reads_fail(
     rt: &(impl Abort + Threads + Wait + Sync),
     alloc: Global,
-    row: &(&str, &str, &str, &str),
+    row: &str,
     piece: usize,
     most: usize,
 ) -> Result<(), Fail> {
@@ -183,50 +280,111 @@ fn reads_fail(
 
 #[test]
 fn each_read_fails_in_turn(rt: HostRuntime) -> Result<(), Fail> {
-    for row in &READINGS {
-        reads_fail(&rt, rt.alloc(), row, 20, 9)?;
-        reads_fail(&rt, rt.alloc(), row, 65536, 4)?;
+    let mut read = 0usize;
+    for row in READINGS.split('~') {
+        if is_row(row) {
+            reads_fail(&rt, rt.alloc(), row, 20, 9)?;
+            reads_fail(&rt, rt.alloc(), row, 65536, 4)?;
+            read = read.saturating_add(1);
+        }
     }
+    all_read(&rt, read, 6);
     Ok(())
 }
 
 #[test]
 fn each_read_of_a_byte_fails_in_turn(rt: HostRuntime) -> Result<(), Fail> {
-    let row = ("run - -", "Procedure f(G: Graph) { }", "", "turns 0\n");
-    reads_fail(&rt, rt.alloc(), &row, 1, 29)
+    let row = "run - -\nProcedure f(G: Graph) { }=>\nturns 0\n";
+    reads_fail(&rt, rt.alloc(), row, 1, 29)
 }
 
-// The words, the read of a file that fails, and what is written. A small file takes one read, and one that finds its
+// The read of a file that fails, the words, and what is written. A small file takes one read, and one that finds its
 // end; a program is read before its graph.
-const FILES: [(&str, u64, &str); 17] = [
-    ("run a.gm a.graph", 1, "read fault a.gm\n"),
-    ("run a.gm a.graph", 2, "read fault a.gm\n"),
-    ("run a.gm a.graph", 3, "read fault a.graph\n"),
-    ("run a.gm a.graph", 4, "read fault a.graph\n"),
-    ("run a.gm a.graph", 5, WRITTEN),
-    ("run a.gm a.graph", 0, WRITTEN),
-    ("run a.gm a.gm", 3, "read fault a.gm\n"),
-    ("run a.gm a.gm", 0, "graph BadLine at line 1\n"),
-    ("run a.gm -- nofile", 0, "absent nofile\n"),
-    ("run a.gm nofile", 2, "read fault a.gm\n"),
-    ("run a.gm nofile", 3, "read fault nofile\n"),
-    ("run nofile a.graph", 0, "absent nofile\n"),
-    ("run nofile no.graph", 1, "read fault nofile\n"),
-    ("run refused.gm a.graph", 2, "read fault refused.gm\n"),
-    ("run refused.gm a.graph", 3, REFUSED),
-    ("run refused.gm nofile", 0, REFUSED),
-    ("run refused.gm refused.gm k=1", 0, REFUSED),
-];
+const FILES: &str = "
+~ 1: run a.gm a.graph
+=>
+read fault a.gm
+~ 2: run a.gm a.graph
+=>
+read fault a.gm
+~ 3: run a.gm a.graph
+=>
+read fault a.graph
+~ 4: run a.gm a.graph
+=>
+read fault a.graph
+~ 5: run a.gm a.graph
+=>
+node p
+0 7
+1 7
+2 7
+turns 0
+~ 0: run a.gm a.graph
+=>
+node p
+0 7
+1 7
+2 7
+turns 0
+~ 3: run a.gm a.gm
+=>
+read fault a.gm
+~ 0: run a.gm a.gm
+=>
+graph BadLine at line 1
+~ 0: run a.gm -- nofile
+=>
+absent nofile
+~ 2: run a.gm nofile
+=>
+read fault a.gm
+~ 3: run a.gm nofile
+=>
+read fault nofile
+~ 0: run nofile a.graph
+=>
+absent nofile
+~ 1: run nofile no.graph
+=>
+read fault nofile
+~ 2: run refused.gm a.graph
+=>
+read fault refused.gm
+~ 3: run refused.gm a.graph
+=>
+refused U1 at 1:25
+~ 0: run refused.gm nofile
+=>
+refused U1 at 1:25
+~ 0: run refused.gm refused.gm k=1
+=>
+refused U1 at 1:25
+";
+
+// Whether a call over the two files gives the answer of a row.
+fn file_fails(
+    rt: &(impl Abort + Threads + Wait + Sync),
+    alloc: Global,
+    row: &str,
+) -> Result<(), Fail> {
+    let (line, _, text) = parts_of(row)?;
+    let (number, words) = sides(line, ": ")?;
+    let mut files = two_files(alloc, number_of(number)?)?;
+    let ended = run_with(rt, alloc, words, Vec::new(alloc), PLAIN, &mut files)?;
+    ends_with(rt, alloc, &ended, text, row)
+}
 
 #[test]
 fn each_read_of_a_file_fails_in_turn(rt: HostRuntime) -> Result<(), Fail> {
-    for (words, failing, text) in FILES {
-        let mut files = two_files(rt.alloc(), failing)?;
-        let input = Vec::new(rt.alloc());
-        let (status, written) = run_with(&rt, rt.alloc(), words, input, PLAIN, &mut files)?;
-        assert_eq!(rt; written.as_str(), text, "{words} {failing}");
-        assert_eq!(rt; status, status_of(text), "{words} {failing}");
+    let mut read = 0usize;
+    for row in FILES.split('~') {
+        if is_row(row) {
+            file_fails(&rt, rt.alloc(), row)?;
+            read = read.saturating_add(1);
+        }
     }
+    all_read(&rt, read, 17);
     Ok(())
 }
 
@@ -235,33 +393,43 @@ fn long_file(alloc: Global, failing: u64) -> Result<MemFiles, Fail> {
     let mut graph = vec![in alloc; b'#'; 140_000]?;
     graph.extend_from_slice(b"\n0 1\n1 2\n")?;
     let mut files = Vec::new(alloc);
-    files.push((String::from_str(alloc, "long.graph")?, graph))?;
+    put_file(alloc, &mut files, "long.graph", &graph)?;
     Ok(MemFiles::new(files, vec![in alloc; failing]?))
+}
+
+// Whether a call over the long file whose read of this number fails writes this.
+fn long_file_fails(
+    rt: &(impl Abort + Threads + Wait + Sync),
+    alloc: Global,
+    failing: u64,
+    text: &str,
+) -> Result<(), Fail> {
+    let mut files = long_file(alloc, failing)?;
+    let input = joined(alloc, ADD, "")?;
+    let ended = run_with(rt, alloc, "run - long.graph", input, PLAIN, &mut files)?;
+    ends_with(rt, alloc, &ended, text, text)
 }
 
 #[test]
 fn each_read_of_a_long_file_fails_in_turn(rt: HostRuntime) -> Result<(), Fail> {
-    let failed = "read fault long.graph\n";
-    for (failing, text) in [
-        (1, failed),
-        (2, failed),
-        (3, failed),
-        (4, failed),
-        (5, WRITTEN),
-    ] {
-        let mut files = long_file(rt.alloc(), failing)?;
-        let input = joined(rt.alloc(), ADD, "")?;
-        let (status, written) = run_with(
-            &rt,
-            rt.alloc(),
-            "run - long.graph",
-            input,
-            PLAIN,
-            &mut files,
-        )?;
-        assert_eq!(rt; written.as_str(), text, "{failing}");
-        assert_eq!(rt; status, status_of(text), "{failing}");
+    for failing in [1, 2, 3, 4] {
+        long_file_fails(&rt, rt.alloc(), failing, "read fault long.graph\n")?;
     }
+    long_file_fails(&rt, rt.alloc(), 5, WRITTEN)
+}
+
+// Whether a refused program on standard input leaves the files alone, with these words.
+fn touches_no_file(
+    rt: &(impl Abort + Threads + Wait + Sync),
+    alloc: Global,
+    words: &str,
+) -> Result<(), Fail> {
+    let mut files = two_files(alloc, 1)?;
+    let input = joined(alloc, DOUBLE, "")?;
+    let ended = run_with(rt, alloc, words, input, PLAIN, &mut files)?;
+    ends_with(rt, alloc, &ended, REFUSED, words)?;
+    let read = files.read_at("a.graph", 0, &mut [0]);
+    assert_eq!(rt; read, Err(FileFault::Failed), "{words}");
     Ok(())
 }
 
@@ -269,13 +437,22 @@ fn each_read_of_a_long_file_fails_in_turn(rt: HostRuntime) -> Result<(), Fail> {
 #[test]
 fn refused_programs_touch_no_file(rt: HostRuntime) -> Result<(), Fail> {
     for words in ["run - a.graph", "run - nofile", "run - -", "check -"] {
-        let mut files = two_files(rt.alloc(), 1)?;
-        let input = joined(rt.alloc(), DOUBLE, "")?;
-        let (_status, written) = run_with(&rt, rt.alloc(), words, input, PLAIN, &mut files)?;
-        assert_eq!(rt; written.as_str(), REFUSED, "{words}");
-        let read = files.read_at("a.graph", 0, &mut [0]);
-        assert_eq!(rt; read, Err(FileFault::Failed), "{words}");
+        touches_no_file(&rt, rt.alloc(), words)?;
     }
+    Ok(())
+}
+
+// Whether nothing is read of standard input with these words.
+fn nothing_is_read(
+    rt: &(impl Abort + Threads + Wait + Sync),
+    alloc: Global,
+    words: &str,
+) -> Result<(), Fail> {
+    let mut source = MemSource::new(Vec::new(alloc), 1, vec![in alloc; 1]?);
+    let mut files = no_files(alloc);
+    let mut sink = MemSink::new(alloc, 100, Vec::new(alloc), 100)?;
+    let _status = call(rt, alloc, words, &mut source, &mut files, &mut sink)?;
+    assert_eq!(rt; source.read(&mut [0]), Err(Failed), "{words}");
     Ok(())
 }
 
@@ -283,11 +460,7 @@ fn refused_programs_touch_no_file(rt: HostRuntime) -> Result<(), Fail> {
 #[test]
 fn nothing_is_read_where_nothing_is_asked(rt: HostRuntime) -> Result<(), Fail> {
     for words in ["run", "check", "demo 1", "run - - --workers 65"] {
-        let mut source = MemSource::new(Vec::new(rt.alloc()), 1, vec![in rt.alloc(); 1]?);
-        let mut files = no_files(rt.alloc());
-        let mut sink = MemSink::new(rt.alloc(), 100, Vec::new(rt.alloc()), 100)?;
-        let _status = call(&rt, rt.alloc(), words, &mut source, &mut files, &mut sink)?;
-        assert_eq!(rt; source.read(&mut [0]), Err(Failed), "{words}");
+        nothing_is_read(&rt, rt.alloc(), words)?;
     }
     Ok(())
 }
@@ -297,35 +470,64 @@ const PATHS: &str =
     "Procedure sssp(G: Graph, root: Node, len: E_P<Int>; dist: N_P<Int>) { N_P<Int> next; N_P<Bool> on; Bool fin = False; G.dist = G == root ? 0 : INF; G.next = G.dist; G.on = G == root; While (!fin) { Foreach (n: G.Nodes) (n.on) { Foreach (s: n.Nbrs) { Edge e = s.ToEdge(); s.next min= n.dist + e.len; } } G.on = G.next < G.dist; G.dist = G.next; fin = !Exist(n: G.Nodes) {n.on}; } }\n%%\n";
 
 // What is written of the shortest paths over the first bytes of a graph, one byte more in each row.
-const CUT_ANYWHERE: [&str; 15] = [
-    "argument NoSuchNode root\n",
-    "graph BadLine at line 1\n",
-    "graph BadLine at line 1\n",
-    "graph MissingColumn at line 1\n",
-    "graph MissingColumn at line 1\n",
-    "node dist\n0 0\n1 4\nturns 2\n",
-    "node dist\n0 0\n1 40\nturns 2\n",
-    "node dist\n0 0\n1 40\nturns 2\n",
-    "graph BadLine at line 2\n",
-    "graph BadLine at line 2\n",
-    "graph MissingColumn at line 2\n",
-    "graph MissingColumn at line 2\n",
-    "graph BadLine at line 2\n",
-    "node dist\n0 0\n1 40\n2 2147483647\nturns 2\n",
-    "node dist\n0 0\n1 40\n2 2147483647\nturns 2\n",
-];
+const CUT_ANYWHERE: &str = "
+~ argument NoSuchNode root
+~ graph BadLine at line 1
+~ graph BadLine at line 1
+~ graph MissingColumn at line 1
+~ graph MissingColumn at line 1
+~ node dist
+0 0
+1 4
+turns 2
+~ node dist
+0 0
+1 40
+turns 2
+~ node dist
+0 0
+1 40
+turns 2
+~ graph BadLine at line 2
+~ graph BadLine at line 2
+~ graph MissingColumn at line 2
+~ graph MissingColumn at line 2
+~ graph BadLine at line 2
+~ node dist
+0 0
+1 40
+2 2147483647
+turns 2
+~ node dist
+0 0
+1 40
+2 2147483647
+turns 2
+";
+
+// Whether this is written of the shortest paths over so many bytes of a graph.
+fn cut_graph_holds(
+    rt: &(impl Abort + Threads + Wait + Sync),
+    alloc: Global,
+    length: usize,
+    text: &str,
+) -> Result<(), Fail> {
+    let graph: &[u8] = b"0 1 40\n2 1 -3\n";
+    let mut input = joined(alloc, PATHS, "")?;
+    input.extend_from_slice(graph.get(..length).unwrap_or(&[]))?;
+    let ended = run(rt, alloc, "run - - root=0", input, PLAIN)?;
+    ends_with(rt, alloc, &ended, text, text)
+}
 
 #[test]
 fn graphs_that_are_cut_anywhere(rt: HostRuntime) -> Result<(), Fail> {
-    let graph: &[u8] = b"0 1 40\n2 1 -3\n";
     let mut length = 0usize;
-    for text in CUT_ANYWHERE {
-        let mut input = joined(rt.alloc(), PATHS, "")?;
-        input.extend_from_slice(graph.get(..length).unwrap_or(&[]))?;
-        let (status, written) = run(&rt, rt.alloc(), "run - - root=0", input, PLAIN)?;
-        assert_eq!(rt; written.as_str(), text, "{length}");
-        assert_eq!(rt; status, status_of(text), "{length}");
-        length = length.saturating_add(1);
+    for row in CUT_ANYWHERE.split('~') {
+        if is_row(row) {
+            cut_graph_holds(&rt, rt.alloc(), length, row.trim_start())?;
+            length = length.saturating_add(1);
+        }
     }
+    all_read(&rt, length, 15);
     Ok(())
 }

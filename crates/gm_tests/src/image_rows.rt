@@ -3,10 +3,10 @@
 ghost use Rattle.std.specs.Prelude.{[]};
 
 use crate::calls::{
-    BYTE_BY_BYTE, PLAIN, calls_hold, joined, no_files, run, status_of, watched_call,
+    PLAIN, Streams, all_read, both, both_ways_hold, ends_as, ends_with, is_row, joined, no_files,
+    number_of, parts_of, run, run_watched, sides,
 };
 use gm_base::{NoMemory, Status};
-use gm_files::{MemSink, MemSource};
 use gm_observe::{Note, Observer};
 use std::alloc::Global;
 use std::cell::Cell;
@@ -28,123 +28,642 @@ pub const BEST: &str =
 pub const MOST: &str =
     "gm-image 2\nname most\ninputs 1\nnode I v 0\noutputs 3\nscalar I best 0\nscalar N who 1\nnode I w 1\nresult -\nglobals 2\nI\nN\nfields 3\nI\nI\nB\nregisters 0\ncolumns 0\nkinds 0\nplaces 2\n3 5\n4 5\nblocks 1\nblock 0\nbody 2\npick max 0 2 1 f 0 2 c B True\npickput max 1 2 0 f 0 1 id\nmaster 2\nstep 0\nend\n";
 
-// The first of these under the header of the first version, which has no such lines.
-const BEST_OF_OLD: &str =
-    "gm-image 1\nname best\ninputs 1\nnode I v 0\noutputs 2\nnode I m 1\nnode N w 2\nresult -\nglobals 0\nfields 3\nI\nI\nN\nregisters 0\ncolumns 0\nkinds 1\n- I N\nplaces 1\n4 34\nblocks 2\nblock 0\nbody 3\nset 1 c I 9\neach out 1\nsend 0 nb f 0 id\nblock 1\non 0 1\npick min 0 2 1 m 0 2 m 1\nbody 0\nmaster 3\nstep 0\nstep 1\nend\n";
-
 // A graph for it, behind the line that parts the two.
 const VALUES: &str = "%%\n0 1\n0 1\n1 1\nv 0 5\nv 1 7\n";
 
 // Images that run, and images that break a rule at a line.
-const IMAGES: [(&str, &str, &str, &str); 17] = [
-    (
-        "exec - -",
-        BEST,
-        "%%\n0 3\n1 3\n2 3\nv 0 4\nv 1 2\nv 2 2\n",
-        "node m w\n0 9 NIL\n1 9 NIL\n2 9 NIL\n3 2 1\nsupersteps 2 messages 3 turns 0\n",
-    ),
-    (
-        "exec - -",
-        BEST,
-        "%%\n0 1\n0 1\n1 1\nv 0 12\nv 1 9\n",
-        "node m w\n0 9 NIL\n1 9 NIL\nsupersteps 2 messages 3 turns 0\n",
-    ),
-    (
-        "exec - -",
-        MOST,
-        "%%\n0 1\n1 2\nv 0 3\nv 1 8\nv 2 8\n",
-        "best = 8\nwho = 1\nnode w\n0 3\n1 8\n2 8\nsupersteps 1 messages 0 turns 0\n",
-    ),
-    (
-        "exec - -",
-        BEST_OF_OLD,
-        VALUES,
-        "image BadText at line 28\n",
-    ),
-    (
-        "exec - - --observe",
-        TOTAL,
-        VALUES,
-        "node s\n0 0\n1 17\nsupersteps 2 messages 3 turns 0\nobserved 2 supersteps 3 messages\nstep 1 block 0 vertices 2 messages 3\nstep 2 block 1 vertices 2 messages 0\n",
-    ),
-    (
-        "exec - -",
-        "gm-image 1\nname spin\ninputs 0\noutputs 0\nresult I 0\nglobals 1\nI\nfields 0\nregisters 0\ncolumns 0\nkinds 0\nplaces 1\n3 21\nblocks 0\nmaster 4\nloop 3 < g 0 c I 6\nset 0 + 0 g 0 c I 1\nback 0\nend\n%%\n",
-        "",
-        "return = 6\nsupersteps 0 messages 0 turns 6\n",
-    ),
-    (
-        "exec - -",
-        "gm-image 1\nname spin\ninputs 0\noutputs 0\nresult I 0\nglobals 1\nI\nfields 0\nregisters 0\ncolumns 0\nkinds 0\nplaces 1\n3 21\nblocks 0\nmaster 4\nloop 2 < g 0 c I 6\nset 0 + 0 g 0 c I 1\nback 0\nend\n%%\n",
-        "",
-        "image I4 at line 18\n",
-    ),
-    (
-        "exec - -",
-        "gm-image 1\nname spin\ninputs x\noutputs 0\nresult I 0\nglobals 1\nI\nfields 0\nregisters 0\ncolumns 0\nkinds 0\nplaces 1\n3 21\nblocks 0\nmaster 4\nloop 3 < g 0 c I 6\nset 0 + 0 g 0 c I 1\nback 0\nend\n%%\n",
-        "",
-        "image BadText at line 3\n",
-    ),
-    (
-        "exec - - --turns 5 --observe",
-        "gm-image 1\nname spin\ninputs 0\noutputs 0\nresult I 0\nglobals 1\nI\nfields 0\nregisters 0\ncolumns 0\nkinds 0\nplaces 1\n3 21\nblocks 0\nmaster 4\nloop 3 < g 0 c I 6\nset 0 + 0 g 0 c I 1\nback 0\nend\n%%\n",
-        "",
-        "cut after 5 turns\nobserved 0 supersteps 0 messages\n",
-    ),
-    (
-        "exec - -",
-        "gm-image 1\nname pair\ninputs 0\noutputs 2\nnode I a 0\nnode I b 1\nresult -\nglobals 0\nfields 2\nI\nI\nregisters 0\ncolumns 0\nkinds 0\nplaces 0\nblocks 2\nblock 0\nbody 1\nset 0 c I 3\nblock 0\nbody 1\nset 1 f 0\nmaster 3\nstep 0\nstep 1\nend\n%%\n0 1\n",
-        "",
-        "node a b\n0 3 3\n1 3 3\nsupersteps 2 messages 0 turns 0\n",
-    ),
-    (
-        "exec - -",
-        "gm-image 1\nname total\ninputs 1\nnode I v 0\noutputs 1\nnode I s 1\nresult -\nglobals 0\nfields 2\nI\nI\nregisters 0\ncolumns 0\nkinds 1\n- I\nplaces 1\n2 32\nblocks 2\nblock 0\nbody 2\neach out 2\nsend 0 nb f 0\nblock 1\non 0 1\nfold sum 0 1 m 0\nbody 0\nmaster 3\nstep 0\nstep 1\nend\n%%\n0 1\n0 1\n1 1\nv 0 5\nv 1 7\n",
-        "",
-        "image I6 at line 21\n",
-    ),
-    (
-        "exec - -",
-        "gm-image 1\nname total\ninputs 1\nnode I v 0\noutputs 1\nnode I s 1\nresult -\nglobals 0\nfields 2\nI\nI\nregisters 0\ncolumns 0\nkinds 1\n- I\nplaces 1\n2 32\nblocks 2\nblock 0\nbody 2\nskip 1 c B True\nsend 0 nb f 0\nblock 1\non 0 1\nfold sum 0 1 m 0\nbody 0\nmaster 3\nstep 0\nstep 1\nend\n%%\n0 1\n0 1\n1 1\nv 0 5\nv 1 7\n",
-        "",
-        "image I7 at line 22\n",
-    ),
-    (
-        "exec - -",
-        "gm-image 1\nname total\ninputs 1\nnode I v 0\noutputs 1\nnode I s 1\nresult -\nglobals 0\nfields 2\nI\nI\nregisters 0\ncolumns 0\nkinds 1\n- I\nplaces 1\n2 32\nblocks 2\nblock 0\nbody 2\neach out 1\nsend 0 nb nb\nblock 1\non 0 1\nfold sum 0 1 m 0\nbody 0\nmaster 3\nstep 0\nstep 1\nend\n%%\n0 1\n0 1\n1 1\nv 0 5\nv 1 7\n",
-        "",
-        "image I2 at line 22\n",
-    ),
-    (
-        "exec - -",
-        "gm-image 1\nname total\ninputs 1\nnode I v 0\noutputs 1\nnode I s 1\nresult -\nglobals 0\nfields 2\nI\nI\nregisters 0\ncolumns 0\nkinds 1\n- I\nplaces 1\n2 32\nblocks 2\nblock 0\nbody 2\neach out 1\nsend 0 nb f 0\nblock 1\non 0 1\nset 1 m 0\nbody 0\nmaster 3\nstep 0\nstep 1\nend\n%%\n0 1\n0 1\n1 1\nv 0 5\nv 1 7\n",
-        "",
-        "image I8 at line 25\n",
-    ),
-    (
-        "exec - -",
-        "gm-image 1\nname total\ninputs 1\nnode I v 0\noutputs 1\nnode I s 1\nresult -\nglobals 0\nfields 2\nI\nI\nregisters 0\ncolumns 0\nkinds 1\n- I\nplaces 1\n2 32\nblocks 2\nblock 0\nbody 2\neach out 1\nsend 0 nb f 0\nblock 1\non 0 1\nfold sum 0 1 m 0\nbody 0\nmaster 3\nstep 0\nstep 2\nend\n%%\n0 1\n0 1\n1 1\nv 0 5\nv 1 7\n",
-        "",
-        "image I1 at line 29\n",
-    ),
-    (
-        "exec - -",
-        "gm-image 1\nname total\ninputs 1\nnode I v 0\noutputs 1\nnode I s 1\nresult -\nglobals 0\nfields 2\nI\nI\nregisters 0\ncolumns 0\nkinds 1\n- I\nplaces 1\n2 32\nblocks 2\nblock 0\nbody 2\neach out 1\nsend 0 nb f 0\nblock 1\non 0 1\nfold sum 0 1 m 0\nbody 0\nmaster 3\nstep 0\njump 0\nend\n%%\n0 1\n0 1\n1 1\nv 0 5\nv 1 7\n",
-        "",
-        "image I3 at line 29\n",
-    ),
-    (
-        "exec - -",
-        "gm-image 1\nname total\ninputs 1\nnode I v 0\noutputs 1\nnode I s 1\nresult -\nglobals 0\nfields 2\nI\nI\nregisters 0\ncolumns 0\nkinds 1\n- I\nplaces 1\n2 32\nblocks 2\nblock 0\nbody 2\neach out 1\nsend 0 nb f 0\nblock 1\non 0 1\nfold sum 0 1 m 0\nbody 0\nmaster 3\nstep 0\nend\nend\n%%\n0 1\n0 1\n1 1\nv 0 5\nv 1 7\n",
-        "",
-        "image I5 at line 29\n",
-    ),
-];
+const IMAGES: &str = "
+~ exec - -
+gm-image 2
+name best
+inputs 1
+node I v 0
+outputs 2
+node I m 1
+node N w 2
+result -
+globals 0
+fields 3
+I
+I
+N
+registers 0
+columns 0
+kinds 1
+- I N
+places 1
+4 34
+blocks 2
+block 0
+body 3
+set 1 c I 9
+each out 1
+send 0 nb f 0 id
+block 1
+on 0 1
+pick min 0 2 1 m 0 2 m 1
+body 0
+master 3
+step 0
+step 1
+end
+%%
+0 3
+1 3
+2 3
+v 0 4
+v 1 2
+v 2 2
+=>
+node m w
+0 9 NIL
+1 9 NIL
+2 9 NIL
+3 2 1
+supersteps 2 messages 3 turns 0
+~ exec - -
+gm-image 2
+name best
+inputs 1
+node I v 0
+outputs 2
+node I m 1
+node N w 2
+result -
+globals 0
+fields 3
+I
+I
+N
+registers 0
+columns 0
+kinds 1
+- I N
+places 1
+4 34
+blocks 2
+block 0
+body 3
+set 1 c I 9
+each out 1
+send 0 nb f 0 id
+block 1
+on 0 1
+pick min 0 2 1 m 0 2 m 1
+body 0
+master 3
+step 0
+step 1
+end
+%%
+0 1
+0 1
+1 1
+v 0 12
+v 1 9
+=>
+node m w
+0 9 NIL
+1 9 NIL
+supersteps 2 messages 3 turns 0
+~ exec - -
+gm-image 2
+name most
+inputs 1
+node I v 0
+outputs 3
+scalar I best 0
+scalar N who 1
+node I w 1
+result -
+globals 2
+I
+N
+fields 3
+I
+I
+B
+registers 0
+columns 0
+kinds 0
+places 2
+3 5
+4 5
+blocks 1
+block 0
+body 2
+pick max 0 2 1 f 0 2 c B True
+pickput max 1 2 0 f 0 1 id
+master 2
+step 0
+end
+%%
+0 1
+1 2
+v 0 3
+v 1 8
+v 2 8
+=>
+best = 8
+who = 1
+node w
+0 3
+1 8
+2 8
+supersteps 1 messages 0 turns 0
+~ exec - -
+gm-image 1
+name best
+inputs 1
+node I v 0
+outputs 2
+node I m 1
+node N w 2
+result -
+globals 0
+fields 3
+I
+I
+N
+registers 0
+columns 0
+kinds 1
+- I N
+places 1
+4 34
+blocks 2
+block 0
+body 3
+set 1 c I 9
+each out 1
+send 0 nb f 0 id
+block 1
+on 0 1
+pick min 0 2 1 m 0 2 m 1
+body 0
+master 3
+step 0
+step 1
+end
+%%
+0 1
+0 1
+1 1
+v 0 5
+v 1 7
+=>
+image BadText at line 28
+~ exec - - --observe
+gm-image 1
+name total
+inputs 1
+node I v 0
+outputs 1
+node I s 1
+result -
+globals 0
+fields 2
+I
+I
+registers 0
+columns 0
+kinds 1
+- I
+places 1
+2 32
+blocks 2
+block 0
+body 2
+each out 1
+send 0 nb f 0
+block 1
+on 0 1
+fold sum 0 1 m 0
+body 0
+master 3
+step 0
+step 1
+end
+%%
+0 1
+0 1
+1 1
+v 0 5
+v 1 7
+=>
+node s
+0 0
+1 17
+supersteps 2 messages 3 turns 0
+observed 2 supersteps 3 messages
+step 1 block 0 vertices 2 messages 3
+step 2 block 1 vertices 2 messages 0
+~ exec - -
+gm-image 1
+name spin
+inputs 0
+outputs 0
+result I 0
+globals 1
+I
+fields 0
+registers 0
+columns 0
+kinds 0
+places 1
+3 21
+blocks 0
+master 4
+loop 3 < g 0 c I 6
+set 0 + 0 g 0 c I 1
+back 0
+end
+%%
+=>
+return = 6
+supersteps 0 messages 0 turns 6
+~ exec - -
+gm-image 1
+name spin
+inputs 0
+outputs 0
+result I 0
+globals 1
+I
+fields 0
+registers 0
+columns 0
+kinds 0
+places 1
+3 21
+blocks 0
+master 4
+loop 2 < g 0 c I 6
+set 0 + 0 g 0 c I 1
+back 0
+end
+%%
+=>
+image I4 at line 18
+~ exec - -
+gm-image 1
+name spin
+inputs x
+outputs 0
+result I 0
+globals 1
+I
+fields 0
+registers 0
+columns 0
+kinds 0
+places 1
+3 21
+blocks 0
+master 4
+loop 3 < g 0 c I 6
+set 0 + 0 g 0 c I 1
+back 0
+end
+%%
+=>
+image BadText at line 3
+~ exec - - --turns 5 --observe
+gm-image 1
+name spin
+inputs 0
+outputs 0
+result I 0
+globals 1
+I
+fields 0
+registers 0
+columns 0
+kinds 0
+places 1
+3 21
+blocks 0
+master 4
+loop 3 < g 0 c I 6
+set 0 + 0 g 0 c I 1
+back 0
+end
+%%
+=>
+cut after 5 turns
+observed 0 supersteps 0 messages
+~ exec - -
+gm-image 1
+name pair
+inputs 0
+outputs 2
+node I a 0
+node I b 1
+result -
+globals 0
+fields 2
+I
+I
+registers 0
+columns 0
+kinds 0
+places 0
+blocks 2
+block 0
+body 1
+set 0 c I 3
+block 0
+body 1
+set 1 f 0
+master 3
+step 0
+step 1
+end
+%%
+0 1
+=>
+node a b
+0 3 3
+1 3 3
+supersteps 2 messages 0 turns 0
+~ exec - -
+gm-image 1
+name total
+inputs 1
+node I v 0
+outputs 1
+node I s 1
+result -
+globals 0
+fields 2
+I
+I
+registers 0
+columns 0
+kinds 1
+- I
+places 1
+2 32
+blocks 2
+block 0
+body 2
+each out 2
+send 0 nb f 0
+block 1
+on 0 1
+fold sum 0 1 m 0
+body 0
+master 3
+step 0
+step 1
+end
+%%
+0 1
+0 1
+1 1
+v 0 5
+v 1 7
+=>
+image I6 at line 21
+~ exec - -
+gm-image 1
+name total
+inputs 1
+node I v 0
+outputs 1
+node I s 1
+result -
+globals 0
+fields 2
+I
+I
+registers 0
+columns 0
+kinds 1
+- I
+places 1
+2 32
+blocks 2
+block 0
+body 2
+skip 1 c B True
+send 0 nb f 0
+block 1
+on 0 1
+fold sum 0 1 m 0
+body 0
+master 3
+step 0
+step 1
+end
+%%
+0 1
+0 1
+1 1
+v 0 5
+v 1 7
+=>
+image I7 at line 22
+~ exec - -
+gm-image 1
+name total
+inputs 1
+node I v 0
+outputs 1
+node I s 1
+result -
+globals 0
+fields 2
+I
+I
+registers 0
+columns 0
+kinds 1
+- I
+places 1
+2 32
+blocks 2
+block 0
+body 2
+each out 1
+send 0 nb nb
+block 1
+on 0 1
+fold sum 0 1 m 0
+body 0
+master 3
+step 0
+step 1
+end
+%%
+0 1
+0 1
+1 1
+v 0 5
+v 1 7
+=>
+image I2 at line 22
+~ exec - -
+gm-image 1
+name total
+inputs 1
+node I v 0
+outputs 1
+node I s 1
+result -
+globals 0
+fields 2
+I
+I
+registers 0
+columns 0
+kinds 1
+- I
+places 1
+2 32
+blocks 2
+block 0
+body 2
+each out 1
+send 0 nb f 0
+block 1
+on 0 1
+set 1 m 0
+body 0
+master 3
+step 0
+step 1
+end
+%%
+0 1
+0 1
+1 1
+v 0 5
+v 1 7
+=>
+image I8 at line 25
+~ exec - -
+gm-image 1
+name total
+inputs 1
+node I v 0
+outputs 1
+node I s 1
+result -
+globals 0
+fields 2
+I
+I
+registers 0
+columns 0
+kinds 1
+- I
+places 1
+2 32
+blocks 2
+block 0
+body 2
+each out 1
+send 0 nb f 0
+block 1
+on 0 1
+fold sum 0 1 m 0
+body 0
+master 3
+step 0
+step 2
+end
+%%
+0 1
+0 1
+1 1
+v 0 5
+v 1 7
+=>
+image I1 at line 29
+~ exec - -
+gm-image 1
+name total
+inputs 1
+node I v 0
+outputs 1
+node I s 1
+result -
+globals 0
+fields 2
+I
+I
+registers 0
+columns 0
+kinds 1
+- I
+places 1
+2 32
+blocks 2
+block 0
+body 2
+each out 1
+send 0 nb f 0
+block 1
+on 0 1
+fold sum 0 1 m 0
+body 0
+master 3
+step 0
+jump 0
+end
+%%
+0 1
+0 1
+1 1
+v 0 5
+v 1 7
+=>
+image I3 at line 29
+~ exec - -
+gm-image 1
+name total
+inputs 1
+node I v 0
+outputs 1
+node I s 1
+result -
+globals 0
+fields 2
+I
+I
+registers 0
+columns 0
+kinds 1
+- I
+places 1
+2 32
+blocks 2
+block 0
+body 2
+each out 1
+send 0 nb f 0
+block 1
+on 0 1
+fold sum 0 1 m 0
+body 0
+master 3
+step 0
+end
+end
+%%
+0 1
+0 1
+1 1
+v 0 5
+v 1 7
+=>
+image I5 at line 29
+";
 
 #[test]
 fn images(rt: HostRuntime) -> Result<(), Fail> {
-    calls_hold(&rt, rt.alloc(), PLAIN, &IMAGES)?;
-    calls_hold(&rt, rt.alloc(), BYTE_BY_BYTE, &IMAGES)
+    both_ways_hold(&rt, rt.alloc(), "", IMAGES, 17)
 }
 
 // Whether the front of an image is no image, at this line.
@@ -156,10 +675,8 @@ fn is_cut(
 ) -> Result<(), Fail> {
     let text = format!(in alloc; "image BadText at line {line}\n")?;
     let input = Vec::from_slice(alloc, front)?;
-    let (status, written) = run(rt, alloc, "exec - -", input, PLAIN)?;
-    assert_eq!(rt; written.as_str(), text.as_str());
-    assert_eq!(rt; status, Status::BadInput, "{text}");
-    Ok(())
+    let ended = run(rt, alloc, "exec - -", input, PLAIN)?;
+    ends_with(rt, alloc, &ended, text.as_str(), "a cut image")
 }
 
 // An image that is cut before any of its bytes is no image, at the line that is cut.
@@ -181,7 +698,7 @@ fn images_that_are_cut_anywhere(rt: HostRuntime) -> Result<(), Fail> {
 #[derive(Drop)]
 struct Forgetful {
     notes: Vec<Note>,
-    most: usize,
+    most: u64,
 }
 
 impl Observer for Forgetful {
@@ -192,7 +709,7 @@ impl Observer for Forgetful {
     ghost says_of = { λ _ _. [] };
 
     fn note(&mut self, n: Note) -> Result<(), NoMemory> {
-        if self.notes.len() >= self.most {
+        if self.notes.len() as u64 >= self.most {
             return Err(NoMemory);
         }
         self.notes.push(n)?;
@@ -234,171 +751,216 @@ impl Observer for Counted {
     }
 }
 
-// An observer with memory for so many notes, and one that counts its drops.
-fn two_observers(
-    alloc: Global,
-    most: usize,
-    drops: &Rc<Cell<u32>>,
-) -> Result<Vec<Box<dyn Observer>>, Fail> {
-    let mut observers: Vec<Box<dyn Observer>> = Vec::new(alloc);
+// An observer with memory for so many notes.
+fn one_without_memory(alloc: Global, most: u64) -> Result<Box<dyn Observer>, NoMemory> {
     let notes = Vec::new(alloc);
     let forgetful: Box<dyn Observer> = Box::new(alloc, Forgetful { notes, most })?;
-    observers.push(forgetful).map_err(NoMemory::from)?;
-    let counted: Box<dyn Observer> = Box::new(
-        alloc,
-        Counted {
-            notes: Vec::new(alloc),
-            drops: Rc::clone(drops)?,
-        },
-    )?;
-    observers.push(counted).map_err(NoMemory::from)?;
-    Ok(observers)
+    Ok(forgetful)
 }
 
-// Whether a call that two observers watch, the first with memory for so many notes, ends in this way, and the second is
-// dropped once. The write of this number fails.
-fn is_watched(
-    rt: &(impl Abort + Threads + Wait + Sync),
+// One that counts its drops.
+fn one_counted(alloc: Global, drops: Rc<Cell<u32>>) -> Result<Box<dyn Observer>, NoMemory> {
+    let notes = Vec::new(alloc);
+    let counted: Box<dyn Observer> = Box::new(alloc, Counted { notes, drops })?;
+    Ok(counted)
+}
+
+// How a call ends that two observers watch, the first with memory for so many notes, and how often the second is dropped.
+fn ending_of_two(
+    rt: &(impl Threads + Wait + Sync),
     alloc: Global,
-    row: (&str, &str, usize, u64, Status, &str),
-) -> Result<(), Fail> {
-    let (words, image, most, fails_out, ending, text) = row;
+    words: &str,
+    image: &str,
+    most: u64,
+    fails_out: u64,
+) -> Result<((Status, String), u32), Fail> {
     let drops = Rc::new(alloc, Cell::new(0u32))?;
-    let mut observers = two_observers(alloc, most, &drops)?;
-    let mut source = MemSource::new(joined(alloc, image, VALUES)?, 7, Vec::new(alloc));
-    let mut files = no_files(alloc);
-    let mut sink = MemSink::new(alloc, 5, vec![in alloc; fails_out]?, 1000)?;
-    let status = watched_call(
+    let second = one_counted(alloc, Rc::clone(&drops)?)?;
+    let mut observers = both(alloc, one_without_memory(alloc, most)?, second)?;
+    let ended = watched_ending(rt, alloc, words, image, fails_out, &mut observers)?;
+    drop(observers);
+    Ok((ended, drops.get()))
+}
+
+// How a call with observers ends over an image with the values behind it, of which the write of this number fails.
+fn watched_ending(
+    rt: &(impl Threads + Wait + Sync),
+    alloc: Global,
+    words: &str,
+    image: &str,
+    fails_out: u64,
+    observers: &mut Vec<Box<dyn Observer>>,
+) -> Result<(Status, String), Fail> {
+    let streams = Streams {
+        piece_in: 7,
+        fails_in: 0,
+        piece_out: 5,
+        fails_out,
+    };
+    let input = joined(alloc, image, VALUES)?;
+    run_watched(
         rt,
         alloc,
         words,
-        &mut source,
-        &mut files,
-        &mut sink,
-        &mut observers,
-    )?;
-    drop(observers);
-    let written = String::from_utf8_lossy(alloc, sink.taken())?;
-    assert_eq!(rt; written.as_str(), text, "{words} {most}");
-    assert_eq!(rt; status, ending, "{words} {most}");
-    assert_eq!(rt; drops.get(), 1, "{words} {most}");
+        input,
+        streams,
+        &mut no_files(alloc),
+        observers,
+    )
+}
+
+// The words, the number of notes that the first observer has memory for, the number of the write that fails, and the name of
+// the status, of the first line of a row.
+fn numbers_of(line: &str) -> Result<(&str, u64, u64, &str), Fail> {
+    let (numbers, words) = sides(line, ": ")?;
+    let (most, rest) = sides(numbers.trim(), " ")?;
+    let (fails_out, name) = sides(rest, " ")?;
+    Ok((words, number_of(most)?, number_of(fails_out)?, name))
+}
+
+// Whether a call that two observers watch ends as a row says, and the second is dropped once.
+fn is_watched(
+    rt: &(impl Abort + Threads + Wait + Sync),
+    alloc: Global,
+    front: &str,
+    row: &str,
+) -> Result<(), Fail> {
+    let (line, image, text) = parts_of(row)?;
+    let (words, most, fails_out, name) = numbers_of(line)?;
+    let image = format!(in alloc; "{front}{image}")?;
+    let (ended, drops) = ending_of_two(rt, alloc, words, image.as_str(), most, fails_out)?;
+    ends_as(rt, alloc, &ended, text, name, row)?;
+    assert_eq!(rt; drops, 1, "{row}");
     Ok(())
 }
 
-const DONE: &str = "node s\n0 0\n1 17\nsupersteps 2 messages 3 turns 0\n";
-
-const USAGE: &str =
-    "usage: gm run PROG GRAPH | check PROG | compile PROG | exec IMAGE GRAPH | demo N\n";
-
-// An image of which each node divides by its value less five, and one that turns forever.
-const DIVIDES: &str =
-    "gm-image 1\nname d\ninputs 1\nnode I v 0\noutputs 0\nresult -\nglobals 0\nfields 1\nI\nregisters 0\ncolumns 0\nkinds 0\nplaces 2\n2 4\n3 4\nblocks 1\nblock 0\nbody 1\nset 0 / 1 c I 1 - 0 f 0 c I 5\nmaster 2\nstep 0\nend\n";
-
-const SPINS: &str =
-    "gm-image 1\nname s\ninputs 0\noutputs 0\nresult -\nglobals 0\nfields 0\nregisters 0\ncolumns 0\nkinds 0\nplaces 0\nblocks 0\nmaster 3\nloop 2 c B True\nback 0\nend\n";
-
-// Programs that end, fault and turn forever.
-const ONES: &str = "Procedure p(G: Graph; a: Int) { a = Count(n: G.Nodes); }\n";
-
-const FAULTS: &str = "Procedure p(G: Graph; a: Int) { a = 1 / a; }\n";
-
-const TURNS: &str = "Procedure p(G: Graph; a: Int) { While (True) { a += 1; } }\n";
-
-// The words, the image, for how many notes the first observer has memory, the write that fails, the status, and what is
+// For how many notes the first observer has memory, the write that fails, the status and the words; the image, and what is
 // written. The image takes two supersteps, so two notes.
-const WATCHED: [(&str, &str, usize, u64, Status, &str); 16] = [
-    ("exec - - --observe", TOTAL, 1, 0, Status::NoMemory, ""),
-    ("exec - - --observe", TOTAL, 0, 0, Status::NoMemory, ""),
-    ("exec - - --observe", TOTAL, 2, 0, Status::Done, DONE),
-    ("exec - -", TOTAL, 0, 0, Status::Done, DONE),
-    (
-        "exec - - --observe",
-        TOTAL,
-        9,
-        3,
-        Status::WriteFault,
-        "node s\n0 0",
-    ),
-    (
-        "exec - - --observe",
-        "gm-image 3\n",
-        9,
-        0,
-        Status::BadInput,
-        "image BadText at line 1\n",
-    ),
-    (
-        "exec - - --observe k=1",
-        TOTAL,
-        9,
-        0,
-        Status::BadInput,
-        "argument Unknown k\n",
-    ),
-    (
-        "exec nofile - --observe",
-        TOTAL,
-        9,
-        0,
-        Status::ReadFault,
-        "absent nofile\n",
-    ),
-    (
-        "exec - - --observe",
-        DIVIDES,
-        9,
-        0,
-        Status::Fault,
-        "fault DivideByZero at 3:4\n",
-    ),
-    (
-        "exec - - --observe --turns=2",
-        SPINS,
-        9,
-        0,
-        Status::Cut,
-        "cut after 2 turns\n",
-    ),
-    ("run - -", ONES, 9, 0, Status::Done, "a = 2\nturns 0\n"),
-    (
-        "run - -",
-        FAULTS,
-        9,
-        0,
-        Status::Fault,
-        "fault DivideByZero at 1:39\n",
-    ),
-    (
-        "run - - --turns=1",
-        TURNS,
-        9,
-        0,
-        Status::Cut,
-        "cut after 1 turns\n",
-    ),
-    (
-        "run - -",
-        "Procedure",
-        9,
-        0,
-        Status::Refused,
-        "refused Syntax at 1:10\n",
-    ),
-    ("run -", ONES, 9, 0, Status::Usage, USAGE),
-    (
-        "exec - - --observe --observe",
-        TOTAL,
-        9,
-        0,
-        Status::Usage,
-        USAGE,
-    ),
-];
+const WATCHED_TOTAL: &str = "
+~ 1 0 NoMemory: exec - - --observe
+=>
+~ 0 0 NoMemory: exec - - --observe
+=>
+~ 2 0 Done: exec - - --observe
+=>
+node s
+0 0
+1 17
+supersteps 2 messages 3 turns 0
+~ 0 0 Done: exec - -
+=>
+node s
+0 0
+1 17
+supersteps 2 messages 3 turns 0
+~ 9 3 WriteFault: exec - - --observe
+=>
+node s
+0 0\
+~ 9 0 BadInput: exec - - --observe k=1
+=>
+argument Unknown k
+~ 9 0 ReadFault: exec nofile - --observe
+=>
+absent nofile
+~ 9 0 Usage: exec - - --observe --observe
+=>
+usage: gm run PROG GRAPH | check PROG | compile PROG | exec IMAGE GRAPH | demo N
+";
+
+// The same of other images and of programs.
+const WATCHED: &str = "
+~ 9 0 BadInput: exec - - --observe
+gm-image 3
+=>
+image BadText at line 1
+~ 9 0 Fault: exec - - --observe
+gm-image 1
+name d
+inputs 1
+node I v 0
+outputs 0
+result -
+globals 0
+fields 1
+I
+registers 0
+columns 0
+kinds 0
+places 2
+2 4
+3 4
+blocks 1
+block 0
+body 1
+set 0 / 1 c I 1 - 0 f 0 c I 5
+master 2
+step 0
+end
+=>
+fault DivideByZero at 3:4
+~ 9 0 Cut: exec - - --observe --turns=2
+gm-image 1
+name s
+inputs 0
+outputs 0
+result -
+globals 0
+fields 0
+registers 0
+columns 0
+kinds 0
+places 0
+blocks 0
+master 3
+loop 2 c B True
+back 0
+end
+=>
+cut after 2 turns
+~ 9 0 Done: run - -
+Procedure p(G: Graph; a: Int) { a = Count(n: G.Nodes); }
+=>
+a = 2
+turns 0
+~ 9 0 Fault: run - -
+Procedure p(G: Graph; a: Int) { a = 1 / a; }
+=>
+fault DivideByZero at 1:39
+~ 9 0 Cut: run - - --turns=1
+Procedure p(G: Graph; a: Int) { While (True) { a += 1; } }
+=>
+cut after 1 turns
+~ 9 0 Refused: run - -
+Procedure=>
+refused Syntax at 1:10
+~ 9 0 Usage: run -
+Procedure p(G: Graph; a: Int) { a = Count(n: G.Nodes); }
+=>
+usage: gm run PROG GRAPH | check PROG | compile PROG | exec IMAGE GRAPH | demo N
+";
+
+// Whether each row holds over what all of them share.
+fn are_watched(
+    rt: &(impl Abort + Threads + Wait + Sync),
+    alloc: Global,
+    front: &str,
+    table: &str,
+    count: usize,
+) -> Result<(), Fail> {
+    let mut read = 0usize;
+    for row in table.split('~') {
+        if is_row(row) {
+            is_watched(rt, alloc, front, row)?;
+            read = read.saturating_add(1);
+        }
+    }
+    all_read(rt, read, count);
+    Ok(())
+}
 
 #[test]
 fn observers_without_memory(rt: HostRuntime) -> Result<(), Fail> {
-    for row in WATCHED {
-        is_watched(&rt, rt.alloc(), row)?;
-    }
-    Ok(())
+    are_watched(&rt, rt.alloc(), TOTAL, WATCHED_TOTAL, 8)?;
+    are_watched(&rt, rt.alloc(), "", WATCHED, 8)
 }

@@ -1,398 +1,601 @@
 //! The worked programs of the language, with their graphs and words: what is written and the status.
 
-use crate::calls::{BYTE_BY_BYTE, PLAIN, calls_hold};
+use crate::calls::both_ways_hold;
 use std::test::Fail;
-
-const COUNT: &str =
-    "Procedure count(G: Graph; p: N_P<Int>) : Int {\n  Foreach (n: G.Nodes) { n.p = 1; }\n  Return Sum(n: G.Nodes) {n.p};\n}\n%%\n";
 
 const SSSP: &str =
     "Procedure sssp(G: Graph, root: Node, len: E_P<Int>; dist: N_P<Int>) {\n  N_P<Int> next;\n  N_P<Bool> on;\n  Bool fin = False;\n  G.dist = (G == root) ? 0 : INF;\n  G.next = G.dist;\n  G.on = (G == root);\n  While (!fin) {\n    Foreach (n: G.Nodes) (n.on) {\n      Foreach (s: n.Nbrs) {\n        Edge e = s.ToEdge();\n        s.next min= n.dist + e.len;\n      }\n    }\n    G.on = G.next < G.dist;\n    G.dist = G.next;\n    fin = !Exist(n: G.Nodes) {n.on};\n  }\n}\n%%\n";
 
-const TOTAL: &str =
-    "Procedure total(G: Graph, v: N_P<Int>; s: N_P<Int>) {\n  Foreach (n: G.Nodes) { n.s = Sum(t: n.InNbrs) {t.v}; }\n}\n%%\n";
-
-const QUOT: &str =
-    "Procedure quot(G: Graph, v: N_P<Int>; q: N_P<Int>) {\n  Foreach (n: G.Nodes) (n.v > 0) {\n    Foreach (t: n.Nbrs) { n.q += 12 / t.v; }\n  }\n}\n%%\n";
-
-const TWO_FAULTS: &str =
-    "Procedure two(G: Graph, v: N_P<Int>; a, b: N_P<Int>) {\n  Foreach (n: G.Nodes) {\n    n.a = 6 / (n.v - 1);\n    n.b = 6 / (n.v - 2);\n  }\n}\n%%\n";
-
-const BOTH: &str =
-    "Procedure both(G: Graph, v, w: N_P<Int>; a: N_P<Int>) {\n  Foreach (n: G.Nodes) {\n    n.a = 6 / n.v + Sum(t: n.Nbrs) {6 / t.w};\n  }\n}\n%%\n";
-
-const TOTAL_OF_ALL: &str =
-    "Procedure tot(G: Graph, v: N_P<Int>) : Int { Return Sum(n: G.Nodes) {n.v}; }\n%%\n";
-
-const DEPTHS: &str =
-    "Procedure depths(G: Graph, s: Node; depth, last: N_P<Int>) {\n  s.depth = 1;\n  InBFS (v: G.Nodes From s) (v != s) {\n    v.depth = Max(w: v.UpNbrs) {w.depth + 1};\n  } InReverse {\n    v.last = Count(w: v.DownNbrs) (w.last == 0);\n  }\n}\n%%\n";
-
-const REACH: &str =
-    "Procedure reach(G: Graph, s: Node; seen: N_P<Bool>) {\n  InBFS (v: G.Nodes From s) {\n    v.seen = True;\n  }\n}\n%%\n";
-
-const SPIN: &str =
-    "Procedure spin(G: Graph) : Int {\n  Int k = 0;\n  While (k < 6) { k += 1; }\n  Return k;\n}\n%%\n";
-
-const MIX: &str =
-    "Procedure mix(G: Graph, v: N_P<Int>; a, b, c: N_P<Int>) {\n  Foreach (n: G.Nodes) {\n    n.c = n.v;\n    If (n.c > 1) {\n      n.c = 0;\n      Foreach (t: n.Nbrs) {\n        Int d = t.v - n.v;\n        If (d > 0) { n.a += d; }\n        t.b += d;\n      }\n      n.c = n.c + n.a;\n    }\n  }\n}\n%%\n";
-
-const DEG: &str =
-    "Procedure deg(G: Graph; d: N_P<Int>) { Foreach (n: G.Nodes) { n.d = n.OutDegree(); } }\n%%\n";
-
-const SHIFT: &str =
-    "Procedure shift(G: Graph, v: N_P<Int>; p: N_P<Int>) {\n  Foreach (n: G.Nodes) { n.p = n.v; }\n  Foreach (n: G.Nodes) { n.p <= Sum(t: n.InNbrs) {t.p} @ n; }\n}\n%%\n";
-
-const VOTE: &str =
-    "Procedure vote(G: Graph, r: Node; c: N_P<Int>) {\n  Foreach (n: G.Nodes) { r.c += 1; }\n}\n%%\n";
-
-const ORDER: &str =
-    "Procedure order(G: Graph, v: N_P<Int>) : Int {\n  Int h = 0;\n  For (n: G.Nodes) (n.v > 0) { h = h * 10 + n.v; }\n  Return h;\n}\n%%\n";
-
-const EDGES: &str =
-    "Procedure e(G: Graph, v: N_P<Int>, w: E_P<Int>; s: N_P<Int>) {\n  Foreach (n: G.Nodes) {\n    Foreach (t: n.InNbrs) {\n      Edge e1 = t.ToEdge();\n        n.s += t.v * e1.w;\n    }\n  }\n}\n%%\n";
-
-const GUARDED: &str =
-    "Procedure h(G: Graph, s: Node, p: N_P<Int>) : Bool { Return s != NIL && s.p > 0; }\n%%\n";
-
-const SCALE: &str =
-    "Procedure scale(G: Graph, v: N_P<Int>, k: Int; p: N_P<Int>) {\n  Foreach (n: G.Nodes) { n.p = n.v * 3 - 1; }\n}\n%%\n";
-
-const BACK: &str =
-    "Procedure back(G: Graph, v: N_P<Int>; s: N_P<Int>) {\n  Foreach (n: G.Nodes) {\n    Foreach (t: n.InNbrs) { t.s += n.v; }\n  }\n}\n%%\n";
-
-const UNSEEN: &str =
-    "Procedure d(G: Graph; p, q: N_P<Int>) { Foreach (n: G.Nodes) { n.p <= 5; n.q = n.p + 1; } }\n%%\n";
-
-const PROD: &str =
-    "Procedure prod(G: Graph, v: N_P<Int>) : Int { Return Product(n: G.Nodes) {n.v}; }\n%%\n";
-
-const ACC: &str =
-    "Procedure acc(G: Graph, v: N_P<Int>; b: N_P<Int>) {\n  Foreach (n: G.Nodes) {\n    Foreach (t: n.Nbrs) { t.b += n.v; t.b += 0 - n.v; }\n  }\n}\n%%\n";
-
-const BOTH_WAYS: &str =
-    "Procedure both(G: Graph, v: N_P<Int>; b: N_P<Int>) {\n  G.b = 1;\n  Foreach (n: G.Nodes) {\n    Foreach (t: n.Nbrs) { t.b += 0 - n.v; n.b += n.v; }\n  }\n}\n%%\n";
-
-const DOUBLE: &str = "Procedure f(G: Graph) { Double d; }";
-
 // The shortest paths, whatever the workers and the partition.
-const WORKERS: [(&str, &str, &str, &str); 10] = [
-    (
-        "run - - root=0",
-        SSSP,
-        "0 1 4\n0 2 1\n2 1 2\n",
-        "node dist\n0 0\n1 3\n2 1\nturns 3\n",
-    ),
-    (
-        "run - - root=0 --workers 1 --partition mod",
-        SSSP,
-        "0 1 4\n0 2 1\n2 1 2\n",
-        "node dist\n0 0\n1 3\n2 1\nturns 3\n",
-    ),
-    (
-        "run - - root=0 --workers 1 --partition block",
-        SSSP,
-        "0 1 4\n0 2 1\n2 1 2\n",
-        "node dist\n0 0\n1 3\n2 1\nturns 3\n",
-    ),
-    (
-        "run - - root=0 --workers 1 --partition spread:9",
-        SSSP,
-        "0 1 4\n0 2 1\n2 1 2\n",
-        "node dist\n0 0\n1 3\n2 1\nturns 3\n",
-    ),
-    (
-        "run - - root=0 --workers 2 --partition mod",
-        SSSP,
-        "0 1 4\n0 2 1\n2 1 2\n",
-        "node dist\n0 0\n1 3\n2 1\nturns 3\n",
-    ),
-    (
-        "run - - root=0 --workers 2 --partition block",
-        SSSP,
-        "0 1 4\n0 2 1\n2 1 2\n",
-        "node dist\n0 0\n1 3\n2 1\nturns 3\n",
-    ),
-    (
-        "run - - root=0 --workers 2 --partition spread:9",
-        SSSP,
-        "0 1 4\n0 2 1\n2 1 2\n",
-        "node dist\n0 0\n1 3\n2 1\nturns 3\n",
-    ),
-    (
-        "run - - root=0 --workers 64 --partition mod",
-        SSSP,
-        "0 1 4\n0 2 1\n2 1 2\n",
-        "node dist\n0 0\n1 3\n2 1\nturns 3\n",
-    ),
-    (
-        "run - - root=0 --workers 64 --partition block",
-        SSSP,
-        "0 1 4\n0 2 1\n2 1 2\n",
-        "node dist\n0 0\n1 3\n2 1\nturns 3\n",
-    ),
-    (
-        "run - - root=0 --workers 64 --partition spread:9",
-        SSSP,
-        "0 1 4\n0 2 1\n2 1 2\n",
-        "node dist\n0 0\n1 3\n2 1\nturns 3\n",
-    ),
-];
+const WORKERS: &str = "
+~ run - - root=0
+0 1 4
+0 2 1
+2 1 2
+=>
+node dist
+0 0
+1 3
+2 1
+turns 3
+~ run - - root=0 --workers 1 --partition mod
+0 1 4
+0 2 1
+2 1 2
+=>
+node dist
+0 0
+1 3
+2 1
+turns 3
+~ run - - root=0 --workers 1 --partition block
+0 1 4
+0 2 1
+2 1 2
+=>
+node dist
+0 0
+1 3
+2 1
+turns 3
+~ run - - root=0 --workers 1 --partition spread:9
+0 1 4
+0 2 1
+2 1 2
+=>
+node dist
+0 0
+1 3
+2 1
+turns 3
+~ run - - root=0 --workers 2 --partition mod
+0 1 4
+0 2 1
+2 1 2
+=>
+node dist
+0 0
+1 3
+2 1
+turns 3
+~ run - - root=0 --workers 2 --partition block
+0 1 4
+0 2 1
+2 1 2
+=>
+node dist
+0 0
+1 3
+2 1
+turns 3
+~ run - - root=0 --workers 2 --partition spread:9
+0 1 4
+0 2 1
+2 1 2
+=>
+node dist
+0 0
+1 3
+2 1
+turns 3
+~ run - - root=0 --workers 64 --partition mod
+0 1 4
+0 2 1
+2 1 2
+=>
+node dist
+0 0
+1 3
+2 1
+turns 3
+~ run - - root=0 --workers 64 --partition block
+0 1 4
+0 2 1
+2 1 2
+=>
+node dist
+0 0
+1 3
+2 1
+turns 3
+~ run - - root=0 --workers 64 --partition spread:9
+0 1 4
+0 2 1
+2 1 2
+=>
+node dist
+0 0
+1 3
+2 1
+turns 3
+";
 
 // Faulty and cut graphs, and faulty arguments.
-const BAD_INPUTS: [(&str, &str, &str, &str); 15] = [
-    (
-        "run - - root=0",
-        SSSP,
-        "0 x 1\n",
-        "graph BadLine at line 1\n",
-    ),
-    (
-        "run - - root=0",
-        SSSP,
-        "0 1\n",
-        "graph MissingColumn at line 1\n",
-    ),
-    (
-        "run - - root=0",
-        SSSP,
-        "0 1 3000000000\n",
-        "graph OutOfRange at line 1\n",
-    ),
-    (
-        "run - - root=0",
-        SSSP,
-        "v 4\nv 4\n",
-        "graph NodeTwice at line 2\n",
-    ),
-    (
-        "run - -",
-        SSSP,
-        "0 1 4\n0 2 1\n2 1 2\n",
-        "argument Missing root\n",
-    ),
-    (
-        "run - - x=1",
-        SSSP,
-        "0 1 4\n0 2 1\n2 1 2\n",
-        "argument Unknown x\n",
-    ),
-    (
-        "run - - root=0 root=0",
-        SSSP,
-        "0 1 4\n0 2 1\n2 1 2\n",
-        "argument Twice root\n",
-    ),
-    (
-        "run - - root=zero",
-        SSSP,
-        "0 1 4\n0 2 1\n2 1 2\n",
-        "argument BadValue root\n",
-    ),
-    (
-        "run - - root=9",
-        SSSP,
-        "0 1 4\n0 2 1\n2 1 2\n",
-        "argument NoSuchNode root\n",
-    ),
-    ("run - - root=0", SSSP, "0", "graph BadLine at line 1\n"),
-    ("run - - root=0", SSSP, "0 ", "graph BadLine at line 1\n"),
-    (
-        "run - - root=0",
-        SSSP,
-        "0 1",
-        "graph MissingColumn at line 1\n",
-    ),
-    (
-        "run - - root=0",
-        SSSP,
-        "0 1 ",
-        "graph MissingColumn at line 1\n",
-    ),
-    (
-        "run - - root=0",
-        SSSP,
-        "0 1 4",
-        "node dist\n0 0\n1 4\nturns 2\n",
-    ),
-    ("run - - root=0", SSSP, "", "argument NoSuchNode root\n"),
-];
+const BAD_INPUTS: &str = "
+~ run - - root=0
+0 x 1
+=>
+graph BadLine at line 1
+~ run - - root=0
+0 1
+=>
+graph MissingColumn at line 1
+~ run - - root=0
+0 1 3000000000
+=>
+graph OutOfRange at line 1
+~ run - - root=0
+v 4
+v 4
+=>
+graph NodeTwice at line 2
+~ run - -
+0 1 4
+0 2 1
+2 1 2
+=>
+argument Missing root
+~ run - - x=1
+0 1 4
+0 2 1
+2 1 2
+=>
+argument Unknown x
+~ run - - root=0 root=0
+0 1 4
+0 2 1
+2 1 2
+=>
+argument Twice root
+~ run - - root=zero
+0 1 4
+0 2 1
+2 1 2
+=>
+argument BadValue root
+~ run - - root=9
+0 1 4
+0 2 1
+2 1 2
+=>
+argument NoSuchNode root
+~ run - - root=0
+0=>
+graph BadLine at line 1
+~ run - - root=0
+0 =>
+graph BadLine at line 1
+~ run - - root=0
+0 1=>
+graph MissingColumn at line 1
+~ run - - root=0
+0 1 =>
+graph MissingColumn at line 1
+~ run - - root=0
+0 1 4=>
+node dist
+0 0
+1 4
+turns 2
+~ run - - root=0
+=>
+argument NoSuchNode root
+";
 
 // Programs of each kind.
-const PROGRAMS: [(&str, &str, &str, &str); 33] = [
-    ("run - -", COUNT, "", "return = 0\nnode p\nturns 0\n"),
-    (
-        "run - -",
-        TOTAL,
-        "0 1\n0 1\n1 1\nv 0 5\nv 1 7\n",
-        "node s\n0 0\n1 17\nturns 0\n",
-    ),
-    (
-        "run - -",
-        QUOT,
-        "0 1\n2 3\nv 0 0\nv 1 0\nv 2 1\nv 3 4\n",
-        "node q\n0 0\n1 0\n2 3\n3 0\nturns 0\n",
-    ),
-    (
-        "run - -",
-        TWO_FAULTS,
-        "v 0 2\nv 1 1\n",
-        "fault DivideByZero at 3:13\n",
-    ),
-    (
-        "run - -",
-        BOTH,
-        "1 0\nv 0 0 0\nv 1 1 1\n",
-        "fault DivideByZero at 3:39\n",
-    ),
-    (
-        "run - -",
-        TOTAL_OF_ALL,
-        "v 0 2147483647\nv 1 1\n",
-        "fault Overflow at 1:53\n",
-    ),
-    (
-        "run - -",
-        TOTAL_OF_ALL,
-        "v 0 2147483647\nv 1 2147483647\nv 2 -2147483647\n",
-        "return = 2147483647\nturns 0\n",
-    ),
-    (
-        "run - - s=0",
-        DEPTHS,
-        "0 1\n0 2\n1 3\n2 3\n",
-        "node depth last\n0 1 0\n1 2 1\n2 2 1\n3 3 0\nturns 6\n",
-    ),
-    (
-        "run - - s=NIL",
-        DEPTHS,
-        "0 1\n0 2\n1 3\n2 3\n",
-        "fault NilNode at 2:3\n",
-    ),
-    (
-        "run - - s=0",
-        REACH,
-        "0 1\n2 3\n",
-        "node seen\n0 True\n1 True\n2 False\n3 False\nturns 2\n",
-    ),
-    (
-        "run - - s=NIL",
-        REACH,
-        "0 1\n2 3\n",
-        "fault NilNode at 2:26\n",
-    ),
-    ("run - - --turns 5", SPIN, "", "cut after 5 turns\n"),
-    ("run - - --turns 6", SPIN, "", "return = 6\nturns 6\n"),
-    (
-        "run - -",
-        MIX,
-        "0 1\n0 2\n2 2\n2 1\nv 0 3\nv 1 5\nv 2 2\n",
-        "node a b c\n0 2 0 2\n1 0 5 0\n2 3 -1 3\nturns 0\n",
-    ),
-    (
-        "run - -",
-        DEG,
-        "# Directed graph\r\n# FromNodeId\tToNodeId\r\n30\t1412\r\n30\t3352\t99\r\n1412\t30\r\n",
-        "node d\n30 2\n1412 1\n3352 0\nturns 0\n",
-    ),
-    (
-        "run - -",
-        SHIFT,
-        "0 1\n1 2\n2 0\nv 0 1\nv 1 2\nv 2 3\n",
-        "node p\n0 3\n1 1\n2 2\nturns 0\n",
-    ),
-    (
-        "run - - r=1",
-        VOTE,
-        "0 1\n2 1\n",
-        "node c\n0 0\n1 3\n2 0\nturns 0\n",
-    ),
-    (
-        "run - - r=NIL",
-        VOTE,
-        "0 1\n2 1\n",
-        "fault NilNode at 2:26\n",
-    ),
-    (
-        "run - -",
-        ORDER,
-        "v 7 1\nv 3 2\nv 5 0\n",
-        "return = 21\nturns 3\n",
-    ),
-    (
-        "run - -",
-        EDGES,
-        "0 1 3\n2 1 4\nv 0 2\nv 2 5\n",
-        "node s\n0 0\n1 26\n2 0\nturns 0\n",
-    ),
-    ("run - - s=NIL", GUARDED, "", "fault NilNode at 1:73\n"),
-    (
-        "run - - k=9",
-        SCALE,
-        "5 3\nv 3 4\n",
-        "node p\n3 11\n5 -1\nturns 0\n",
-    ),
-    (
-        "run - - k=9",
-        SCALE,
-        "v 3 3000000000\n",
-        "graph OutOfRange at line 1\n",
-    ),
-    ("run - -", SCALE, "5 3\nv 3 4\n", "argument Missing k\n"),
-    (
-        "run - -",
-        BACK,
-        "0 1\n0 1\n1 1\nv 0 5\nv 1 7\n",
-        "node s\n0 14\n1 7\nturns 0\n",
-    ),
-    (
-        "run - -",
-        UNSEEN,
-        "0 1\n",
-        "node p q\n0 5 1\n1 5 1\nturns 0\n",
-    ),
-    (
-        "run - -",
-        PROD,
-        "v 0 2147483647\nv 1 2147483647\n",
-        "fault Overflow at 1:54\n",
-    ),
-    (
-        "run - -",
-        PROD,
-        "v 0 2147483647\nv 1 2147483647\nv 2 0\n",
-        "return = 0\nturns 0\n",
-    ),
-    (
-        "run - -",
-        ACC,
-        "0 2\n1 2\nv 0 2147483647\nv 1 1\n",
-        "fault Overflow at 3:31\n",
-    ),
-    (
-        "run - -",
-        BOTH_WAYS,
-        "0 1\n1 0\nv 0 2147483647\nv 1 2147483647\n",
-        "node b\n0 1\n1 1\nturns 0\n",
-    ),
-    ("demo 1", "", "", "demo 1 edges 4 reached 1 far 0 turns 1\n"),
-    ("run nofile -", "", "", "absent nofile\n"),
-    ("run - nofile", DOUBLE, "", "refused U1 at 1:25\n"),
-];
+const PROGRAMS: &str = "
+~ run - -
+Procedure count(G: Graph; p: N_P<Int>) : Int {
+  Foreach (n: G.Nodes) { n.p = 1; }
+  Return Sum(n: G.Nodes) {n.p};
+}
+%%
+=>
+return = 0
+node p
+turns 0
+~ run - -
+Procedure total(G: Graph, v: N_P<Int>; s: N_P<Int>) {
+  Foreach (n: G.Nodes) { n.s = Sum(t: n.InNbrs) {t.v}; }
+}
+%%
+0 1
+0 1
+1 1
+v 0 5
+v 1 7
+=>
+node s
+0 0
+1 17
+turns 0
+~ run - -
+Procedure quot(G: Graph, v: N_P<Int>; q: N_P<Int>) {
+  Foreach (n: G.Nodes) (n.v > 0) {
+    Foreach (t: n.Nbrs) { n.q += 12 / t.v; }
+  }
+}
+%%
+0 1
+2 3
+v 0 0
+v 1 0
+v 2 1
+v 3 4
+=>
+node q
+0 0
+1 0
+2 3
+3 0
+turns 0
+~ run - -
+Procedure two(G: Graph, v: N_P<Int>; a, b: N_P<Int>) {
+  Foreach (n: G.Nodes) {
+    n.a = 6 / (n.v - 1);
+    n.b = 6 / (n.v - 2);
+  }
+}
+%%
+v 0 2
+v 1 1
+=>
+fault DivideByZero at 3:13
+~ run - -
+Procedure both(G: Graph, v, w: N_P<Int>; a: N_P<Int>) {
+  Foreach (n: G.Nodes) {
+    n.a = 6 / n.v + Sum(t: n.Nbrs) {6 / t.w};
+  }
+}
+%%
+1 0
+v 0 0 0
+v 1 1 1
+=>
+fault DivideByZero at 3:39
+~ run - -
+Procedure tot(G: Graph, v: N_P<Int>) : Int { Return Sum(n: G.Nodes) {n.v}; }
+%%
+v 0 2147483647
+v 1 1
+=>
+fault Overflow at 1:53
+~ run - -
+Procedure tot(G: Graph, v: N_P<Int>) : Int { Return Sum(n: G.Nodes) {n.v}; }
+%%
+v 0 2147483647
+v 1 2147483647
+v 2 -2147483647
+=>
+return = 2147483647
+turns 0
+~ run - - s=0
+Procedure depths(G: Graph, s: Node; depth, last: N_P<Int>) {
+  s.depth = 1;
+  InBFS (v: G.Nodes From s) (v != s) {
+    v.depth = Max(w: v.UpNbrs) {w.depth + 1};
+  } InReverse {
+    v.last = Count(w: v.DownNbrs) (w.last == 0);
+  }
+}
+%%
+0 1
+0 2
+1 3
+2 3
+=>
+node depth last
+0 1 0
+1 2 1
+2 2 1
+3 3 0
+turns 6
+~ run - - s=NIL
+Procedure depths(G: Graph, s: Node; depth, last: N_P<Int>) {
+  s.depth = 1;
+  InBFS (v: G.Nodes From s) (v != s) {
+    v.depth = Max(w: v.UpNbrs) {w.depth + 1};
+  } InReverse {
+    v.last = Count(w: v.DownNbrs) (w.last == 0);
+  }
+}
+%%
+0 1
+0 2
+1 3
+2 3
+=>
+fault NilNode at 2:3
+~ run - - s=0
+Procedure reach(G: Graph, s: Node; seen: N_P<Bool>) {
+  InBFS (v: G.Nodes From s) {
+    v.seen = True;
+  }
+}
+%%
+0 1
+2 3
+=>
+node seen
+0 True
+1 True
+2 False
+3 False
+turns 2
+~ run - - s=NIL
+Procedure reach(G: Graph, s: Node; seen: N_P<Bool>) {
+  InBFS (v: G.Nodes From s) {
+    v.seen = True;
+  }
+}
+%%
+0 1
+2 3
+=>
+fault NilNode at 2:26
+~ run - - --turns 5
+Procedure spin(G: Graph) : Int {
+  Int k = 0;
+  While (k < 6) { k += 1; }
+  Return k;
+}
+%%
+=>
+cut after 5 turns
+~ run - - --turns 6
+Procedure spin(G: Graph) : Int {
+  Int k = 0;
+  While (k < 6) { k += 1; }
+  Return k;
+}
+%%
+=>
+return = 6
+turns 6
+~ run - -
+Procedure mix(G: Graph, v: N_P<Int>; a, b, c: N_P<Int>) {
+  Foreach (n: G.Nodes) {
+    n.c = n.v;
+    If (n.c > 1) {
+      n.c = 0;
+      Foreach (t: n.Nbrs) {
+        Int d = t.v - n.v;
+        If (d > 0) { n.a += d; }
+        t.b += d;
+      }
+      n.c = n.c + n.a;
+    }
+  }
+}
+%%
+0 1
+0 2
+2 2
+2 1
+v 0 3
+v 1 5
+v 2 2
+=>
+node a b c
+0 2 0 2
+1 0 5 0
+2 3 -1 3
+turns 0
+~ run - -
+Procedure deg(G: Graph; d: N_P<Int>) { Foreach (n: G.Nodes) { n.d = n.OutDegree(); } }
+%%
+# Directed graph\r
+# FromNodeId\tToNodeId\r
+30\t1412\r
+30\t3352\t99\r
+1412\t30\r
+=>
+node d
+30 2
+1412 1
+3352 0
+turns 0
+~ run - -
+Procedure shift(G: Graph, v: N_P<Int>; p: N_P<Int>) {
+  Foreach (n: G.Nodes) { n.p = n.v; }
+  Foreach (n: G.Nodes) { n.p <= Sum(t: n.InNbrs) {t.p} @ n; }
+}
+%%
+0 1
+1 2
+2 0
+v 0 1
+v 1 2
+v 2 3
+=>
+node p
+0 3
+1 1
+2 2
+turns 0
+~ run - - r=1
+Procedure vote(G: Graph, r: Node; c: N_P<Int>) {
+  Foreach (n: G.Nodes) { r.c += 1; }
+}
+%%
+0 1
+2 1
+=>
+node c
+0 0
+1 3
+2 0
+turns 0
+~ run - - r=NIL
+Procedure vote(G: Graph, r: Node; c: N_P<Int>) {
+  Foreach (n: G.Nodes) { r.c += 1; }
+}
+%%
+0 1
+2 1
+=>
+fault NilNode at 2:26
+~ run - -
+Procedure order(G: Graph, v: N_P<Int>) : Int {
+  Int h = 0;
+  For (n: G.Nodes) (n.v > 0) { h = h * 10 + n.v; }
+  Return h;
+}
+%%
+v 7 1
+v 3 2
+v 5 0
+=>
+return = 21
+turns 3
+~ run - -
+Procedure e(G: Graph, v: N_P<Int>, w: E_P<Int>; s: N_P<Int>) {
+  Foreach (n: G.Nodes) {
+    Foreach (t: n.InNbrs) {
+      Edge e1 = t.ToEdge();
+        n.s += t.v * e1.w;
+    }
+  }
+}
+%%
+0 1 3
+2 1 4
+v 0 2
+v 2 5
+=>
+node s
+0 0
+1 26
+2 0
+turns 0
+~ run - - s=NIL
+Procedure h(G: Graph, s: Node, p: N_P<Int>) : Bool { Return s != NIL && s.p > 0; }
+%%
+=>
+fault NilNode at 1:73
+~ run - - k=9
+Procedure scale(G: Graph, v: N_P<Int>, k: Int; p: N_P<Int>) {
+  Foreach (n: G.Nodes) { n.p = n.v * 3 - 1; }
+}
+%%
+5 3
+v 3 4
+=>
+node p
+3 11
+5 -1
+turns 0
+~ run - - k=9
+Procedure scale(G: Graph, v: N_P<Int>, k: Int; p: N_P<Int>) {
+  Foreach (n: G.Nodes) { n.p = n.v * 3 - 1; }
+}
+%%
+v 3 3000000000
+=>
+graph OutOfRange at line 1
+~ run - -
+Procedure scale(G: Graph, v: N_P<Int>, k: Int; p: N_P<Int>) {
+  Foreach (n: G.Nodes) { n.p = n.v * 3 - 1; }
+}
+%%
+5 3
+v 3 4
+=>
+argument Missing k
+~ run - -
+Procedure back(G: Graph, v: N_P<Int>; s: N_P<Int>) {
+  Foreach (n: G.Nodes) {
+    Foreach (t: n.InNbrs) { t.s += n.v; }
+  }
+}
+%%
+0 1
+0 1
+1 1
+v 0 5
+v 1 7
+=>
+node s
+0 14
+1 7
+turns 0
+~ run - -
+Procedure d(G: Graph; p, q: N_P<Int>) { Foreach (n: G.Nodes) { n.p <= 5; n.q = n.p + 1; } }
+%%
+0 1
+=>
+node p q
+0 5 1
+1 5 1
+turns 0
+~ run - -
+Procedure prod(G: Graph, v: N_P<Int>) : Int { Return Product(n: G.Nodes) {n.v}; }
+%%
+v 0 2147483647
+v 1 2147483647
+=>
+fault Overflow at 1:54
+~ run - -
+Procedure prod(G: Graph, v: N_P<Int>) : Int { Return Product(n: G.Nodes) {n.v}; }
+%%
+v 0 2147483647
+v 1 2147483647
+v 2 0
+=>
+return = 0
+turns 0
+~ run - -
+Procedure acc(G: Graph, v: N_P<Int>; b: N_P<Int>) {
+  Foreach (n: G.Nodes) {
+    Foreach (t: n.Nbrs) { t.b += n.v; t.b += 0 - n.v; }
+  }
+}
+%%
+0 2
+1 2
+v 0 2147483647
+v 1 1
+=>
+fault Overflow at 3:31
+~ run - -
+Procedure both(G: Graph, v: N_P<Int>; b: N_P<Int>) {
+  G.b = 1;
+  Foreach (n: G.Nodes) {
+    Foreach (t: n.Nbrs) { t.b += 0 - n.v; n.b += n.v; }
+  }
+}
+%%
+0 1
+1 0
+v 0 2147483647
+v 1 2147483647
+=>
+node b
+0 1
+1 1
+turns 0
+~ demo 1
+=>
+demo 1 edges 4 reached 1 far 0 turns 1
+~ run nofile -
+=>
+absent nofile
+~ run - nofile
+Procedure f(G: Graph) { Double d; }=>
+refused U1 at 1:25
+";
 
 #[test]
 fn workers(rt: HostRuntime) -> Result<(), Fail> {
-    calls_hold(&rt, rt.alloc(), PLAIN, &WORKERS)?;
-    calls_hold(&rt, rt.alloc(), BYTE_BY_BYTE, &WORKERS)
+    both_ways_hold(&rt, rt.alloc(), SSSP, WORKERS, 10)
 }
 
 #[test]
 fn bad_inputs(rt: HostRuntime) -> Result<(), Fail> {
-    calls_hold(&rt, rt.alloc(), PLAIN, &BAD_INPUTS)?;
-    calls_hold(&rt, rt.alloc(), BYTE_BY_BYTE, &BAD_INPUTS)
+    both_ways_hold(&rt, rt.alloc(), SSSP, BAD_INPUTS, 15)
 }
 
 #[test]
 fn programs(rt: HostRuntime) -> Result<(), Fail> {
-    calls_hold(&rt, rt.alloc(), PLAIN, &PROGRAMS)?;
-    calls_hold(&rt, rt.alloc(), BYTE_BY_BYTE, &PROGRAMS)
+    both_ways_hold(&rt, rt.alloc(), "", PROGRAMS, 33)
 }

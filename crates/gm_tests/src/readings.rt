@@ -1,11 +1,25 @@
 //! How far standard input is read: what it has left after a call.
 
-use crate::calls::call;
-use gm_files::{MemFiles, MemSink, MemSource, read_all};
+use crate::calls::{all_read, call, is_row, no_files, parts_of};
+use gm_files::{MemSink, MemSource, read_all};
 use std::alloc::Global;
+use std::process::Abort;
 use std::sync::Wait;
 use std::test::Fail;
 use std::thread::Threads;
+
+// A call over a source.
+fn call_over(
+    rt: &(impl Threads + Wait + Sync),
+    alloc: Global,
+    words: &str,
+    source: &mut MemSource,
+) -> Result<(), Fail> {
+    let mut files = no_files(alloc);
+    let mut sink = MemSink::new(alloc, 65536, Vec::new(alloc), 65536)?;
+    let _ = call(rt, alloc, words, source, &mut files, &mut sink)?;
+    Ok(())
+}
 
 // What standard input has left after a call over this text, which is read two bytes at a time.
 fn left_after(
@@ -15,9 +29,7 @@ fn left_after(
     text: Vec<u8>,
 ) -> Result<Vec<u8>, Fail> {
     let mut source = MemSource::new(text, 2, Vec::new(alloc));
-    let mut files = MemFiles::new(Vec::new(alloc), Vec::new(alloc));
-    let mut sink = MemSink::new(alloc, 65536, Vec::new(alloc), 65536)?;
-    let _ = call(rt, alloc, words, &mut source, &mut files, &mut sink)?;
+    call_over(rt, alloc, words, &mut source)?;
     match read_all(alloc, &mut source, 2_000_000) {
         Ok(rest) => Ok(rest),
         Err(_) => Err("a read failed")?,
@@ -25,34 +37,99 @@ fn left_after(
 }
 
 // The words, the text, and what is left of it.
-const READINGS: [(&str, &str, &str); 9] = [
-    ("check -", "#Procedure", ""),
-    ("check -", "Procedure f(G: Graph) { }\n%%\n0 1\n", ""),
-    ("run - -", "#ab\n%%\n0 1\n1 2\n", " 1\n1 2\n"),
-    ("run - -", "#ab\n%%\n0 1\n", " 1\n"),
-    ("run - -", "#ab\n%%", ""),
-    ("run - -", "Procedure f(G: Graph) { }\n%%\n0 x\n1 2\n", ""),
-    ("run - none", "#ab\n%%\n0 1\n", ""),
-    ("exec - -", "gm-image 9\n%%\n0 1\n1 2\n", "0 1\n1 2\n"),
-    ("run none -", "#ab\n%%\n0 1\n", "#ab\n%%\n0 1\n"),
-];
+const READINGS: &str = "
+~ check -
+#Procedure=>
+~ check -
+Procedure f(G: Graph) { }
+%%
+0 1
+=>
+~ run - -
+#ab
+%%
+0 1
+1 2
+=>
+ 1
+1 2
+~ run - -
+#ab
+%%
+0 1
+=>
+ 1
+~ run - -
+#ab
+%%=>
+~ run - -
+Procedure f(G: Graph) { }
+%%
+0 x
+1 2
+=>
+~ run - none
+#ab
+%%
+0 1
+=>
+~ exec - -
+gm-image 9
+%%
+0 1
+1 2
+=>
+0 1
+1 2
+~ run none -
+#ab
+%%
+0 1
+=>
+#ab
+%%
+0 1
+";
+
+// Whether what is left is what a row says.
+fn leaves(rt: &(impl Abort + Threads + Wait + Sync), alloc: Global, row: &str) -> Result<(), Fail> {
+    let (words, text, left) = parts_of(row)?;
+    let bytes = Vec::from_slice(alloc, text.as_bytes())?;
+    let rest = left_after(rt, alloc, words, bytes)?;
+    assert_eq!(rt; rest.as_slice(), left.as_bytes(), "{row}");
+    Ok(())
+}
 
 #[test]
 fn texts_are_read_as_far_as_they_are_needed(rt: HostRuntime) -> Result<(), Fail> {
-    for (words, text, left) in READINGS {
-        let bytes = Vec::from_slice(rt.alloc(), text.as_bytes())?;
-        let rest = left_after(&rt, rt.alloc(), words, bytes)?;
-        assert_eq!(rt; rest.as_slice(), left.as_bytes(), "{words}: {text}");
+    let mut read = 0usize;
+    for row in READINGS.split('~') {
+        if is_row(row) {
+            leaves(&rt, rt.alloc(), row)?;
+            read = read.saturating_add(1);
+        }
     }
+    all_read(&rt, read, 9);
+    Ok(())
+}
+
+// Whether so many bytes are left of a text of 1,048,600 blanks, or one less.
+fn leaves_about(
+    rt: &(impl Abort + Threads + Wait + Sync),
+    alloc: Global,
+    words: &str,
+    left: usize,
+) -> Result<(), Fail> {
+    let text = vec![in alloc; 32u8; 1_048_600]?;
+    let rest = left_after(rt, alloc, words, text)?.len();
+    assert!(rt; rest == left || rest.saturating_add(1) == left, "{words}");
     Ok(())
 }
 
 #[test]
 fn a_long_program_is_read_to_one_byte_past_its_limit(rt: HostRuntime) -> Result<(), Fail> {
-    for (words, left) in [("check -", 23), ("run - none", 23), ("run - -", 23)] {
-        let text = vec![in rt.alloc(); 32u8; 1_048_600]?;
-        let rest = left_after(&rt, rt.alloc(), words, text)?;
-        assert!(rt; rest.len() <= left && left <= rest.len() + 1, "{words}");
+    for words in ["check -", "run - none", "run - -"] {
+        leaves_about(&rt, rt.alloc(), words, 23)?;
     }
     Ok(())
 }

@@ -1,11 +1,11 @@
 //! Images run by several workers: the same bytes whoever owns which node, and the gate that each of them enters.
 
-use crate::calls::{PLAIN, gated_call, joined, no_files, run};
+use crate::calls::{PLAIN, gated_call, joined, no_files, run, same};
 use crate::image_rows::{BEST, MOST, TOTAL};
 use gm_base::{Gate, Status};
 use gm_files::{MemSink, MemSource};
 use gm_observe::Observer;
-use std::alloc::Global;
+use std::alloc::{AllocError, Global};
 use std::process::Abort;
 use std::sync::Wait;
 use std::sync::atomic::{AtomicU64, Ordering};
@@ -17,22 +17,39 @@ const PATHS: &str =
     "gm-image 1\nname sssp\ninputs 2\nscalar N root 0\nedge I len 0\noutputs 1\nnode I dist 0\nresult -\nglobals 3\nN\nB\nB\nfields 3\nI\nI\nB\nregisters 0\ncolumns 1\nI\nkinds 1\n- I\nplaces 1\n12 14\nblocks 3\nblock 0\nbody 3\nset 0 ? == id g 0 c I 0 c I 2147483647\nset 1 f 0\nset 2 == id g 0\nblock 0\nbody 3\nskip 2 f 2\neach out 1\nsend 0 nb + 0 f 0 w 0\nblock 1\non 0 1\nfold min 0 1 m 0\nbody 3\nset 2 < f 1 f 0\nset 0 f 1\nput or 0 2 f 2\nmaster 9\nstep 0\nset 1 c B True\nloop 8 g 1\nset 2 c B False\nstep 1\nstep 2\nset 1 g 2\nback 2\nend\n";
 
 // The words for so many workers, and for how the nodes are dealt out among them.
-const TEAMS: [&str; 9] = [
-    "--workers 1 --partition mod",
-    "--workers 1 --partition block",
-    "--workers 1 --partition spread:9",
-    "--workers 2 --partition mod",
-    "--workers 2 --partition block",
-    "--workers 2 --partition spread:9",
-    "--workers 64 --partition mod",
-    "--workers 64 --partition block",
-    "--workers 64 --partition spread:9",
-];
+const TEAMS: &str = "--workers 1 --partition mod
+--workers 1 --partition block
+--workers 1 --partition spread:9
+--workers 2 --partition mod
+--workers 2 --partition block
+--workers 2 --partition spread:9
+--workers 64 --partition mod
+--workers 64 --partition block
+--workers 64 --partition spread:9
+";
+
+// The first of them.
+const FIRST_TEAM: &str = "--workers 1 --partition mod";
 
 // The next number of a row that looks like chance, and its upper half.
 fn draw(state: &mut u32) -> u32 {
     *state = state.wrapping_mul(1664525).wrapping_add(1013904223);
     *state / 65536
+}
+
+// The line of an edge, with a weight or without.
+fn edge_line(
+    alloc: Global,
+    from: u32,
+    to: u32,
+    weight: u32,
+    weighted: bool,
+) -> Result<String, AllocError> {
+    if weighted {
+        format!(in alloc; "{from} {to} {weight}\n")
+    } else {
+        format!(in alloc; "{from} {to}\n")
+    }
 }
 
 // The lines of 600 edges among 90 nodes, each with what stands behind its nodes.
@@ -43,11 +60,7 @@ fn edges_by_chance(alloc: Global, weighted: bool) -> Result<String, Fail> {
         let from = draw(&mut state) % 90;
         let to = draw(&mut state) % 90;
         let weight = draw(&mut state) % 50;
-        let line = if weighted {
-            format!(in alloc; "{from} {to} {weight}\n")?
-        } else {
-            format!(in alloc; "{from} {to}\n")?
-        };
+        let line = edge_line(alloc, from, to, weight, weighted)?;
         text.push_str(line.as_str())?;
     }
     Ok(text)
@@ -95,10 +108,10 @@ fn all_write_the_same(
     words: &str,
     text: &[u8],
 ) -> Result<(), Fail> {
-    let first = written_by(rt, alloc, words, TEAMS[0], text)?;
-    for team in TEAMS {
+    let first = written_by(rt, alloc, words, FIRST_TEAM, text)?;
+    for team in TEAMS.lines() {
         let written = written_by(rt, alloc, words, team, text)?;
-        assert_eq!(rt; written.as_str(), first.as_str(), "{words} {team}");
+        same(rt, written.as_str(), first.as_str(), team);
     }
     Ok(())
 }
@@ -158,17 +171,26 @@ fn entries(
     Ok(gate.entered.load(Ordering::SeqCst))
 }
 
+// Whether it is entered so often.
+fn entries_are(
+    rt: &(impl Abort + Threads + Wait + Sync),
+    alloc: Global,
+    words: &str,
+    count: u64,
+) -> Result<(), Fail> {
+    assert_eq!(rt; entries(rt, alloc, words)?, count, "{words}");
+    Ok(())
+}
+
 // Two supersteps of two workers, watched or not.
 #[test]
 fn each_worker_enters_the_gate_in_each_superstep(rt: HostRuntime) -> Result<(), Fail> {
-    assert_eq!(rt; entries(&rt, rt.alloc(), "exec - - --workers 2")?, 4);
-    assert_eq!(rt;
-        entries(&rt, rt.alloc(), "exec - - --workers 2 --observe")?,
-        4
-    );
-    assert_eq!(rt;
-        entries(&rt, rt.alloc(), "exec - - --workers 7 --partition block")?,
-        14
-    );
-    Ok(())
+    entries_are(&rt, rt.alloc(), "exec - - --workers 2", 4)?;
+    entries_are(&rt, rt.alloc(), "exec - - --workers 2 --observe", 4)?;
+    entries_are(
+        &rt,
+        rt.alloc(),
+        "exec - - --workers 7 --partition block",
+        14,
+    )
 }
