@@ -32,6 +32,8 @@ mod levels;
 #[cfg(test)]
 mod literals;
 #[cfg(test)]
+mod locals;
+#[cfg(test)]
 mod neighbours;
 #[cfg(test)]
 mod passes;

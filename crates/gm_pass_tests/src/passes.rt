@@ -15,6 +15,7 @@ use gm_dissect::all_deferred::deferred_out;
 use gm_dissect::conditions::save_conditions;
 use gm_flip::flip::flip;
 use gm_hoisting::hoisting::inner_folds_out;
+use gm_locals::locals::locals_out;
 use gm_picks::picks::picks_out;
 use gm_reductions::accesses::accesses_out;
 use gm_reductions::folds::folds_out;
@@ -37,6 +38,7 @@ pub enum Pass {
     BfsOut,
     DeferredOut,
     SaveConditions,
+    LocalsOut,
     CutBodies,
     Flip,
 }
@@ -65,6 +67,7 @@ fn after_more(alloc: Global, pass: Pass, program: Work) -> Result<Work, NoMemory
         Pass::BfsOut => bfs_out(alloc, program),
         Pass::DeferredOut => deferred_out(alloc, program),
         Pass::SaveConditions => save_conditions(alloc, program),
+        Pass::LocalsOut => locals_out(alloc, program),
         Pass::CutBodies => cut_bodies(alloc, program),
         Pass::Flip => flip(alloc, program),
         _ => Ok(program),
@@ -121,6 +124,9 @@ pub const WHOLE: [Pass; 4] = [
 
 /// Deferred writes and conditions of what is cut, written out.
 pub const CUTTING: [Pass; 2] = [Pass::DeferredOut, Pass::SaveConditions];
+
+/// Deferred writes and conditions written out, then locals kept in properties.
+pub const KEEPING: [Pass; 3] = [Pass::DeferredOut, Pass::SaveConditions, Pass::LocalsOut];
 
 /// Bodies in pieces.
 pub const PIECES: [Pass; 2] = [Pass::DeferredOut, Pass::CutBodies];

@@ -26,6 +26,7 @@ pub fn road_to(pass: Pass) -> (Frame, &'static [Pass]) {
         Pass::DesugarPhases => (Frame::Once, &[Pass::DesugarPhases]),
         Pass::DeferredOut => (Frame::Plain, &[Pass::DeferredOut]),
         Pass::SaveConditions => (Frame::Plain, &[Pass::SaveConditions]),
+        Pass::LocalsOut => (Frame::Plain, &[Pass::LocalsOut]),
         Pass::CutBodies => (Frame::Plain, &[Pass::CutBodies]),
         Pass::Flip => (Frame::Plain, &FLIPPED),
         _ => (Frame::Plain, &[Pass::Desugar]),
@@ -137,7 +138,7 @@ const STEP_TREES: [(Pass, &str, &str); 20] = [
 ];
 
 // A pass, a body and what becomes of it: the passes of reads, picks, accesses and reductions.
-const PHASE_TREES: [(Pass, &str, &str); 22] = [
+const PHASE_TREES: [(Pass, &str, &str); 23] = [
     (
         Pass::ReadsOut,
         "x = nil.a + 6 / x;",
@@ -192,6 +193,11 @@ const PHASE_TREES: [(Pass, &str, &str); 22] = [
         Pass::PicksOut,
         "<nil.a; nil.r> min= <Sum(n: G.Nodes){n.a}; s>;",
         "Bool v15; Node v16; Int v17; Node v18; Node v19; Int v20; { { v16 = Live(nil); v17 = nil.a; v18 = Live(nil); v19 = nil.r; v20 = Sum(n: G.Nodes){n.a}; <v17; v19> min= <v20; s>; v16.a = v17; v18.r = v19; } }",
+    ),
+    (
+        Pass::PicksOut,
+        "For (n: G.Nodes) { <n.a; n.b> min= <x; 2>; s.b max= x; }",
+        "Bool v15; Int v16; Int v17; Node v18; Int v19; { For (n: G.Nodes) { { v16 = n.a; v17 = n.b; <v16; v17> min= <x; 2>; n.a = v16; n.b = v17; } { v18 = Live(s); v19 = s.b; v19 max= x; v18.b = v19; } } }",
     ),
     (
         Pass::AccessesOut,
@@ -251,7 +257,7 @@ const PHASE_TREES: [(Pass, &str, &str); 22] = [
 ];
 
 // A pass, a body and what becomes of it: all passes up to plain loops.
-const LOOP_TREES: [(Pass, &str, &str); 22] = [
+const LOOP_TREES: [(Pass, &str, &str); 23] = [
     (
         Pass::Desugar,
         "Foreach (n: G.Nodes) { n.a = 1 + Sum(t: n.Nbrs)(t.f){t.c} * Count(t: n.InNbrs)(t.f){t.b > 0}; }",
@@ -316,6 +322,11 @@ const LOOP_TREES: [(Pass, &str, &str); 22] = [
         Pass::Desugar,
         "InBFS (v: G.Nodes From nil)(Count(t: v.Nbrs) > 0) { v.a = Sum(t: v.UpNbrs){t.b}; } InReverse (Exist(t: v.Nbrs){t.f}) { v.b = Count(t: v.DownNbrs)(t.f); }",
         "Bool v19; Node v20; inside Node v21; Int v22; Long v23; Bool v24; Node v25; Node v26; inside Int v27; inside Int v28; inside Bool v29; inside Int v30; { { v26 = Live(nil); InBFS (v: G.Nodes From nil) { Int v27 = 0; Foreach (t: v.Nbrs) ((True && True)) v27 += 1; If ((v27 > 0)) { { Int v28 = 0; Foreach (t: v.UpNbrs) v28 += t.b; v.a = v28; } } } InReverse { Bool v29 = False; Foreach (t: v.Nbrs) v29 ||= t.f; If (v29) { { Int v30 = 0; Foreach (t: v.DownNbrs) ((t.f && True)) v30 += 1; v.b = v30; } } } } }",
+    ),
+    (
+        Pass::Desugar,
+        "For (n: G.Nodes) { InBFS (v: G.Nodes From n)(Exist(t: v.Nbrs){t.f}) { v.a = 1; } }",
+        "Bool v17; Node v18; inside Node v19; Int v20; Long v21; Bool v22; Node v23; inside Bool v24; { For (n: G.Nodes) { InBFS (v: G.Nodes From n) { Bool v24 = False; Foreach (t: v.Nbrs) v24 ||= t.f; If (v24) { v.a = 1; } } } }",
     ),
     (
         Pass::Desugar,
@@ -420,7 +431,7 @@ const SEARCH_TREES: [(Pass, &str, &str); 11] = [
 ];
 
 // A pass, a body and what becomes of it: the passes that cut and turn loops.
-const CUT_TREES: [(Pass, &str, &str); 12] = [
+const CUT_TREES: [(Pass, &str, &str); 15] = [
     (
         Pass::DeferredOut,
         "Foreach (n: G.Nodes) { n.a <= n.b + 1 @ n; n.b <= n.a + 1 @ n; } Foreach (n: G.Nodes) { n.a <= 1 @ n; }",
@@ -440,6 +451,21 @@ const CUT_TREES: [(Pass, &str, &str); 12] = [
         Pass::SaveConditions,
         "Foreach (n: G.Nodes) { Node u = n.r; If (1 / n.a > 0) { n.a = 5; u.b += 1; } }",
         "inside Bool v16; { Foreach (n: G.Nodes) { Node u = n.r; { Bool v16 = ((1 / n.a) > 0); If (v16) { n.a = 5; u.b += 1; } } } }",
+    ),
+    (
+        Pass::LocalsOut,
+        "Foreach (n: G.Nodes) { Int m = n.OutDegree(); Foreach (t: n.Nbrs) { t.b += m; } n.a = m; }",
+        "N_P<Int> v17; { { Foreach (n: G.Nodes) n.v17 = m; Foreach (n: G.Nodes) { n.v17 = n.OutDegree(); Foreach (t: n.Nbrs) { t.b += n.v17; } n.a = n.v17; } } }",
+    ),
+    (
+        Pass::LocalsOut,
+        "Foreach (n: G.Nodes) { Int m = 9; Node u = NIL; Foreach (t: n.Nbrs) { <m; u> min= <t.OutDegree(); t>; } n.a = m; n.r = u; }",
+        "N_P<Int> v18; N_P<Node> v19; { { Foreach (n: G.Nodes) n.v18 = m; { Foreach (n: G.Nodes) n.v19 = u; Foreach (n: G.Nodes) { n.v18 = 9; n.v19 = NIL; Foreach (t: n.Nbrs) { <n.v18; n.v19> min= <t.OutDegree(); t>; } n.a = n.v18; n.r = n.v19; } } } }",
+    ),
+    (
+        Pass::LocalsOut,
+        "Foreach (n: G.Nodes) { Node u = n.r; Int m = n.a; u.b += m; }",
+        "N_P<Int> v17; { { Foreach (n: G.Nodes) n.v17 = m; Foreach (n: G.Nodes) { Node u = n.r; n.v17 = n.a; u.b += n.v17; } } }",
     ),
     (
         Pass::CutBodies,
