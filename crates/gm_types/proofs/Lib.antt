@@ -9,7 +9,6 @@ pub mod Blocks
 pub mod Stated
 pub mod Declarings
 pub mod Items
-pub mod Apart
 pub mod Fits
 pub mod Answered
 pub mod Operations
@@ -20,3 +19,4 @@ pub mod Assigned
 pub mod Noted
 pub mod Wholes
 pub mod Pairs
+pub mod OwnNames

@@ -9,3 +9,4 @@ pub mod Boxes
 pub mod Stops
 pub mod Blocks
 pub mod Declaring
+pub mod OwnNames

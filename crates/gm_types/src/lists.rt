@@ -1,13 +1,14 @@
 //! Reduction assignments: lists of targets and values.
 
-ghost use Rattle.std.specs.Prelude.{◌≡◌, ◌≤◌, [], ◌∷◌, length, take, drop, map, IfOk, OnOk, option_map, not, ◌&&◌};
+ghost use Rattle.std.specs.Prelude.{◌≡◌, ◌≤◌, [], ◌∷◌, length, drop, map, IfOk, OnOk, option_map, not, ◌&&◌};
 ghost use Rattle.gm_base.specs.Rules.{least_from};
 ghost use Rattle.gm_ast.specs.Judged.{ok_of, errs_of, both_of, part_by, broken_by};
-ghost use Rattle.gm_ast.specs.Statements.{reduces_type, reduces, first_wanted, fits_each, all_answers, combined, name_eq, properties_eq, target_eq, goes_with, is_repeated, apart_from_first, goals, goals_together, typed_all, reduced};
+ghost use Rattle.gm_ast.specs.Statements.{reduces_type, reduces, first_wanted, fits_each, all_answers, combined, name_eq, goes_with, apart, apart_from_first, goals, goals_together, typed_all, reduced};
 ghost use Rattle.gm_ast.specs.SurfaceTree.{name_of, target_of, expr_of as spelled_of};
 ghost use Rattle.gm_ast.specs.Tree.{expr_of, stmt_of};
 ghost use Rattle.gm_types.specs.Parts.{part_of};
 ghost use Rattle.gm_types.specs.Views.{env_of, Judges};
+ghost use Rattle.gm_types.specs.OwnNames.{own_name, Tells};
 ghost use Rattle.gm_types.specs.Shapes.{with_last};
 
 use crate::assignments::total_at;
@@ -22,6 +23,7 @@ use gm_ast::tree::{Expr, Key, Stmt, Target};
 use gm_base::{Place, Refusal, Rule};
 use gm_value::{Reduce, VType};
 use std::alloc::{AllocError, Global};
+use std::collections::BTreeSet;
 
 // Whether a reduction takes values of a type.
 fn reduces_type(reduce: Reduce, vtype: VType) -> bool
@@ -60,22 +62,6 @@ fn name_eq(x: &Name, y: &Name) -> bool
     x.text.as_slice() == y.text.as_slice()
 }
 
-// Whether two targets are spelled alike.
-fn target_eq(t: &SpelledTarget, u: &SpelledTarget) -> bool
-    ensures { result ≡ target_eq (target_of t.now) (target_of u.now) }
-{
-    if !name_eq(&t.owner, &u.owner) {
-        return false;
-    }
-    match &t.property {
-        None => u.property.is_none(),
-        Some(p) => match &u.property {
-            None => false,
-            Some(q) => name_eq(p, q),
-        },
-    }
-}
-
 // Whether a target may stand beside the first: scalars together, or properties through one name.
 fn goes_with(first: &SpelledTarget, t: &SpelledTarget) -> bool
     ensures { result ≡ goes_with (target_of first.now) (target_of t.now) }
@@ -87,36 +73,61 @@ fn goes_with(first: &SpelledTarget, t: &SpelledTarget) -> bool
     }
 }
 
-// Whether a target is spelled like one of some.
-fn is_repeated(t: &SpelledTarget, seen: &[SpelledTarget]) -> bool
-    ensures { result ≡ is_repeated (target_of t.now) (map target_of seen.now) }
+// The name by which a target differs from others that go with the same first one: that of its property, or its own.
+fn own_name(t: &SpelledTarget) -> &[u8]
+    ensures { result.now ≡ own_name (target_of t.now) }
 {
-    for u in seen {
-        if target_eq(t, u) {
-            return true;
-        }
+    match &t.property {
+        None => &t.owner.text,
+        Some(property) => &property.text,
     }
-    false
 }
 
-// Whether a target may stand behind the first of some and is spelled like none of them.
-fn belongs(first: &SpelledTarget, t: &SpelledTarget, seen: &[SpelledTarget]) -> bool
-    ensures { result ≡ (goes_with (target_of first.now) (target_of t.now) && not (is_repeated (target_of t.now) (map target_of seen.now))) }
+// Whether a target may stand behind the first of some and is spelled like none of them, of which a set has the own
+// names. It has that of this one then too.
+fn belongs<'t>(
+    first: &SpelledTarget,
+    t: &'t SpelledTarget,
+    names: &mut BTreeSet<&'t [u8]>,
+) -> Result<bool, AllocError>
+    ensures { IfOk result (λ fits. Tells (target_of first.now) names.old names.new (target_of t.now) fits) }
 {
-    goes_with(first, t) && !is_repeated(t, seen)
+    if !goes_with(first, t) {
+        return Ok(false);
+    }
+    let new = names.insert(own_name(t))?;
+    Ok(new)
+}
+
+// Notes those of some targets that do not belong with the first, by the names of those before.
+fn note_each(
+    alloc: Global,
+    least: &mut Option<Refusal>,
+    first: &SpelledTarget,
+    targets: &[SpelledTarget],
+) -> Result<(), AllocError>
+    ensures { OnOk result (least.new ≡ least_from least.old (apart (target_of first.now) [] (map target_of targets.now))) }
+{
+    let mut names = BTreeSet::new(alloc);
+    for target in targets {
+        if !belongs(first, target, &mut names)? {
+            note(least, Rule::T12, target.owner.place);
+        }
+    }
+    Ok(())
 }
 
 // Notes the targets of one reduction that do not belong together.
-fn note_apart(least: &mut Option<Refusal>, targets: &[SpelledTarget])
-    ensures { least.new ≡ least_from least.old (apart_from_first (map target_of targets.now)) }
+fn note_apart(
+    alloc: Global,
+    least: &mut Option<Refusal>,
+    targets: &[SpelledTarget],
+) -> Result<(), AllocError>
+    ensures { OnOk result (least.new ≡ least_from least.old (apart_from_first (map target_of targets.now))) }
 {
-    let mut at = 1;
-    'targets: while at < targets.len() {
-        let target = &targets[at];
-        if !belongs(&targets[0], target, &targets[..at]) {
-            note(least, Rule::T12, target.owner.place);
-        }
-        at += 1;
+    match targets {
+        [] => Ok(()),
+        [first, ..] => note_each(alloc, least, first, targets),
     }
 }
 
@@ -260,7 +271,7 @@ impl<'a> Checker<'a> {
         ensures { IfOk result (λ r. Judges self.old self.new (goals_together (map target_of targets.now) (env_of self.old)) (option_map (λ v. v.items) r)) }
     {
         let goals = self.goals(alloc, targets)?;
-        note_apart(&mut self.least, targets);
+        note_apart(alloc, &mut self.least, targets)?;
         Ok(goals)
     }
 
