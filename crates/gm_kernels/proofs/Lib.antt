@@ -6,3 +6,4 @@ pub mod Reading
 pub mod FoldSteps
 pub mod Repeating
 pub mod Worked
+pub mod Parting

@@ -4,7 +4,7 @@ use Rattle.gm_value.specs.declared.values.Value.TheVariants.{I32, I64, Flag, At}
 use Rattle.gm_value.specs.declared.operations.Op1.TheVariants.{ToI32}
 use Rattle.gm_value.specs.declared.operations.Op2.TheVariants.{Add, Div, Lt}
 use Rattle.gm_value.specs.declared.reductions.Reduce.TheVariants.{Sum, Min, Max}
-use Rattle.gm_kernels.specs.Pointwise.{applied1, applied2, chosen, places_from, written_at, repeated}
+use Rattle.gm_kernels.specs.Pointwise.{applied1, applied2, chosen, places_from, count_of, held, left_out, merged, written_at, repeated}
 use Rattle.gm_kernels.specs.Folding.{folded_at, folded_all}
 
 -- a number of 64 bits that fits 32, and one that does not
@@ -33,6 +33,19 @@ choice = refl
 
 places : places_from 0 (true ∷ false ∷ true ∷ []) ≡ 0 ∷ 2 ∷ []
 places = refl
+
+-- three parted by flags, and put together again
+holding : held {A = ℕ} (true ∷ false ∷ true ∷ []) (4 ∷ 5 ∷ 6 ∷ []) ≡ 4 ∷ 6 ∷ []
+holding = refl
+
+others : left_out {A = ℕ} (true ∷ false ∷ true ∷ []) (4 ∷ 5 ∷ 6 ∷ []) ≡ 5 ∷ []
+others = refl
+
+counted : count_of (true ∷ false ∷ true ∷ []) ≡ 2
+counted = refl
+
+together : merged {A = ℕ} (true ∷ false ∷ true ∷ []) (4 ∷ 6 ∷ []) (5 ∷ []) ≡ 4 ∷ 5 ∷ 6 ∷ []
+together = refl
 
 -- the last value written at a place stays
 written : written_at {A = ℕ} (7 ∷ 8 ∷ 9 ∷ []) (2 ∷ 0 ∷ 2 ∷ []) (1 ∷ 2 ∷ 3 ∷ []) ≡ 2 ∷ 8 ∷ 3 ∷ []

@@ -1,5 +1,5 @@
 -- Operations on whole rows of values, value by value.
-use Rattle.std.specs.Prelude.{ℕ, ◌+◌, Bool, true, false, List, [], ◌∷◌, ◌++◌, Option, Some, None, Result, Ok, Err, replicate, slice_set}
+use Rattle.std.specs.Prelude.{ℕ, suc, ◌+◌, Bool, true, false, List, [], ◌∷◌, ◌++◌, Option, Some, None, Result, Ok, Err, replicate, slice_set}
 use Rattle.gm_value.specs.declared.values.Value.{Value}
 use Rattle.gm_value.specs.declared.faults.FaultKind.{FaultKind}
 use Rattle.gm_value.specs.declared.operations.Op1.{Op1}
@@ -41,6 +41,30 @@ abbrev pub places_from : ℕ → List Bool → List ℕ
 places_from k [] = []
 places_from k (true ∷ cs) = k ∷ places_from (k + 1) cs
 places_from k (false ∷ cs) = places_from (k + 1) cs
+
+-- how many flags hold
+abbrev pub count_of : List Bool → ℕ
+count_of [] = 0
+count_of (true ∷ cs) = suc (count_of cs)
+count_of (false ∷ cs) = count_of cs
+
+-- those whose flag holds
+abbrev pub held : {A : Type 0} → List Bool → List A → List A
+held (true ∷ cs) (a ∷ more) = a ∷ held cs more
+held (false ∷ cs) (a ∷ more) = held cs more
+held _ _ = []
+
+-- those whose flag does not hold
+abbrev pub left_out : {A : Type 0} → List Bool → List A → List A
+left_out (true ∷ cs) (a ∷ more) = left_out cs more
+left_out (false ∷ cs) (a ∷ more) = a ∷ left_out cs more
+left_out _ _ = []
+
+-- for each flag the next of some where it holds, else the next of others
+abbrev pub merged : {A : Type 0} → List Bool → List A → List A → List A
+merged (true ∷ cs) (a ∷ more) others = a ∷ merged cs more others
+merged (false ∷ cs) some (b ∷ others) = b ∷ merged cs some others
+merged _ _ _ = []
 
 -- a list with others written at places, one after another
 abbrev pub written_at : {A : Type 0} → List A → List ℕ → List A → List A

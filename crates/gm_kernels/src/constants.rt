@@ -1,10 +1,12 @@
 //! Columns with one value in each row.
 
-ghost use Rattle.std.specs.Prelude.{◌≡◌, IfOk, replicate};
+ghost use Rattle.std.specs.Prelude.{◌≡◌, IfOk, IfSome, Some, None, replicate, if◌then◌else◌};
+ghost use Rattle.std.specs.Option.{option_map};
 ghost use Rattle.gm_value.specs.declared.values.Value.TheVariants.{At};
 ghost use Rattle.gm_value.specs.Numbers.{type_of};
 ghost use Rattle.gm_columns.specs.Columns.{IsStorable};
 ghost use Rattle.gm_columns.specs.Cells.{node_in};
+ghost use Rattle.gm_kernels.specs.Typed.{is_storable};
 
 use gm_base::NoMemory;
 use gm_columns::{Column, TypedCells};
@@ -58,5 +60,24 @@ pub fn constant(alloc: Global, value: Value, rows: usize) -> Result<Column, NoMe
         Value::I64(cell) => Ok(Column::of(TypedCells::Longs(longs(alloc, cell, rows)?))),
         Value::Flag(cell) => Ok(Column::of(TypedCells::Flags(flags(alloc, cell, rows)?))),
         Value::At(node) => Ok(Column::of(TypedCells::Nodes(nodes(alloc, cell_of(node), rows)?))),
+    }
+}
+
+// Whether a value has a place in memory.
+fn is_storable(value: Value) -> bool
+    ensures { result ≡ is_storable value }
+{
+    value != Value::At(Some(u32::MAX))
+}
+
+/// A column with one value in each row, or nothing where the value has no place in memory.
+pub fn constant_if(alloc: Global, value: Value, rows: usize) -> Result<Option<Column>, NoMemory>
+    ensures vtype { IfOk result (λ given. option_map (λ column. column.vtype) given ≡ (if is_storable value then Some (type_of value) else None)) }
+    ensures values { IfOk result (λ given. IfSome given (λ column. column.values ≡ replicate rows value)) }
+{
+    if is_storable(value) {
+        Ok(Some(constant(alloc, value, rows)?))
+    } else {
+        Ok(None)
     }
 }

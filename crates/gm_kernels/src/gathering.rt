@@ -1,16 +1,14 @@
 //! Columns read from cells at some nodes.
 
-ghost use Rattle.std.specs.Prelude.{◌≡◌, ◌<◌, ◌≤◌, All, IsTrue, IfOk, IfSome, length, map, replicate, slice_index_or, slice_range, Some, None, if◌then◌else◌};
+ghost use Rattle.std.specs.Prelude.{ℕ, ◌≡◌, ◌<◌, ◌≤◌, All, IfOk, IfSome, length, map, slice_index_or, slice_range};
 ghost use Rattle.std.specs.Option.{option_map};
 ghost use Rattle.gm_value.specs.declared.values.Value.{Value as AnyValue};
-ghost use Rattle.gm_value.specs.Numbers.{type_of};
 ghost use Rattle.gm_columns.specs.Cells.{values_of};
-ghost use Rattle.gm_kernels.specs.Typed.{column_type, is_storable};
+ghost use Rattle.gm_kernels.specs.Typed.{column_type};
 
-use crate::constants::constant;
+use crate::constants::constant_if;
 use gm_base::NoMemory;
 use gm_columns::{Cells, Column, TypedCells};
-use gm_value::Value;
 use std::alloc::Global;
 
 // Reads the cells at some places.
@@ -43,6 +41,14 @@ fn cells_at<T: Copy>(
     Ok(out)
 }
 
+/// The numbers at some rows of others, one after another.
+pub fn pick(alloc: Global, numbers: &[u32], rows: &[u32]) -> Result<Vec<u32>, NoMemory>
+    requires { All (λ row. row < length numbers.now) rows.now }
+    ensures { IfOk result (λ picked. (d : ℕ) → picked.items ≡ map (λ row. slice_index_or numbers.now row d) rows.now) }
+{
+    cells_at(alloc, 0, numbers, rows)
+}
+
 // The cells from one place up to another.
 fn cells_between<T: Copy>(
     alloc: Global,
@@ -57,22 +63,21 @@ fn cells_between<T: Copy>(
     Ok(Vec::from_slice(alloc, &cells[from..to])?)
 }
 
-// Whether a value has a place in memory.
-fn is_storable(value: Value) -> bool
-    ensures { result ≡ is_storable value }
+/// A copy of a column.
+pub fn copy(alloc: Global, column: &Column) -> Result<Column, NoMemory>
+    ensures { IfOk result (λ copy. copy ≡ column.now) }
 {
-    value != Value::At(Some(u32::MAX))
-}
-
-// A column with one value in each row, where the value has a place in memory.
-fn constant_if(alloc: Global, value: Value, rows: usize) -> Result<Option<Column>, NoMemory>
-    ensures vtype { IfOk result (λ given. option_map (λ column. column.vtype) given ≡ (if is_storable value then Some (type_of value) else None)) }
-    ensures values { IfOk result (λ given. IfSome given (λ column. column.values ≡ replicate rows value)) }
-{
-    if is_storable(value) {
-        Ok(Some(constant(alloc, value, rows)?))
-    } else {
-        Ok(None)
+    match column.cells() {
+        TypedCells::Ints(cells) => Ok(Column::of(TypedCells::Ints(Vec::from_slice(alloc, cells)?))),
+        TypedCells::Longs(cells) => Ok(Column::of(TypedCells::Longs(Vec::from_slice(
+            alloc, cells,
+        )?))),
+        TypedCells::Flags(cells) => Ok(Column::of(TypedCells::Flags(Vec::from_slice(
+            alloc, cells,
+        )?))),
+        TypedCells::Nodes(cells) => Ok(Column::of(TypedCells::Nodes(Vec::from_slice(
+            alloc, cells,
+        )?))),
     }
 }
 

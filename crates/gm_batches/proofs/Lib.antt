@@ -1,0 +1,5 @@
+pub mod OperandLaws
+pub mod ColumnLaws
+pub mod LeafLaws
+pub mod GuardLaws
+mod Worked

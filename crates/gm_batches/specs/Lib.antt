@@ -1,0 +1,4 @@
+pub mod NodeBatches
+pub mod ColumnTypes
+pub mod ValuesIn
+pub mod Guards
