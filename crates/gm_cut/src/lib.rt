@@ -13,6 +13,6 @@
 
 mod copies;
 pub mod laws;
-mod own;
+pub mod own;
 pub mod pieces;
 mod places;

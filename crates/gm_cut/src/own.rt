@@ -31,8 +31,8 @@ fn can_fail2(op: Op2) -> bool
     }
 }
 
-// Whether an expression cannot fault where each node variable in it holds a node.
-fn cannot_fail(e: &Expr) -> bool
+/// Whether an expression cannot fault where each node variable in it holds a node.
+pub fn cannot_fail(e: &Expr) -> bool
     ensures { result ≡ Order.cannot_fail (expr_of e.now) }
 {
     match e {
@@ -290,9 +290,9 @@ fn adds_safely(outer: u32, body: &Stmt) -> bool
     }
 }
 
-// Whether a body may be a loop of own statements.
+/// Whether a body may be a loop of own statements, `outer` being the loop's iterator.
 #[tactic(auto, using(crate::proofs::OwnTests::own_same))]
-pub(crate) fn is_own(outer: u32, body: &Stmt) -> bool
+pub fn is_own(outer: u32, body: &Stmt) -> bool
     ensures { result ≡ Cut.is_own_loop outer (stmt_of body.now) }
 {
     own_code(outer, body) && adds_safely(outer, body)

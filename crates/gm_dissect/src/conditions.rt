@@ -16,7 +16,7 @@ ghost use Rattle.gm_dissect.specs.Conditions.{flag_local, flag_locals, has_saved
 ghost use Rattle.gm_dissect.specs.Loops.{each_loop};
 ghost use Rattle.gm_dissect.specs.Places.{after};
 
-use crate::places::{finish, put, taken};
+use crate::places::{finish, put_after};
 use gm_ast::forms::Work;
 use gm_ast::tree::{Declaration, Expr, Key, Sort, Stmt, Target, Tree, Variable};
 use gm_base::{Items, NoMemory, Place};
@@ -97,9 +97,10 @@ fn holds_among(outer: u32, stmts: &Vec<Stmt>) -> bool
     false
 }
 
-// Whether a part of a body does.
+/// Whether a part of a body holds what is cut from the rest: an inner loop, or a reduction through another node variable than
+/// `outer`, the loop's iterator.
 #[cycle(holding)]
-fn holds_cut(outer: u32, body: &Stmt) -> bool
+pub fn holds_cut(outer: u32, body: &Stmt) -> bool
     ensures { result ≡ holds_cut outer (stmt_of body.now) }
 {
     match body {
@@ -225,29 +226,6 @@ fn local_of(first: u32, numbers: &Vec<u32>, key: Key) -> Option<u32>
         local += 1;
     }
     None
-}
-
-// A block of two statements.
-fn two(alloc: Global, a: Stmt, b: Stmt) -> Result<Stmt, AllocError>
-    ensures { IfOk result (λ r. stmt_of r ≡ sequence (stmt_of a ∷ stmt_of b ∷ [])) }
-{
-    let stmts = vec![in alloc; a, b]?;
-    Ok(Stmt::Block(stmts))
-}
-
-// Puts a statement behind another, in a block, if there is that.
-fn put_after(alloc: Global, first: Option<Stmt>, s: &mut Stmt) -> Result<(), AllocError>
-    ensures { OnOk result (stmt_of s.new ≡ after (option_map stmt_of first) (stmt_of s.old)) }
-{
-    match first {
-        None => Ok(()),
-        Some(first) => {
-            let second = taken(alloc, s);
-            let both = two(alloc, first, second)?;
-            put(s, both);
-            Ok(())
-        }
-    }
 }
 
 // Saves a condition in a local, which is asked in its place, if there is one.

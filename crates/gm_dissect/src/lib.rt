@@ -16,4 +16,4 @@ pub mod all_deferred;
 pub mod conditions;
 pub mod deferred;
 pub mod laws;
-mod places;
+pub mod places;

@@ -11,9 +11,9 @@ ghost use Rattle.gm_dissect.specs.Locals as Locals;
 ghost use Rattle.gm_locals.specs.AllGroups as AllGroups;
 ghost use Rattle.gm_locals.specs.Groups as Groups;
 
-use crate::cuts::holds_cut;
 use crate::plain::{may_move, names_plainly};
 use gm_ast::tree::{Declaration, Expr, Sort, Stmt};
+use gm_dissect::conditions::holds_cut;
 use std::alloc::{AllocError, Global};
 
 // Whether a sort is that of scalars.
@@ -46,9 +46,9 @@ fn declares_among(stmts: &Vec<Stmt>, variable: u32) -> bool
     false
 }
 
-// Whether a body does.
+/// Whether a body declares a variable, outside of its inner loops.
 #[cycle(declaring)]
-fn declares(body: &Stmt, variable: u32) -> bool
+pub fn declares(body: &Stmt, variable: u32) -> bool
     ensures { result ≡ Locals.declares variable (stmt_of body.now) }
 {
     match body {

@@ -7,10 +7,8 @@
 //! (`rewriting`).
 #![tactic(auto)]
 
-mod cuts;
-mod groups;
+pub mod groups;
 pub mod laws;
 pub mod locals;
-mod places;
 mod plain;
 mod rewriting;

@@ -16,11 +16,11 @@ ghost use Rattle.gm_locals.specs.AllGroups.{groups_in, with_groups, with_groups_
 ghost use Rattle.gm_locals.specs.AllMoved as AllMoved;
 
 use crate::groups::group_of;
-use crate::places::{finish, put, taken};
 use crate::rewriting::{Kept, move_in, move_inner};
 use gm_ast::forms::Work;
 use gm_ast::tree::{Declaration, Expr, Head, Key, Sort, Stage, Stmt, Target, Tree, Variable};
 use gm_base::{Items, NoMemory, Place};
+use gm_dissect::places::{finish, put, taken, two};
 use gm_value::{VType, Value};
 use std::alloc::{AllocError, Global};
 
@@ -140,14 +140,6 @@ fn setting(
         filter: Expr::Const(Value::Flag(true)),
         body,
     })
-}
-
-// A block of two statements.
-fn two(alloc: Global, a: Stmt, b: Stmt) -> Result<Stmt, AllocError>
-    ensures { IfOk result (λ r. stmt_of r ≡ sequence (stmt_of a ∷ stmt_of b ∷ [])) }
-{
-    let stmts = vec![in alloc; a, b]?;
-    Ok(Stmt::Block(stmts))
 }
 
 // Puts a statement behind the loop that sets a property to a local.

@@ -5,9 +5,9 @@ ghost use Rattle.gm_ast.specs.Program.{sequence};
 ghost use Rattle.gm_ast.specs.Tree.{expr_of, stmt_of};
 ghost use Rattle.gm_locals.specs.AllMoved as AllMoved;
 
-use crate::places::{put, put_value};
 use gm_ast::tree::{Declaration, Expr, Key, Stmt, Target};
 use gm_base::Place;
+use gm_dissect::places::{put, put_value};
 use gm_value::{VType, Value};
 use std::mem;
 
