@@ -30,10 +30,9 @@ use Rattle.gm_dissect.proofs.Kept.{Sound}
 use Rattle.gm_dissect.proofs.Longer.{depth-same}
 use Rattle.gm_cut.specs.Parts.{each_passes}
 use Rattle.gm_cut.proofs.Grouped.{two-same}
-use Rattle.gm_parting.specs.InnerLoops.{inner_iterators_deep}
-use Rattle.gm_parting.specs.Locals.{names_pass, declares_its_locals, checks_none, checks_nothing}
-use Rattle.gm_parting.specs.Passes.{MayBePrepared}
-use Rattle.gm_parting.specs.Tuples.{reduces_evenly}
+use Rattle.gm_parting.specs.InnerLoops.{inner_iterators_deep, has_iterators_in_place}
+use Rattle.gm_parting.specs.Locals.{names_pass, declares_its_locals, checks_none, checks_nothing, has_declared_locals, has_no_checks}
+use Rattle.gm_parting.specs.Tuples.{reduces_evenly, has_even_tuples}
 use Rattle.gm_parting.proofs.Loops.{Test, sound-of, each-kept}
 use Rattle.gm_parting.proofs.MovedNames.{evenly-longer, deep-longer}
 use Rattle.gm_parting.proofs.MovedPrograms.{names-more}
@@ -174,9 +173,16 @@ module _ (ds : List Declaration) (res : Option VType) (x : ℕ) where
 
 -- ---- programs
 
+-- in each loop that is not of own statements each local that is named is declared, no node variable is checked, tuples are even, and iterators are declared where they stand
+pub record IsTidy (p : Program) : Type 0 where
+  pub declared : has_declared_locals p ≡ true
+  pub checks : has_no_checks p ≡ true
+  pub tuples : has_even_tuples p ≡ true
+  pub iterators : has_iterators_in_place p ≡ true
+
 record Known (p : Program) : Type 0 where
   ready : Ready2 p
-  facts : MayBePrepared p
+  facts : IsTidy p
 
 one-known : (x : ℕ) (p : Program) → Known p → Known (without_deferred_to x p)
 one-known x p w =
@@ -202,5 +208,5 @@ each-known (x ∷ xs) p w = each-known xs (cond (some_defers x p.body) (without_
     by true = one-known x p w
     by false = w
 
-pub facts-stay : (p : Program) → Ready2 p → MayBePrepared p → MayBePrepared (without_deferred p)
+pub facts-stay : (p : Program) → Ready2 p → IsTidy p → IsTidy (without_deferred p)
 facts-stay p r f = (each-known (deferred_in p.body) p (record { ready = r; facts = f })).facts

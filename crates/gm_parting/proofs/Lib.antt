@@ -34,4 +34,15 @@ pub mod GroupPrograms
 pub mod Numbers
 pub mod SavedGroups
 pub mod Prepared
+pub mod ApartParts
+pub mod ApartLoops
+pub mod ApartKept
+pub mod ApartLaws
+pub mod DeclaredRoles
+pub mod DeclaredLaws
+pub mod DeclaredFacts
+pub mod PlacedFacts
+pub mod PlacedRuns
+pub mod PlacedLaws
+pub mod PlacedNames
 mod Samples

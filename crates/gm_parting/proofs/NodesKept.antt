@@ -37,7 +37,7 @@ use Rattle.gm_dissect.proofs.Longer.{all-suit, typed-same, shares-same, outer-bo
 use Rattle.gm_dissect.proofs.Undeferred.{append-true, two-same, deferred-below, shared-below, Low, low-both, reads-low, sights-low, elsewhere-low}
 use Rattle.gm_parting.specs.Nodes.{through}
 use Rattle.gm_parting.proofs.MovedPrograms.{scalar-apart}
-use Rattle.gm_parting.proofs.NodesRead.{Row, Local, Reads, as_it_is, in_turn, branches, within, set_apart, first, named-read, typed-read}
+use Rattle.gm_parting.proofs.NodesRead.{Row, Local, Reads, as_it_is, in_turn, branches, within, set_apart, replaced, first, named-read, typed-read}
 
 -- nothing comes before all faults
 nothing-before : (ys : List Fault) → lie_before [] ys ≡ true
@@ -104,6 +104,7 @@ module _ (ds dt : List Declaration) (same : (x : ℕ) → x < length ds → vari
       let v = head-of k at hd test body u in
       ap (λ x. fault_of k hd.place ∷ (faults_in test k ++ x)) (faults-read (hd.iterator ∷ its) 2 body body' f (outside-more hd.iterator its v.0 v.1 o) v.2)
   faults-read its d s s' (set_apart e k t t' f) o u = append-nil (faults_of its t') ∙ faults-read its d t t' f o u
+  faults-read its d s s' (replaced e t t' off f) o u = f.faults its
   faults-read its d s s' (first e y x k at total r ts es row local all some) o u =
       let rest = faults_in_all es k ++ (record { key = k; place = total.place } ∷ total_fault total ∷ []) in
       append-nil (targets_faults its (map (through y) ts) k ++ rest) ∙ ap (λ fs. fs ++ rest) (targets-through its x y k (o.old x local) (o.new y row.high) ts all)
@@ -148,6 +149,7 @@ module _ (ds dt : List Declaration) (same : (x : ℕ) → x < length ds → vari
   order-read its d s s' (set_apart e k t t' f) o u h =
       and-true (body_in_order its t') (lie_before [] (faults_of its t' ++ []) && lie_before (faults_of its t') []) (order-read its d t t' f o u h)
       (and-true (lie_before [] (faults_of its t' ++ [])) (lie_before (faults_of its t') []) (nothing-before (faults_of its t' ++ [])) refl)
+  order-read its d s s' (replaced e t t' off f) o u h = f.order its h
   order-read its d s s' (first e y x k at total r ts es row local all some) o u h =
       let ends = record { key = k; place = total.place } ∷ total_fault total ∷ [] in
       let C' = Combine k total r (map (through y) ts) es in
@@ -183,6 +185,7 @@ module _ (ds dt : List Declaration) (same : (x : ℕ) → x < length ds → vari
       and-true (is_flat its true c) (is_inner_body dt its true a' && is_inner_body dt its true b') q.0 (and-true (is_inner_body dt its true a') (is_inner_body dt its true b') (inner-form its a a' f r.0) (inner-form its b b' g r.1))
   inner-form its s s' (within e k at hd test body body' f) h = absurd (both_ways false refl h)
   inner-form its s s' (set_apart e k t t' f) h = and-true (is_inner_body dt its true t') true (inner-form its t t' f h) refl
+  inner-form its s s' (replaced e t t' off f) h = f.form its h
   inner-form its s s' (first e y x k at total o ts es row local all some) h =
       let us = map (through y) ts in
       let r = both-true (are_reduced (is_inner_given dt) (is_within dt 2) o ts) (list_all (is_flat its true) es) h in
@@ -209,6 +212,7 @@ module _ (ds dt : List Declaration) (same : (x : ℕ) → x < length ds → vari
         let r = both-true (is_flat its true test) (is_inner_body dt its true body) q.1 in
         and-true (is_inner_head false n hd) (is_flat its true test && is_inner_body dt its true body') q.0 (and-true (is_flat its true test) (is_inner_body dt its true body') r.0 (inner-form its body body' f r.1))
     form-read s s' (set_apart e k t t' f) h = and-true (is_outer_body dt false n t') true (form-read t t' f h) refl
+    form-read s s' (replaced e t t' off f) h = absurd (off refl)
     form-read s s' (first e y x k at total o ts es row local all some) h =
         let us = map (through y) ts in
         let r = both-true (are_reduced (is_given dt n) (is_within dt 1) o ts) (list_all (is_flat (n ∷ []) false) es) h in
@@ -281,6 +285,7 @@ module _ (ds dt : List Declaration) (same : (x : ℕ) → x < length ds → vari
         either-part (length ds) z (hd.owner ∷ []) (told_in test ++ seen true body) (hd.owner ∷ []) (told_in test ++ seen true body') (λ l. inl l)
         (λ j. either-part (length ds) z (told_in test) (seen true body) (told_in test) (seen true body') (λ l. inl l) (told-read true 2 body body' f z) j) i
     told-read inner d s s' (set_apart e k t t' f) z i = told-read inner d t t' f z (subst (IsIn z) (append-nil (seen inner t')) i)
+    told-read inner d s s' (replaced e t t' off f) z i = f.told n inner z i
     told-read inner d s s' (first e y x k at total o ts es row local all some) z i = by ts all some i
       where
         by : (ts : List Target) → list_all (is_through x) ts ≡ true → (ts ≡ [] → ⊥) → IsIn z (x ∷ (((sights_of_targets dt n inner (map (through y) ts)).scalars ++ (sights_in_all es).scalars) ++ [])) →
@@ -303,6 +308,7 @@ module _ (ds dt : List Declaration) (same : (x : ℕ) → x < length ds → vari
         (two-same (λ x y. x ++ y) (sights_of dt n inner a').properties (sights_of dt n inner b').properties (sights_of dt n inner a).properties (sights_of dt n inner b).properties (properties-read inner d a a' f) (properties-read inner d b b' g))
     properties-read inner d s s' (within e k at hd test body body' f) = ap (λ x. reads_in test ++ x) (properties-read true 2 body body' f)
     properties-read inner d s s' (set_apart e k t t' f) = append-nil (sights_of dt n inner t').properties ∙ properties-read inner d t t' f
+    properties-read inner d s s' (replaced e t t' off f) = f.properties n inner
     properties-read inner d s s' (first e y x k at total o ts es row local all some) =
         append-nil ((sights_of_targets dt n inner (map (through y) ts)).properties ++ (sights_in_all es).properties)
         ∙ ap (λ l. l ++ (sights_in_all es).properties) (targets-seen inner x y (local-apart x n local it) (y-apart e y row) ts all)
@@ -315,6 +321,7 @@ module _ (ds dt : List Declaration) (same : (x : ℕ) → x < length ds → vari
         either-part (length ds) z (written dt n inner a) (written dt n inner b) (written dt n inner a') (written dt n inner b') (written-read inner d a a' f z) (written-read inner d b b' g z) i
     written-read inner d s s' (within e k at hd test body body' f) z i = written-read true 2 body body' f z i
     written-read inner d s s' (set_apart e k t t' f) z i = written-read inner d t t' f z (subst (IsIn z) (append-nil (written dt n inner t')) i)
+    written-read inner d s s' (replaced e t t' off f) z i = f.written n inner z i
     written-read inner d s s' (first e y x k at total o ts es row local all some) z i =
         ⊎_elim (λ (f : z ≡ y). inr (subst (λ w. length ds ≤ w) (sym f) row.high)) (λ j. absurd (by ts all some (subst (IsIn z) (append-nil (written_at_once dt n inner (map (through y) ts))) j))) i
       where
@@ -362,6 +369,7 @@ module _ (ds dt : List Declaration) (same : (x : ℕ) → x < length ds → vari
     reduced-read inner d s s' (branches e k c a a' b b' f g) = two-same (λ x y. x ++ y) (reduced dt n inner a') (reduced dt n inner b') (reduced dt n inner a) (reduced dt n inner b) (reduced-read inner d a a' f) (reduced-read inner d b b' g)
     reduced-read inner d s s' (within e k at hd test body body' f) = reduced-read true 2 body body' f
     reduced-read inner d s s' (set_apart e k t t' f) = append-nil (reduced dt n inner t') ∙ reduced-read inner d t t' f
+    reduced-read inner d s s' (replaced e t t' off f) = f.reduced n inner
     reduced-read inner d s s' (first e y x k at total o ts es row local all some) =
         let ox = local-apart x n local it in
         let oy = y-apart e y row in
@@ -376,6 +384,7 @@ module _ (ds dt : List Declaration) (same : (x : ℕ) → x < length ds → vari
     deferred-read d s s' (branches e k c a a' b b' f g) = two-same (λ x y. x ++ y) (deferred a') (deferred b') (deferred a) (deferred b) (deferred-read d a a' f) (deferred-read d b b' g)
     deferred-read d s s' (within e k at hd test body body' f) = refl
     deferred-read d s s' (set_apart e k t t' f) = append-nil (deferred t') ∙ deferred-read d t t' f
+    deferred-read d s s' (replaced e t t' off f) = f.deferred
     deferred-read d s s' (first e y x k at total o ts es row local all some) = refl
 
     alike-through : (x y : ℕ) (ts : List Target) → list_all (is_through x) ts ≡ true → are_alike (map (through y) ts) ≡ true
@@ -389,6 +398,7 @@ module _ (ds dt : List Declaration) (same : (x : ℕ) → x < length ds → vari
     alike-read d s s' (branches e k c a a' b b' f g) h = let r = both-true (targets_alike a) (targets_alike b) h in and-true (targets_alike a') (targets_alike b') (alike-read d a a' f r.0) (alike-read d b b' g r.1)
     alike-read d s s' (within e k at hd test body body' f) h = alike-read 2 body body' f h
     alike-read d s s' (set_apart e k t t' f) h = and-true (targets_alike t') true (alike-read d t t' f h) refl
+    alike-read d s s' (replaced e t t' off f) h = f.alike ∙ h
     alike-read d s s' (first e y x k at total o ts es row local all some) h =
         let us = map (through y) ts in
         and-true (are_alike us && are_distinct (variables_of us)) true
@@ -412,7 +422,7 @@ module _ (ds dt : List Declaration) (same : (x : ℕ) → x < length ds → vari
         by true rest i = ⊎_elim (target-below t h.0) rest (in-either y (written_by t) (variables_where f ts) i)
         by false rest i = rest i
 
-    kept-below : (inner : Bool) (s : Stmt) (y : ℕ) → NamesBelow (length ds) s → IsIn y (kept_in (reduced dt n inner s)) → y < length ds
+    pub kept-below : (inner : Bool) (s : Stmt) (y : ℕ) → NamesBelow (length ds) s → IsIn y (kept_in (reduced dt n inner s)) → y < length ds
     kept-below inner (Then a b) y h i = ⊎_elim (kept-below inner a y h.0) (kept-below inner b y h.1) (kept-either (reduced dt n inner a) (reduced dt n inner b) y i)
     kept-below inner (If k c a b) y h i = ⊎_elim (kept-below inner a y h.1) (kept-below inner b y h.2) (kept-either (reduced dt n inner a) (reduced dt n inner b) y i)
     kept-below inner (Foreach k at hd test body) y h i = kept-below true body y h.3 i
@@ -444,6 +454,7 @@ module _ (ds dt : List Declaration) (same : (x : ℕ) → x < length ds → vari
         (either-part (length ds) y (told_in test) (seen true body) (told_in test) (seen true body') (λ l. inl l) (told-read true 2 body body' f y) m))
         (in-either y (read_at n (reads_in test ++ (sights_of dt n true body').properties)) (told_in test ++ seen true body') j))) r.1
     inners-read d s s' (set_apart e k t t' f) b h = and-true (inners_share dt n t') true (inners-read d t t' f b h) refl
+    inners-read d s s' (replaced e t t' off f) b h = f.inners n ∙ h
     inners-read d s s' (first e y x k at total o ts es row local all some) b h = refl
 
   -- ---- a loop

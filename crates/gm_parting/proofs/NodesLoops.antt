@@ -10,6 +10,8 @@ use Rattle.gm_value.specs.declared.values.Value.TheVariants.{At}
 use Rattle.gm_value.specs.Operations.{is_true}
 use Rattle.gm_model.specs.Graphs.{Step}
 use Rattle.gm_ast.specs.declared.tree.Declaration.{Declaration}
+use Rattle.gm_base.specs.declared.places.Place.{Place}
+use Rattle.gm_ast.specs.declared.tree.Head.{Head}
 use Rattle.gm_ast.specs.declared.tree.Key.{Key}
 use Rattle.gm_ast.specs.declared.tree.Sort.TheVariants as Sorts
 use Rattle.gm_ast.specs.declared.tree.Target.{Target}
@@ -34,6 +36,7 @@ use Rattle.gm_semantics.proofs.StatementFrames.{sequential-alike}
 use Rattle.gm_forms.specs.Cut.{is_own_loop}
 use Rattle.gm_forms.specs.Forms.{depth_at}
 use Rattle.gm_forms.specs.Sharing.{is_through, are_alike, are_distinct, variables_of, targets_alike}
+use Rattle.gm_forms.specs.Uses.{suits, uses_of}
 use Rattle.gm_forms.proofs.Named.{both-true, names-below}
 use Rattle.gm_loop_laws.specs.Masks.{Change, looped, SameChange}
 use Rattle.gm_loop_laws.proofs.Endings.{done-alike}
@@ -62,7 +65,7 @@ module _ (k : ℕ) where
   inner-all_below (x ∷ xs) [] h = absurd h
   inner-all_below (x ∷ xs) (y ∷ ys) h = below-append x.with_inner _ h.0.inner_below (inner-all_below xs ys h.1)
 
-  inner_done-alike : (a b : Iteration) (xs ys : List Iteration) → Alike k a b → EachAlike k xs ys → Alike k (inner_done a xs) (inner_done b ys)
+  pub inner_done-alike : (a b : Iteration) (xs ys : List Iteration) → Alike k a b → EachAlike k xs ys → Alike k (inner_done a xs) (inner_done b ys)
   inner_done-alike a b xs ys h each =
       let cs = joined (map (λ (t : Iteration). t.with_inner) xs) in
       record {
@@ -79,11 +82,11 @@ module _ (k : ℕ) where
 
 -- j: the number of variables before; ds: their table
 module _ (j : ℕ) (ds : List Declaration) (loop : Loop) (outer : loop.outer < j) (apart : (x : ℕ) → is_body_local ds x ≡ true → nat_eq x loop.outer ≡ false) where
-  alike-failed : (a b : Iteration) (f : Fault) → Alike j a b → Alike j (failed a f) (failed b f)
+  pub alike-failed : (a b : Iteration) (f : Fault) → Alike j a b → Alike j (failed a f) (failed b f)
   alike-failed a b f h = record { store = h.store; with_inner = h.with_inner; with_outermost = h.with_outermost; deferred = h.deferred; fault = refl; inner_below = h.inner_below; outermost_below = h.outermost_below }
 
   -- a write to a fresh local
-  alike-beside : (a b : Iteration) (y : ℕ) (v : Value) → j ≤ y → Alike j a b → Alike j a (wrote b (Scalar y, v))
+  pub alike-beside : (a b : Iteration) (y : ℕ) (v : Value) → j ≤ y → Alike j a b → Alike j a (wrote b (Scalar y, v))
   alike-beside a b y v fresh h = record {
     store = record { scalar = λ z l. ap (λ c. cond c v (b.store.scalar z)) (ne_eqb y z (λ e. omega arith)) ∙ h.store.scalar z l; node = h.store.node; edge = h.store.edge };
     with_inner = h.with_inner;
@@ -94,11 +97,11 @@ module _ (j : ℕ) (ds : List Declaration) (loop : Loop) (outer : loop.outer < j
     outermost_below = h.outermost_below;
   }
 
-  alike-way : (v : Bool) (f g f' g' : Iteration → Iteration) (a b : Iteration) → Alike j (f a) (f' b) → Alike j (g a) (g' b) → Alike j (one_way v f g a) (one_way v f' g' b)
+  pub alike-way : (v : Bool) (f g f' g' : Iteration → Iteration) (a b : Iteration) → Alike j (f a) (f' b) → Alike j (g a) (g' b) → Alike j (one_way v f g a) (one_way v f' g' b)
   alike-way true f g f' g' a b h i = h
   alike-way false f g f' g' a b h i = i
 
-  same-value : (m : Mode) (a b : Iteration) (key : Key) (e : Expr) → ReadsBelow j e → Alike j a b → value e (view_in loop m b key) ≡ value e (view_in loop m a key)
+  pub same-value : (m : Mode) (a b : Iteration) (key : Key) (e : Expr) → ReadsBelow j e → Alike j a b → value e (view_in loop m b key) ≡ value e (view_in loop m a key)
   same-value m a b key e r h = ap settled (evaluated-frame j e (view_in loop m a key) b.store r h.store)
 
   -- ---- a reduction through one node variable
@@ -180,7 +183,7 @@ module _ (j : ℕ) (ds : List Declaration) (loop : Loop) (outer : loop.outer < j
               alone a (Some f) = refl
 
   -- a body
-  turn-reads : (m : Mode) (key : Key) (test : Expr) (f g : Iteration → Iteration) (iterator n : ℕ) (s t : Store) → ReadsBelow j test → Agree j s t → ((a b : Iteration) → a.fault ≡ None → Alike j a b → Alike j (f a) (g b)) →
+  pub turn-reads : (m : Mode) (key : Key) (test : Expr) (f g : Iteration → Iteration) (iterator n : ℕ) (s t : Store) → ReadsBelow j test → Agree j s t → ((a b : Iteration) → a.fault ≡ None → Alike j a b → Alike j (f a) (g b)) →
       Alike j (turn_at loop m key test f iterator n s) (turn_at loop m key test g iterator n t)
   turn-reads m key test f g iterator n s t reads agree each =
       let a = begun (write s (Scalar iterator) (At (Some n))) in
@@ -286,6 +289,17 @@ module _ (ds : List Declaration) (n p : ℕ) (apart : (x : ℕ) → is_body_loca
   nodes-pushes o' first deep i (Foreach k at hd test body) l d t = nodes-pushes false deep deep i body d d t
   nodes-pushes o' first deep i s l d t = refl
 
+-- a local of a body is not the loop's iterator
+pub local-off : (ds : List Declaration) (key : Key) (at : Place) (h : Head) (test : Expr) (body : Stmt) → list_all (suits ds) (uses_of (Foreach key at h test body)) ≡ true → (x : ℕ) → is_body_local ds x ≡ true → nat_eq x h.iterator ≡ false
+local-off ds key at h test body named x e = by (nat_eq x n) refl
+  where
+    n : ℕ
+    n = h.iterator
+
+    by : (b : Bool) → nat_eq x n ≡ b → b ≡ false
+    by true f = absurd (scalar-apart (variable_at ds n) (subst (λ z. sort_eq Sorts.Scalar (variable_at ds z).sort ≡ true) (eqb-true x n f) (both-true (sort_eq Sorts.Scalar (variable_at ds x).sort) (nat_eq (depth_at ds x) 1) e).0) (iterates-of ds key at h test body named))
+    by false f = refl
+
 -- ---- loops of a phase
 
 module _ (ds : List Declaration) (run : Run) (first deep : ℕ) (high : length ds ≤ first) (higher : length ds ≤ deep) where
@@ -302,11 +316,7 @@ module _ (ds : List Declaration) (run : Run) (first deep : ℕ) (high : length d
       below = names-below ds (Foreach key at h test body) known.named
 
       apart : (x : ℕ) → is_body_local ds x ≡ true → nat_eq x n ≡ false
-      apart x e = by (nat_eq x n) refl
-        where
-          by : (b : Bool) → nat_eq x n ≡ b → b ≡ false
-          by true f = absurd (scalar-apart (variable_at ds n) (subst (λ z. sort_eq Sorts.Scalar (variable_at ds z).sort ≡ true) (eqb-true x n f) (both-true (sort_eq Sorts.Scalar (variable_at ds x).sort) (nat_eq (depth_at ds x) 1) e).0) (iterates-of ds key at h test body known.named))
-          by false f = refl
+      apart x e = local-off ds key at h test body known.named x e
 
       t : targets_alike body ≡ true
       t = shares-alike ds n test body known.share

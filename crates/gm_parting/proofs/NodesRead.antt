@@ -1,9 +1,10 @@
 -- Bodies that read nodes first: what is known of the parts.
-use Rattle.std.proofs.Common.{◌≡◌, ◌<◌, ◌≤◌, ◌+◌, arith, ℕ, Bool, true, false, cond, List, [], ◌∷◌, ◌++◌, length, map, refl, sym, ap, subst, ◌∙◌, Option, Some, None}
+use Rattle.std.proofs.Common.{◌⊎◌, ◌≡◌, ◌<◌, ◌≤◌, ◌+◌, arith, ℕ, Bool, true, false, cond, List, [], ◌∷◌, ◌++◌, length, map, refl, sym, ap, subst, ◌∙◌, Option, Some, None}
 use Rattle.std.specs.Prelude.{◌&&◌, ◌||◌, nat_eq, nat_lt}
 use Rattle.std.specs.List.{list_all}
 use Rattle.std.proofs.lemmas.Bool.{both_ways, eq-eqb, eqb-true, lt-ltb, ltb-true}
 use Rattle.gm_base.specs.declared.places.Place.{Place}
+use Rattle.gm_value.specs.Bag.{IsIn}
 use Rattle.gm_value.specs.declared.reductions.Reduce.{Reduce}
 use Rattle.gm_value.specs.declared.values.VType.{VType}
 use Rattle.gm_value.specs.declared.values.VType.TheVariants as V
@@ -21,8 +22,9 @@ use Rattle.gm_ast.specs.declared.tree.Variable.{Variable}
 use Rattle.gm_ast.specs.Names.{sort_eq, is_node_type}
 use Rattle.gm_ast.specs.Program.{Expr, Var, always, Stmt, Skip, Then, Declare, Combine, Foreach, If, sequence}
 use Rattle.gm_semantics.specs.Statements.{variable_at}
-use Rattle.gm_forms.specs.Forms.{depth_at}
-use Rattle.gm_forms.specs.Sharing.{is_through, are_alike, are_distinct, variables_of, targets_alike}
+use Rattle.gm_forms.specs.Forms.{depth_at, is_inner_body}
+use Rattle.gm_forms.specs.Order.{faults_of, body_in_order}
+use Rattle.gm_forms.specs.Sharing.{sights_of, written, reduced, deferred, inners_share, is_through, are_alike, are_distinct, variables_of, targets_alike}
 use Rattle.gm_forms.specs.Typing.{type_at, is_type, has_type, target_type, all_have_types, fits_targets, keeps_tuples, is_typed_in}
 use Rattle.gm_forms.specs.Uses.{Role, Written, Told, Owner, NodeValue, has_role, use_as, suits, uses_in, uses_in_all, uses_of_head, uses_of_targets, uses_of}
 use Rattle.gm_forms.proofs.Named.{both-true, all-append}
@@ -41,13 +43,29 @@ pub record Local (ds : List Declaration) (x : ℕ) : Type 0 where
   pub low : x < length ds
   pub local : is_body_local ds x ≡ true
 
--- a part of a body, and the same where nodes are read first
+-- a part of an inner body, and another that may stand for it: it has the same faults in the same order, and reads, writes and reduces the same, but for what is new
+pub record Replaces (ds dt : List Declaration) (s t : Stmt) : Type 0 where
+  pub named : list_all (suits dt) (uses_of s) ≡ true → list_all (suits dt) (uses_of t) ≡ true
+  pub typed : (res : Option VType) → is_typed_in dt res s ≡ true → is_typed_in dt res t ≡ true
+  pub faults : (its : List ℕ) → faults_of its t ≡ faults_of its s
+  pub order : (its : List ℕ) → body_in_order its s ≡ true → body_in_order its t ≡ true
+  pub form : (its : List ℕ) → is_inner_body dt its true s ≡ true → is_inner_body dt its true t ≡ true
+  pub told : (n : ℕ) (inner : Bool) (z : ℕ) → IsIn z (sights_of dt n inner t).scalars → IsIn z (sights_of dt n inner s).scalars ⊎ (length ds ≤ z)
+  pub properties : (n : ℕ) (inner : Bool) → (sights_of dt n inner t).properties ≡ (sights_of dt n inner s).properties
+  pub written : (n : ℕ) (inner : Bool) (z : ℕ) → IsIn z (written dt n inner t) → IsIn z (written dt n inner s) ⊎ (length ds ≤ z)
+  pub reduced : (n : ℕ) (inner : Bool) → reduced dt n inner t ≡ reduced dt n inner s
+  pub deferred : deferred t ≡ deferred s
+  pub alike : targets_alike t ≡ targets_alike s
+  pub inners : (n : ℕ) → inners_share dt n t ≡ inners_share dt n s
+
+-- a part of a body, and the same where nodes are read first, or where parts of inner bodies are replaced
 pub data Reads (ds dt : List Declaration) : ℕ → Stmt → Stmt → Type 0 where
   as_it_is : (d : ℕ) (s : Stmt) → Reads ds dt d s s
   in_turn : (d : ℕ) (a a' b b' : Stmt) → Reads ds dt d a a' → Reads ds dt d b b' → Reads ds dt d (Then a b) (Then a' b')
   branches : (d : ℕ) (k : Key) (c : Expr) (a a' b b' : Stmt) → Reads ds dt d a a' → Reads ds dt d b b' → Reads ds dt d (If k c a b) (If k c a' b')
   within : (d : ℕ) (k : Key) (at : Place) (h : Head) (test : Expr) (body body' : Stmt) → Reads ds dt 2 body body' → Reads ds dt d (Foreach k at h test body) (Foreach k at h test body')
   set_apart : (d : ℕ) (k : Key) (s s' : Stmt) → Reads ds dt d s s' → Reads ds dt d s (If k always s' Skip)
+  replaced : (d : ℕ) (s s' : Stmt) → (d ≡ 1 → ⊥) → Replaces ds dt s s' → Reads ds dt d s s'
   first : (d y x : ℕ) (k : Key) (at : Place) (total : TotalKey) (o : Reduce) (ts : List Target) (es : List Expr) → Row ds dt d y → Local ds x → list_all (is_through x) ts ≡ true → (ts ≡ [] → ⊥) →
       Reads ds dt d (Combine k total o ts es) (sequence (Declare k y (Some (Var x at)) ∷ Combine k total o (map (through y) ts) es ∷ []))
 
@@ -152,6 +170,7 @@ module _ (ds dt : List Declaration) (same : (x : ℕ) → x < length ds → vari
       append-true (suits dt) (uses_of_head hd) (uses_in test ++ uses_of body') q.0 (append-true (suits dt) (uses_in test) (uses_of body') r.0 (named-read 2 body body' f r.1))
   named-read d s s' (set_apart e k t t' f) h =
       append-true (suits dt) (uses_of t') [] (named-read d t t' f h) refl
+  named-read d s s' (replaced e t t' off f) h = f.named h
   named-read d s s' (first e y x k at total o ts es row local all some) h =
       let r = all-append (suits dt) (uses_of_targets ts) (uses_in_all es) h in
       append-true (suits dt) (use_as Written y ++ use_as Told x) ((uses_of_targets (map (through y) ts) ++ uses_in_all es) ++ []) (append-true (suits dt) (use_as Written y) (use_as Told x) (row-use Written e y row refl) (local-told x local))
@@ -219,6 +238,7 @@ module _ (ds dt : List Declaration) (same : (x : ℕ) → x < length ds → vari
       let q = both-true (has_type dt V.Flag test) (is_typed_in dt res body) h in
       and-true (has_type dt V.Flag test) (is_typed_in dt res body') q.0 (typed-read res 2 body body' f v.1 q.1)
   typed-read res d s s' (set_apart e k t t' f) u h = and-true (is_typed_in dt res t') true (typed-read res d t t' f u h) refl
+  typed-read res d s s' (replaced e t t' off f) u h = f.typed res h
   typed-read res d s s' (first e y x k at total o ts es row local all some) u h =
       let v = all-append (suits dt) (uses_of_targets ts) (uses_in_all es) u in
       let r = both-true (all_have_types dt ts es) (fits_targets dt o ts) h in

@@ -10,43 +10,68 @@ use Rattle.gm_cut.specs.Parts.{goes_any_way, in_pieces, IsPartedBy}
 use Rattle.gm_cut.specs.Slices.{can_be_sliced}
 use Rattle.gm_cut.proofs.PartLaws.{same-parted, ready-parted}
 use Rattle.gm_cut.proofs.SlicesLaws.{same-sliced, ready-sliced}
+use Rattle.gm_parting.specs.Apart.{with_statements_apart}
+use Rattle.gm_parting.specs.Declared.{with_locals_declared}
 use Rattle.gm_parting.specs.Filters.{with_saved_filters}
+use Rattle.gm_parting.specs.Iterators.{with_iterators_placed}
 use Rattle.gm_parting.specs.Numbers.{with_conditions_apart}
 use Rattle.gm_parting.specs.Passes.{prepared, dissected, MayBePrepared}
 use Rattle.gm_parting.specs.Prepared.{IsPrepared}
+use Rattle.gm_parting.proofs.ApartLaws.{same-apart, parted-apart-still}
+use Rattle.gm_parting.proofs.DeclaredFacts.{all-declared, checks-declared, tuples-declared, iterators-declared}
+use Rattle.gm_parting.proofs.DeclaredLaws.{same-declared, ready-declared}
 use Rattle.gm_parting.proofs.DeferredFacts.{facts-stay}
 use Rattle.gm_parting.proofs.FilterFacts.{declared-stay, checks-stay, tuples-stay, iterators-stay}
 use Rattle.gm_parting.proofs.FilterLaws as Filters
 use Rattle.gm_parting.proofs.GroupPrograms.{gone-ready, gone-same}
+use Rattle.gm_parting.proofs.PlacedLaws.{placed-same, placed-ready}
+use Rattle.gm_parting.proofs.PlacedNames.{no-strangers, tuples-placed, iterators-placed}
 use Rattle.gm_parting.proofs.Programs.{programs-parted}
 use Rattle.gm_parting.proofs.SavedGroups.{all-kept, all-gone, apart-ready, apart-same}
 
 pub prepared-ready : (p : Program) → Ready2 p → Ready2 (prepared p)
 prepared-ready p r =
-    let a = without_deferred p in
+    let i = with_iterators_placed p in
+    let d = with_locals_declared i in
+    let a = without_deferred d in
     let b = with_saved_filters a in
     let c = with_conditions_apart b in
-    gone-ready c (apart-ready b (Filters.ready-saved a (Deferred.ready-all p r)))
+    gone-ready c (apart-ready b (Filters.ready-saved a (Deferred.ready-all d (ready-declared i (placed-ready p r)))))
 
 pub prepared-same : (p : Program) → Ready2 p → SameMeaning p (prepared p)
 prepared-same p r =
-    let a = without_deferred p in
+    let i = with_iterators_placed p in
+    let d = with_locals_declared i in
+    let a = without_deferred d in
     let b = with_saved_filters a in
     let c = with_conditions_apart b in
-    let ra = Deferred.ready-all p r in
+    let ri = placed-ready p r in
+    let rd = ready-declared i ri in
+    let ra = Deferred.ready-all d rd in
     let rb = Filters.ready-saved a ra in
     let rc = apart-ready b rb in
-    same-trans p a (prepared p) (Deferred.same-all p r)
-    (same-trans a b (prepared p) (Filters.same-saved a ra (Deferred.none-deferred p)) (same-trans b c (prepared p) (apart-same b rb) (gone-same c rc)))
+    same-trans p i (prepared p) (placed-same p r)
+    (same-trans i d (prepared p) (same-declared i ri)
+    (same-trans d a (prepared p) (Deferred.same-all d rd)
+    (same-trans a b (prepared p) (Filters.same-saved a ra (Deferred.none-deferred d)) (same-trans b c (prepared p) (apart-same b rb) (gone-same c rc)))))
 
 pub is-prepared : (p : Program) → Ready2 p → MayBePrepared p → IsPrepared (prepared p)
 is-prepared p r f =
-    let a = without_deferred p in
+    let i = with_iterators_placed p in
+    let d = with_locals_declared i in
+    let a = without_deferred d in
     let b = with_saved_filters a in
-    let ra = Deferred.ready-all p r in
+    let ri = placed-ready p r in
+    let rd = ready-declared i ri in
+    let ra = Deferred.ready-all d rd in
     let rb = Filters.ready-saved a ra in
-    let g = facts-stay p r f in
-    all-gone b rb (Filters.none-saved a ra (Deferred.none-deferred p))
+    let g = facts-stay d rd (record {
+      declared = all-declared i ri (no-strangers p r);
+      checks = checks-declared i ri f.checks;
+      tuples = tuples-declared i ri (tuples-placed p r f.tuples);
+      iterators = iterators-declared i ri (iterators-placed p r f.apart);
+    }) in
+    all-gone b rb (Filters.none-saved a ra (Deferred.none-deferred d))
     (all-kept b rb (Filters.filters-saved a ra) (declared-stay a ra g.declared) (checks-stay a ra g.checks) (tuples-stay a ra g.tuples) (iterators-stay a ra g.iterators))
 
 pub pieces-same : (p : Program) → Ready2 p → MayBePrepared p → SameMeaning p (in_pieces (prepared p))
@@ -57,9 +82,16 @@ pieces-same p r f =
 pub pieces-cut : (p : Program) → Ready2 p → MayBePrepared p → IsPartedBy goes_any_way (in_pieces (prepared p))
 pieces-cut p r f = let s = prepared-ready p r in ready-parted goes_any_way (prepared p) s (programs-parted (prepared p) s (is-prepared p r f))
 
--- inner loops go to slices where they may
-pub slices-same : (p : Program) → Ready2 p → MayBePrepared p → can_be_sliced (in_pieces (prepared p)) ≡ true → SameMeaning p (dissected p)
-slices-same p r f h = let q = in_pieces (prepared p) in same-trans p q (dissected p) (pieces-same p r f) (same-sliced q (pieces-cut p r f) h)
+-- the statements of inner loops stand apart
+pub apart-cut : (p : Program) → Ready2 p → MayBePrepared p → IsPartedBy goes_any_way (with_statements_apart (in_pieces (prepared p)))
+apart-cut p r f = parted-apart-still (in_pieces (prepared p)) (pieces-cut p r f)
 
-pub slices-ready : (p : Program) → Ready2 p → MayBePrepared p → can_be_sliced (in_pieces (prepared p)) ≡ true → Ready3 (dissected p)
-slices-ready p r f h = ready-sliced (in_pieces (prepared p)) (pieces-cut p r f) h
+-- and inner loops go to slices where they may
+pub slices-same : (p : Program) → Ready2 p → MayBePrepared p → can_be_sliced (with_statements_apart (in_pieces (prepared p))) ≡ true → SameMeaning p (dissected p)
+slices-same p r f h =
+    let q = in_pieces (prepared p) in
+    let a = with_statements_apart q in
+    same-trans p q (dissected p) (pieces-same p r f) (same-trans q a (dissected p) (same-apart q (pieces-cut p r f)) (same-sliced a (apart-cut p r f) h))
+
+pub slices-ready : (p : Program) → Ready2 p → MayBePrepared p → can_be_sliced (with_statements_apart (in_pieces (prepared p))) ≡ true → Ready3 (dissected p)
+slices-ready p r f h = ready-sliced (with_statements_apart (in_pieces (prepared p))) (apart-cut p r f) h

@@ -17,7 +17,7 @@ use Rattle.gm_ast.specs.declared.tree.Sort.TheVariants as Sorts
 use Rattle.gm_ast.specs.declared.tree.Stage.TheVariants.{Operator, Total}
 use Rattle.gm_ast.specs.declared.tree.Target.{Target}
 use Rattle.gm_ast.specs.declared.tree.Target.TheVariants as T
-use Rattle.gm_ast.specs.Program.{Expr, Const, Var, Property, Live, Binary, always, Stmt, Skip, Declare, Assign, Combine, Foreach, If, Program, sequence}
+use Rattle.gm_ast.specs.Program.{Expr, Const, Var, Property, EdgeProperty, Live, Binary, always, Stmt, Skip, Declare, DeclareEdge, Assign, Combine, Foreach, If, Program, sequence}
 use Rattle.gm_forms.specs.Cut.{adds_elsewhere, is_own_loop}
 use Rattle.gm_forms.specs.Forms.{is_levelled}
 use Rattle.gm_forms.specs.Order.{is_ordered}
@@ -32,11 +32,14 @@ use Rattle.gm_locals.specs.Groups.{with_locals_kept}
 use Rattle.gm_cut.specs.Parts.{goes_any_way, in_pieces, can_be_parted}
 use Rattle.gm_cut.specs.Runs.{with_runs, grouped}
 use Rattle.gm_cut.specs.Slices.{can_be_sliced}
+use Rattle.gm_parting.specs.Apart.{with_statements_apart}
+use Rattle.gm_parting.specs.Declared.{declared_first, with_locals_declared, has_no_strangers}
 use Rattle.gm_parting.specs.Filters.{filter_saved, with_saved_filters}
 use Rattle.gm_parting.specs.InnerLoops.{has_inner_loops_apart, has_iterators_in_place}
+use Rattle.gm_parting.specs.Iterators.{with_iterators_placed, has_iterators_apart}
 use Rattle.gm_parting.specs.Lasting.{has_lasting_filters, has_lasting_conditions, has_numbered_ifs, has_repeatable_conditions}
 use Rattle.gm_parting.specs.Locals.{has_declared_locals, has_no_checks}
-use Rattle.gm_parting.specs.Passes.{prepared}
+use Rattle.gm_parting.specs.Passes.{dissected, prepared}
 use Rattle.gm_parting.specs.Staying.{locals_stay_within, has_staying_locals}
 use Rattle.gm_parting.specs.Tuples.{has_even_tuples}
 
@@ -305,17 +308,17 @@ checking = program (each always (Declare (key 2) 7 (Some (own 6 2)) ∷ push 3 �
 checking-row : is_ready checking ≡ true
 checking-row = refl
 
--- ---- what a program must have for the passes, and what comes of them: locals that are declared, no checks of nodes, even tuples, iterators in place
+-- ---- what a program must have for the passes, and what comes of them: no iterator of both kinds of loops, no checks of nodes, even tuples
 abbrev needs : Program → List Bool
-needs p = has_declared_locals p ∷ has_no_checks p ∷ has_even_tuples p ∷ has_iterators_in_place p ∷ []
+needs p = has_iterators_apart p ∷ has_no_checks p ∷ has_even_tuples p ∷ []
 
-all-needs : needs plain ≡ true ∷ true ∷ true ∷ true ∷ []
+all-needs : needs plain ≡ true ∷ true ∷ true ∷ []
 all-needs = refl
 
-faulting-needs : needs faulting ≡ true ∷ true ∷ true ∷ true ∷ []
+faulting-needs : needs faulting ≡ true ∷ true ∷ true ∷ []
 faulting-needs = refl
 
-asking-needs : needs asking ≡ true ∷ true ∷ true ∷ true ∷ []
+asking-needs : needs asking ≡ true ∷ true ∷ true ∷ []
 asking-needs = refl
 
 plain-prepared : may (prepared plain) ≡ true
@@ -337,7 +340,7 @@ behind-slices = refl
 asking-prepared : may (prepared asking) ≡ true
 asking-prepared = refl
 
-later-needs : needs later ≡ true ∷ true ∷ true ∷ true ∷ []
+later-needs : needs later ≡ true ∷ true ∷ true ∷ []
 later-needs = refl
 
 later-prepared : may (prepared later) ≡ true
@@ -346,7 +349,7 @@ later-prepared = refl
 later-slices : can_be_sliced (in_pieces (prepared later)) ≡ true
 later-slices = refl
 
-inside-needs : needs inside ≡ true ∷ true ∷ true ∷ true ∷ []
+inside-needs : needs inside ≡ true ∷ true ∷ true ∷ []
 inside-needs = refl
 
 inside-prepared : may (prepared inside) ≡ true
@@ -355,7 +358,7 @@ inside-prepared = refl
 inside-slices : can_be_sliced (in_pieces (prepared inside)) ≡ true
 inside-slices = refl
 
-twice-needs : needs twice ≡ true ∷ true ∷ true ∷ true ∷ []
+twice-needs : needs twice ≡ true ∷ true ∷ true ∷ []
 twice-needs = refl
 
 twice-prepared : may (prepared twice) ≡ true
@@ -365,47 +368,150 @@ twice-slices : can_be_sliced (in_pieces (prepared twice)) ≡ true
 twice-slices = refl
 
 -- its Ifs get numbers of their own
-twin-needs : needs twin ≡ true ∷ true ∷ true ∷ true ∷ []
+twin-needs : needs twin ≡ true ∷ true ∷ true ∷ []
 twin-needs = refl
 
 twin-prepared : may (prepared twin) ≡ true
 twin-prepared = refl
 
--- a condition around reductions that go several ways: Foreach (t: n.Nbrs) { If (n.b == 0) { t.c += n.b; n.a min= t.b; } }. It may be cut, but does not go to slices
+-- a local that no body declares is declared as what it holds: x = x; x = n.a; Foreach (t: n.Nbrs) { t.c += x; }
+undeclared-needs : (has_declared_locals undeclared ≡ false) × (needs undeclared ≡ true ∷ true ∷ true ∷ [])
+undeclared-needs = (refl, refl)
+
+undeclared-declared : with_locals_declared undeclared ≡ program (Foreach (key 1) (at 1) head always (declared_first (key 1) (at 1) (9 ∷ 9 ∷ []) (sequence (Assign (key 2) (T.Scalar 9 (at 2)) (own 3 2) ∷ along 3 (gives 4 Sum (T.Property 2 5 (at 4) ∷ []) (Var 9 (at 4) ∷ []) ∷ []) ∷ []))))
+undeclared-declared = refl
+
+undeclared-prepared : may (prepared undeclared) ≡ true
+undeclared-prepared = refl
+
+-- one that declares its locals stays
+plain-declared : with_locals_declared plain ≡ plain
+plain-declared = refl
+
+-- an iterator of another loop, as a tree may name it: Foreach (n) { Foreach (t: n.Nbrs) { If (s == n) { t.c += n.b; } } } with s the iterator of another inner loop
+abbrev strange : Program
+strange =
+    record (program (each always (along 2 (If (key 3) (Binary Eq (at 3) (Var 12 (at 3)) (Var 1 (at 3))) (gives 4 Sum (T.Property 2 5 (at 4) ∷ []) (own 4 4 ∷ [])) Skip ∷ []) ∷ []))) {
+      declarations = table_at 1 ++ (row Sorts.Iterator V.Node 1 ∷ []);
+    }
+
+strange-row : (is_ready strange && not (has_no_strangers strange)) ≡ true
+strange-row = refl
+
+-- which is placed apart from locals
+strange-needs : needs strange ≡ true ∷ true ∷ true ∷ []
+strange-needs = refl
+
+strange-prepared : (has_no_strangers (with_iterators_placed strange) && may (prepared strange)) ≡ true
+strange-prepared = refl
+
+-- an iterator that was declared too deep is placed, too
+deep-needs : needs deep ≡ true ∷ true ∷ true ∷ []
+deep-needs = refl
+
+deep-prepared : (has_iterators_in_place (with_iterators_placed deep) && may (prepared deep)) ≡ true
+deep-prepared = refl
+
+-- two loops, each of which has the iterator of the other for its inner loop, as trees may: Foreach (n) { Foreach (t: n.Nbrs) { t.c += n.b; } } Foreach (t) { Foreach (n: t.Nbrs) { n.c += t.b; } }
+abbrev both : Program
+both =
+    program (sequence (each always (push 2 ∷ [])
+    ∷ Foreach (key 4) (at 4) (record head { iterator = 2 }) always (Foreach (key 5) (at 5) (record { iterator = 1; domain = OutNbrs; owner = 2; place = at 5 }) always (sequence (gives 6 Sum (T.Property 1 5 (at 6) ∷ []) (Property 2 4 (at 6) ∷ []) ∷ []))) ∷ []))
+
+-- ---- slices
+
+-- a program in pieces, with the statements of its inner loops apart
+abbrev pieces : Program → Program
+pieces p = with_statements_apart (in_pieces (prepared p))
+
+-- n.a min= t.b;
+abbrev pull : ℕ → Stmt
+pull line = gives line Min (T.Property 1 3 (at line) ∷ []) (Property 2 4 (at line) ∷ [])
+
+-- t.c += n.b;
+abbrev push-line : ℕ → Stmt
+push-line line = gives line Sum (T.Property 2 5 (at line) ∷ []) (own 4 line ∷ [])
+
+abbrev is-zero : ℕ → Expr → Expr
+is-zero line e = Binary Eq (at line) e (number 0)
+
+-- a condition around reductions that go several ways: Foreach (t: n.Nbrs) { If (n.b == 0) { t.c += n.b; n.a min= t.b; } }. It may be cut, and goes to slices once its statements stand apart
 abbrev several : Program
-several =
-    program (each always (along 2 (If (key 3) (Binary Eq (at 3) (own 4 3) (number 0)) (sequence (gives 4 Sum (T.Property 2 5 (at 4) ∷ []) (own 4 4 ∷ []) ∷ gives 5 Min (T.Property 1 3 (at 5) ∷ []) (Property 2 4 (at 5) ∷ []) ∷ [])) Skip ∷ []) ∷ []))
+several = program (each always (along 2 (If (key 3) (is-zero 3 (own 4 3)) (sequence (push-line 4 ∷ pull 5 ∷ [])) Skip ∷ []) ∷ []))
 
 several-row : (is_ready several && may (prepared several)) ≡ true
 several-row = refl
 
-several-slices : can_be_sliced (in_pieces (prepared several)) ≡ false
+several-together : can_be_sliced (in_pieces (prepared several)) ≡ false
+several-together = refl
+
+several-slices : can_be_sliced (pieces several) ≡ true
 several-slices = refl
 
+-- Foreach (t: n.Nbrs) { Bool y = n.b == 0; If (y) { t.c += n.b; } } and then Foreach (t: n.Nbrs) { Bool y = n.b == 0; If (y) { n.a min= t.b; } }
+abbrev asked : Stmt → Stmt
+asked s = Foreach (key 1) (at 1) head always (along 2 (Declare (key 3) 13 (Some (is-zero 3 (own 4 3))) ∷ If (key 3) (Var 13 (at 2)) (sequence (s ∷ [])) Skip ∷ []))
+
+several-dissected : (dissected several).body ≡ sequence (sequence (asked (push-line 4) ∷ asked (pull 5) ∷ []) ∷ [])
+several-dissected = refl
+
+-- an Else, and an If within an If: If (n.b == 0) { t.c += n.b; If (t.b == 0) { n.a min= t.b; } } Else { n.a min= t.b; t.c += n.b; }
+abbrev nested : Program
+nested =
+    program (each always (along 2 (If (key 3) (is-zero 3 (own 4 3)) (sequence (push-line 4 ∷ If (key 5) (is-zero 5 (Property 2 4 (at 5))) (pull 6) Skip ∷ [])) (sequence (pull 7 ∷ [])) ∷ []) ∷ []))
+
+nested-row : (is_ready nested && can_be_sliced (pieces nested)) ≡ true
+nested-row = refl
+
+-- a body that goes one way stays
+one-way-stays : (with_statements_apart (program (each always (along 2 (If (key 3) (is-zero 3 (own 4 3)) (sequence (push-line 4 ∷ [])) Skip ∷ []) ∷ [])))).body ≡ each always (along 2 (If (key 3) (is-zero 3 (own 4 3)) (sequence (push-line 4 ∷ [])) Skip ∷ []) ∷ [])
+one-way-stays = refl
+
+-- two reductions to one property with one that goes another way between them do not go to slices yet: t.c += n.b; n.a min= t.b; t.c += n.b;
+abbrev again : Program
+again = program (each always (along 2 (push-line 3 ∷ pull 4 ∷ push-line 5 ∷ []) ∷ []))
+
+again-row : (is_ready again && may (prepared again)) ≡ true
+again-row = refl
+
+again-slices : can_be_sliced (pieces again) ≡ false
+again-slices = refl
+
+-- what can fault at the edge is evaluated again in the slice behind, which goes no way then: Edge e = t.ToEdge(); Int x = t.b / e.w; t.c += x; n.a += 1;
+abbrev repeated : Program
+repeated =
+    record (program (each always (along 2 (DeclareEdge 12 2 (at 3) ∷ Declare (key 4) 14 (Some (Binary Div (at 4) (Property 2 4 (at 4)) (EdgeProperty 12 13 (at 4))))
+    ∷ gives 5 Sum (T.Property 2 5 (at 5) ∷ []) (Var 14 (at 5) ∷ []) ∷ gives 6 Sum (T.Property 1 3 (at 6) ∷ []) (number 1 ∷ []) ∷ []) ∷ []))) {
+      declarations = table_at 1 ++ (row Sorts.Edge V.I32 2 ∷ row Sorts.EdgeProperty V.I32 0 ∷ row Sorts.Scalar V.I32 2 ∷ []);
+    }
+
+repeated-row : (is_ready repeated && may (prepared repeated)) ≡ true
+repeated-row = refl
+
+repeated-slices : can_be_sliced (pieces repeated) ≡ false
+repeated-slices = refl
+
 -- each of these lacks one, and may not be cut then
-checking-needs : needs checking ≡ true ∷ false ∷ true ∷ true ∷ []
+both-row : is_ready both ≡ true
+both-row = refl
+
+both-needs : needs both ≡ false ∷ true ∷ true ∷ []
+both-needs = refl
+
+both-prepared : may (prepared both) ≡ false
+both-prepared = refl
+
+checking-needs : needs checking ≡ true ∷ false ∷ true ∷ []
 checking-needs = refl
 
 checking-prepared : may (prepared checking) ≡ false
 checking-prepared = refl
 
-undeclared-needs : needs undeclared ≡ false ∷ true ∷ true ∷ true ∷ []
-undeclared-needs = refl
-
-undeclared-prepared : may (prepared undeclared) ≡ false
-undeclared-prepared = refl
-
-uneven-needs : needs uneven ≡ true ∷ true ∷ false ∷ true ∷ []
+uneven-needs : needs uneven ≡ true ∷ true ∷ false ∷ []
 uneven-needs = refl
 
 uneven-prepared : may (prepared uneven) ≡ false
 uneven-prepared = refl
-
-deep-needs : needs deep ≡ true ∷ true ∷ true ∷ false ∷ []
-deep-needs = refl
-
-deep-prepared : may (prepared deep) ≡ false
-deep-prepared = refl
 
 -- ---- nodes through which something is reached: what would do
 
@@ -446,7 +552,7 @@ paired = record (program (each always (Declare (key 2) 9 (Some (number 0)) ∷ D
 paired-row : is_ready paired ≡ true
 paired-row = refl
 
-paired-needs : needs paired ≡ true ∷ true ∷ true ∷ true ∷ []
+paired-needs : needs paired ≡ true ∷ true ∷ true ∷ []
 paired-needs = refl
 
 paired-prepared : may (prepared paired) ≡ true

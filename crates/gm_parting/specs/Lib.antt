@@ -8,3 +8,6 @@ pub mod Locals
 pub mod Passes
 pub mod Nodes
 pub mod Numbers
+pub mod Apart
+pub mod Declared
+pub mod Iterators

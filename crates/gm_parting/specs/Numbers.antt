@@ -1,5 +1,5 @@
 -- Numbers of the Ifs of bodies that ask variables, so that each has another than those within it.
-use Rattle.std.specs.Prelude.{ℕ, zero, suc, ◌+◌, Bool, true, false, if◌then◌else◌}
+use Rattle.std.specs.Prelude.{ℕ, zero, suc, ◌+◌, max, Bool, true, false, if◌then◌else◌}
 use Rattle.gm_base.specs.declared.places.Place.{Place}
 use Rattle.gm_ast.specs.declared.tree.Head.{Head}
 use Rattle.gm_ast.specs.declared.tree.Key.{Key}
@@ -16,8 +16,8 @@ count_ifs _ = zero
 
 -- a number above those of them all
 abbrev pub above_ifs : Stmt → ℕ
-above_ifs (Then a b) = above_ifs a + above_ifs b
-above_ifs (If k c a b) = suc k.statement + (above_ifs a + above_ifs b)
+above_ifs (Then a b) = max (above_ifs a) (above_ifs b)
+above_ifs (If k c a b) = max (suc k.statement) (max (above_ifs a) (above_ifs b))
 above_ifs _ = zero
 
 -- the key of an If by a number, if it asks a variable, whose read cannot fault

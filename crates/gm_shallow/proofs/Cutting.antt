@@ -14,10 +14,12 @@ use Rattle.gm_dissect.specs.Locals.{with_kept_locals}
 use Rattle.gm_cut.specs.Parts.{in_pieces}
 use Rattle.gm_cut.specs.Slices.{in_slices}
 use Rattle.gm_flip.specs.Flipped.{without_pulls}
+use Rattle.gm_parting.specs.Apart.{with_statements_apart}
+use Rattle.gm_parting.specs.Passes.{dissected, prepared}
 use Rattle.gm_depth.specs.Depths.{all_within, is_shallow_text}
 use Rattle.gm_depth.specs.Nesting.{nesting, text_nesting}
 use Rattle.gm_depth.proofs.Shallow.{programs-shallow, programs-nest-little}
-use Rattle.gm_shallow.specs.Laws.{CuttingAddsFewLevels, PassesNestLittle, ready_to_cut, TextsStayShallowInPieces}
+use Rattle.gm_shallow.specs.Laws.{CuttingAddsFewLevels, DissectingAddsFewLevels, TextsStayShallowDissected, PassesNestLittle, ready_to_cut, TextsStayShallowInPieces}
 use Rattle.gm_shallow.proofs.Groups.{groups-nest}
 use Rattle.gm_shallow.proofs.Compounds.{compounds-nest}
 use Rattle.gm_shallow.proofs.Literals.{literals-nest}
@@ -34,6 +36,7 @@ use Rattle.gm_shallow.proofs.KeptLocals.{locals-keep, locals-nest}
 use Rattle.gm_shallow.proofs.Pieces.{pieces-add}
 use Rattle.gm_shallow.proofs.Slices.{slices-keep}
 use Rattle.gm_shallow.proofs.Pulls.{pulls-add}
+use Rattle.gm_shallow.proofs.Dissected.{iterators-keep, declared-keep, filters-keep, conditions-keep, nodes-keep, groups-keep, prepared-keep, prepared-nest, statements-keep}
 use Rattle.gm_shallow.proofs.Together.{both-add, within-images}
 
 pub cutting-adds-few : CuttingAddsFewLevels
@@ -123,3 +126,34 @@ pieces-shallow it tree p h e =
       within-images 259 r (omega arith) ready,
       (within-images 325 (in_pieces r) (omega arith) pieces, (within-images 325 (in_slices (in_pieces r)) (omega arith) slices, within-images 326 (without_pulls (in_slices (in_pieces r))) (omega arith) pulls)),
     )
+
+-- ---- programs that are dissected
+
+pub dissecting-adds-few : DissectingAddsFewLevels
+dissecting-adds-few = record {
+  iterators = iterators-keep;
+  declared = declared-keep;
+  filters = filters-keep;
+  conditions = conditions-keep;
+  nodes = nodes-keep;
+  groups = groups-keep;
+  together = prepared-keep;
+  statements = statements-keep;
+}
+
+pub dissected-shallow : TextsStayShallowDissected
+dissected-shallow it tree p h e =
+    let q = levelled (with_plain_loops p) in
+    let r = prepared q in
+    let s = in_pieces r in
+    let a = with_statements_apart s in
+    let few : is_shallow_text p ≡ true = programs-shallow it tree p h e in
+    let ifs : nesting p.body ≤ text_nesting = programs-nest-little it tree p h e in
+    let more : nesting q.body ≤ suc (max 1 (nesting p.body)) = both-nest p in
+    let last : nesting r.body ≤ suc (nesting q.body) = prepared-nest q in
+    let ready : all_within 259 r.body ≡ true = prepared-keep 259 q (omega arith) (both-add 257 p (omega arith) few) in
+    let pieces : all_within 326 s.body ≡ true = pieces-add 259 66 r (omega arith) ready in
+    let apart : all_within 326 a.body ≡ true = statements-keep 326 s (omega arith) pieces in
+    let slices : all_within 326 (dissected q).body ≡ true = slices-keep 326 a (omega arith) apart in
+    let pulls : all_within 327 (without_pulls (dissected q)).body ≡ true = pulls-add 326 (dissected q) (omega arith) slices in
+    (within-images 259 r (omega arith) ready, (within-images 326 (dissected q) (omega arith) slices, within-images 327 (without_pulls (dissected q)) (omega arith) pulls))

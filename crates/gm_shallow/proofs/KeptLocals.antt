@@ -46,7 +46,7 @@ module _ (x q i : ℕ) (at : Place) (zero : Value) where
   moved-depth e = omega arith
 
   module _ (n : ℕ) (one : 1 ≤ n) where
-    moved-within : (e : Expr) → Within n e → Within n (moved_in x q i at zero e)
+    pub moved-within : (e : Expr) → Within n e → Within n (moved_in x q i at zero e)
     moved-within e h = let u : depth (moved_in x q i at zero e) ≤ depth e = moved-depth e in omega arith
 
     all-within : (es : List Expr) → AreWithin n es → AreWithin n (map (moved_in x q i at zero) es)
@@ -65,7 +65,7 @@ module _ (x q i : ℕ) (at : Place) (zero : Value) where
         by true = moved-within e h
         by false = moved-within e h
 
-    body-within : (s : Stmt) → AllWithin n s → AllWithin n (moved x q i at zero s)
+    pub body-within : (s : Stmt) → AllWithin n s → AllWithin n (moved x q i at zero s)
     body-within (Then a b) h = (body-within a h.0, body-within b h.1)
     body-within (Declare k y o) h = declared-within k y o h
     body-within (Assign k t e) h = moved-within e h
@@ -87,7 +87,7 @@ module _ (x q i : ℕ) (at : Place) (zero : Value) where
       by true = omega arith
       by false = omega arith
 
-  body-nests : (s : Stmt) → body_nesting (moved x q i at zero s) ≤ body_nesting s
+  pub body-nests : (s : Stmt) → body_nesting (moved x q i at zero s) ≤ body_nesting s
   body-nests (Then a b) = both (body-nests a) (body-nests b)
   body-nests (Declare k y o) = declared-nests k y o
   body-nests (If k c a b) = below (body-nests a) (body-nests b)

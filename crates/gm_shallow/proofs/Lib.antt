@@ -16,6 +16,7 @@ mod SavedConditions
 mod KeptLocals
 mod Pieces
 mod Slices
+mod Dissected
 mod Pulls
 mod Together
 mod Cutting

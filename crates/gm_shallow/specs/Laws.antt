@@ -24,6 +24,14 @@ use Rattle.gm_dissect.specs.Locals.{with_kept_locals}
 use Rattle.gm_cut.specs.Parts.{in_pieces}
 use Rattle.gm_cut.specs.Slices.{in_slices}
 use Rattle.gm_flip.specs.Flipped.{without_pulls}
+use Rattle.gm_locals.specs.AllGroups.{with_groups_kept}
+use Rattle.gm_parting.specs.Apart.{with_statements_apart}
+use Rattle.gm_parting.specs.Declared.{with_locals_declared}
+use Rattle.gm_parting.specs.Filters.{with_saved_filters}
+use Rattle.gm_parting.specs.Iterators.{with_iterators_placed}
+use Rattle.gm_parting.specs.Nodes.{with_nodes_read}
+use Rattle.gm_parting.specs.Numbers.{with_conditions_apart}
+use Rattle.gm_parting.specs.Passes.{dissected, prepared}
 
 -- Under a limit of at least so many levels, as many as the expressions have that a pass makes anew: where no expression of a program has more levels than the limit, none has more after the pass
 abbrev pub KeepsLevels : ℕ → (Program → Program) → Type 0
@@ -73,6 +81,17 @@ pub record CuttingAddsFewLevels : Type 0 where
   pub slices : KeepsLevels 0 in_slices
   pub pulls : AddsLevel 0 without_pulls
 
+-- those that prepare a program for pieces, and those behind
+pub record DissectingAddsFewLevels : Type 0 where
+  pub iterators : KeepsLevels 0 with_iterators_placed
+  pub declared : KeepsLevels 1 with_locals_declared
+  pub filters : KeepsLevels 1 with_saved_filters
+  pub conditions : KeepsLevels 1 with_conditions_apart
+  pub nodes : KeepsLevels 1 with_nodes_read
+  pub groups : KeepsLevels 1 with_groups_kept
+  pub together : KeepsLevels 1 prepared
+  pub statements : KeepsLevels 2 with_statements_apart
+
 -- ---- Ifs within one another
 
 -- a pass leaves no more Ifs within one another in the parallel bodies of a program
@@ -116,3 +135,14 @@ TextsStayShallowInPieces =
     (it : Listing) (tree : SurfaceProcedure) (p : Program) → IsAcceptedTree it tree → (elaborated tree).part ≡ Some p →
     let pieces = in_pieces (ready_to_cut p) in
     (is_shallow (ready_to_cut p) ≡ true) × ((is_shallow pieces ≡ true) × ((is_shallow (in_slices pieces) ≡ true) × (is_shallow (without_pulls (in_slices pieces)) ≡ true)))
+
+-- it leaves one more, that of a node that is read first
+abbrev pub PreparedNestsOneMore : Type 0
+PreparedNestsOneMore = NestsOneMore prepared
+
+-- and the program of an accepted text stays within these levels when it is dissected, and when besides no loop pulls
+abbrev pub TextsStayShallowDissected : Type 0
+TextsStayShallowDissected =
+    (it : Listing) (tree : SurfaceProcedure) (p : Program) → IsAcceptedTree it tree → (elaborated tree).part ≡ Some p →
+    let q = levelled (with_plain_loops p) in
+    (is_shallow (prepared q) ≡ true) × ((is_shallow (dissected q) ≡ true) × (is_shallow (without_pulls (dissected q)) ≡ true))

@@ -1,6 +1,6 @@
 //! What the passes add to the levels of expressions, as contracts of calls that do nothing.
 
-ghost use Rattle.gm_shallow.specs.Laws.{CuttingAddsFewLevels, PassesAddFewLevels, PassesNestLittle, TextsStayShallow, TextsStayShallowInPieces};
+ghost use Rattle.gm_shallow.specs.Laws.{CuttingAddsFewLevels, DissectingAddsFewLevels, PassesAddFewLevels, PassesNestLittle, PreparedNestsOneMore, TextsStayShallow, TextsStayShallowDissected, TextsStayShallowInPieces};
 
 /// Most passes add no level to the expressions of a program. Compound assignments become operators with their target, and
 /// filters in searches get a condition on levels: one level each. All this under limits of at least as many levels as the
@@ -32,4 +32,22 @@ pub fn passes_nest_little()
 /// are in pieces, when their inner loops are in slices, nor when besides no loop pulls.
 pub fn texts_stay_shallow_in_pieces()
     ensures { TextsStayShallowInPieces }
+{}
+
+/// Nor do the passes that prepare a program for pieces, nor that of statements that stand apart, where an expression may
+/// have two levels.
+pub fn dissecting_adds_few_levels()
+    ensures { DissectingAddsFewLevels }
+{}
+
+/// A program that is prepared has at most one more If within others in the bodies of its parallel loops, around a node that
+/// is read first.
+pub fn prepared_programs_nest_one_more()
+    ensures { PreparedNestsOneMore }
+{}
+
+/// No expression of the program of an accepted text has more than 512 levels when it is prepared, when it is dissected, nor
+/// when besides no loop pulls.
+pub fn texts_stay_shallow_dissected()
+    ensures { TextsStayShallowDissected }
 {}
