@@ -1,0 +1,4 @@
+pub mod Needs
+pub mod Nests
+pub mod Sets
+pub mod SliceWalks
