@@ -61,7 +61,7 @@ pub record Holds (site : Site) (loop : Loop) (m : Mode) (s : VertexContext) (run
   pub property : (k : Key) (x p : ℕ) (at : Place) (e : Expr) (it : Iteration) (w : VertexState) (rest : List Line) → sets x p ≡ true → found e ≡ true → Shows it w
       → Ends site.env run Shows Gave (SetField (site.layout.field p) (term site.env k e) ∷ []) rest w (does (S.Assign k (T.Property x p at) e) m loop it) (does (S.Assign k (T.Property x p at) e) m loop it).fault
   pub placed_first : (kind : ℕ) (a b : Stmt) (it : Iteration) → Placed kind (S.Then a b) it → Placed kind a it
-  pub placed_second : (kind : ℕ) (a b : Stmt) (it : Iteration) → Placed kind (S.Then a b) it → Placed (kind + length (aways site.layout.declarations site.node a)) b (does a m loop it)
+  pub placed_second : (kind : ℕ) (a b : Stmt) (it : Iteration) → Placed kind (S.Then a b) it → (does a m loop it).fault ≡ None → Placed (kind + length (aways site.layout.declarations site.node a)) b (does a m loop it)
   pub placed_yes : (kind : ℕ) (k : Key) (e : Expr) (a b : Stmt) (it : Iteration) → Placed kind (S.If k e a b) it → Placed kind a it
   pub placed_no : (kind : ℕ) (k : Key) (e : Expr) (a b : Stmt) (it : Iteration) → Placed kind (S.If k e a b) it → Placed (kind + length (aways site.layout.declarations site.node a)) b it
   pub reduce : (kind : ℕ) (k : Key) (total : TotalKey) (r : Reduce) (ts : List Target) (es : List Expr) (it : Iteration) (w : VertexState) (rest : List Line) → gives r ts es ≡ true → Placed kind (S.Combine k total r ts es) it → Shows it w
@@ -197,7 +197,7 @@ module _ (site : Site) (loop : Loop) (m : Mode) (s : VertexContext) (run : List 
       let j = kind + length (aways site.layout.declarations site.node a) in
       then-ends (lines_of site kind a) (lines_of site j b) rest w (does a m loop it) (does a m loop it).fault (does b m loop) refl
       (body-ends a kind t.0 it (h.placed_first kind a b it here) w (lines_of site j b ++ rest) q)
-      (λ u p. body-ends b j t.1 (does a m loop it) (h.placed_second kind a b it here) u rest p)
+      (λ u p. body-ends b j t.1 (does a m loop it) (h.placed_second kind a b it here (h.fine (does a m loop it) u p)) u rest p)
   body-ends (S.Declare k x None) kind o it here w rest q =
       set-local it w rest x (M.Const (zero_of (variable_at site.layout.declarations x).vtype)) (Ok (zero_of (loop.vtype x))) (both-true (is_local site.layout x) true o).0 q
       (ap (λ t. Ok (zero_of t)) (sym (h.type_is x)))

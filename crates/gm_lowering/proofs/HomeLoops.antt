@@ -14,10 +14,10 @@ use Rattle.gm_lowering.proofs.Spots.{spot-left, spot-right}
 use Rattle.gm_lowering.proofs.Supersteps.{loop-of-steps}
 
 pub home-loops : HomeLoopsAreSupersteps
-home-loops c p fields base q kind loop mask_key mask key place h test body globals s r outer able gs fit block shown edges in_graph within apart apart_inside =
+home-loops c p fields base q kind loop mask_key mask key place h test body globals s r table around result outer able typed gs fit block shown edges in_graph within apart apart_inside =
     loop-of-steps c p fields base q loop all (home_block c (segment base all) loop.outer kind mask_key mask h key test body) mask_key mask (Foreach key place h test body) globals s r gs fit block shown apart
-    (λ k lt. home-steps c p fields base all loop kind mask_key mask key place h test body globals (slice_index_or s.fields k []) k r outer able incl fit (node-shows k lt) edges within (apart_inside k lt))
-    (λ k lt. iteration-left c p fields base all loop kind mask_key mask key place h test body globals (slice_index_or s.fields k []) k r outer able incl fit (node-shows k lt) edges within (apart_inside k lt) masks) where
+    (λ k lt. home-steps c p fields base all loop kind mask_key mask key place h test body globals (slice_index_or s.fields k []) k r table around result outer able typed incl fit (node-shows k lt) edges within (apart_inside k lt))
+    (λ k lt. iteration-left c p fields base all loop kind mask_key mask key place h test body globals (slice_index_or s.fields k []) k r table around result outer able typed incl fit (node-shows k lt) edges within (apart_inside k lt) masks) where
       all : List Spot
       all = home_spots c loop.outer h.iterator mask_key mask key test body
 

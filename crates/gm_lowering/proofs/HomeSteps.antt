@@ -5,6 +5,7 @@ use Rattle.std.specs.List.{list_all}
 use Rattle.std.proofs.lemmas.Bool.{both_ways, ne_eqb, eq-eqb, eqb-true, eqb-false, ltb-true}
 use Rattle.std.proofs.lemmas.List.{append-nil}
 use Rattle.gm_base.specs.declared.places.Place.{Place}
+use Rattle.gm_value.specs.declared.values.VType.{VType}
 use Rattle.gm_value.specs.declared.values.Value.{Value}
 use Rattle.gm_value.specs.declared.values.Value.TheVariants.{Flag, At}
 use Rattle.gm_value.specs.declared.reductions.Reduce.{Reduce}
@@ -33,6 +34,7 @@ use Rattle.gm_semantics.specs.Levels.{node_in}
 use Rattle.gm_semantics.specs.Loops.{iteration}
 use Rattle.gm_semantics.specs.Statements.{variable_at}
 use Rattle.gm_semantics.specs.Stores.{Store, read, write}
+use Rattle.gm_typed_stores.specs.Tells.{TypeTable}
 use Rattle.gm_image.specs.Term as T
 use Rattle.gm_image.specs.Term.{Term}
 use Rattle.gm_image.specs.Program as image
@@ -53,7 +55,7 @@ use Rattle.gm_lowering.specs.Blocks.{direction_of, each_lines, own_site}
 use Rattle.gm_lowering.specs.Showing.{fault_of, answer_of}
 use Rattle.gm_lowering.specs.Sites.{slot_at, given, finds, is_body, IsInGraph, HoldProperties, OwnGave}
 use Rattle.gm_lowering.specs.OwnLoops.{own_finds, own_sets, puts_to_scalars, own_gives, IsOwnLoop, NodeShows, StepEnds, folds_to}
-use Rattle.gm_lowering.specs.MessageLoops.{sets_nothing, receiver_gives, is_to_scalars, is_to_nodes}
+use Rattle.gm_lowering.specs.MessageLoops.{sets_nothing, receiver_gives, picks_inside, tuples_inside, inner_gives, TurnsTyped, is_to_scalars, is_to_nodes}
 use Rattle.gm_lowering.specs.Phases.{EdgesShown, GivesApart}
 use Rattle.gm_lowering.specs.Receiving.{turn_of}
 use Rattle.gm_lowering.specs.TwoSupersteps.{IsInside, StepsWithin}
@@ -65,16 +67,18 @@ use Rattle.gm_lowering.proofs.FoldFacts.{IsReceived, put-received, body-weaker}
 use Rattle.gm_lowering.proofs.Givens.{here_at, node-in}
 use Rattle.gm_lowering.proofs.HomeFacts.{fold-left, fold-gives}
 use Rattle.gm_lowering.proofs.HomeTurns.{each-turns}
+use Rattle.gm_lowering.proofs.InnerPicks.{pick-left, pick-gives, keep-left, keep-gives}
 use Rattle.gm_lowering.proofs.Kept.{Gives, body-gives}
 use Rattle.gm_lowering.proofs.Orders.{lesser-lower}
-use Rattle.gm_lowering.proofs.Own.{Shows}
+use Rattle.gm_lowering.proofs.Own.{Shows, own-giving}
 use Rattle.gm_lowering.proofs.OwnGives.{own-holds}
 use Rattle.gm_lowering.proofs.Supersteps.{least-parts, least-two}
 use Rattle.gm_lowering.proofs.OwnSteps.{body-alone, begins}
 use Rattle.gm_lowering.proofs.PutFacts.{IsPut, put-left, put-gives-at}
-use Rattle.gm_lowering.proofs.Receiving.{or-cases, gives-weaker}
+use Rattle.gm_lowering.proofs.Picks.{Typed, parts-typed}
+use Rattle.gm_lowering.proofs.Receiving.{or-cases, inner-weaker}
 use Rattle.gm_lowering.proofs.Settles.{least-is, total-spot, reductions-settle}
-use Rattle.gm_lowering.proofs.Spots.{Has, HoldNodes, Left, Within, spot-left, spot-right, has-right, reads, value-within, body-left, Free, free}
+use Rattle.gm_lowering.proofs.Spots.{Has, HoldNodes, Left, Within, spot-left, spot-right, has-right, reads, value-within, body-left}
 use Rattle.gm_lowering.proofs.TupleFacts.{no-spares}
 
 map-both : {A B : Type 0} (f : A → B) (xs ys : List A) → map f (xs ++ ys) ≡ map f xs ++ map f ys
@@ -101,9 +105,10 @@ record TurnsGave (c : Layout) (v : Env) (turns : List Iteration) (w : VertexStat
   deferred : joined (map (λ t. t.deferred) turns) ≡ []
 
 module _ (c : Layout) (p : image.Program) (fields base : ℕ) (all : List Spot) (loop : Loop) (kind : ℕ) (mask_key : Key) (mask : Expr) (key : Key) (place : Place) (h : Head) (test : Expr) (body : Stmt)
-    (globals fs : List Value) (k : ℕ) (r : Store)
+    (globals fs : List Value) (k : ℕ) (r : Store) (table : TypeTable) (around : List ℕ) (result : Option VType)
     (outer : HasEach c loop mask h)
     (able : IsHomeLoop c p.registers fields loop h.iterator test body)
+    (typed : TurnsTyped c table around result loop h.iterator body r)
     (incl : (f : Spot) → HasSpot f (each_spots c loop.outer h.iterator key test body) → HasSpot f all)
     (fit : HaveRoom base all (length p.places))
     (shows : NodeShows c loop.graph p.registers fields globals fs k r)
@@ -170,7 +175,7 @@ module _ (c : Layout) (p : image.Program) (fields base : ℕ) (all : List Spot) 
   one e w = lines_after (record s { near = e }) lines 0 w
 
   one-ends : (e : Step) → IsInside g e → (w : VertexState) → length w.registers ≡ length p.registers → w.fields ≡ fs → TurnEnds c v w (turn e) (one e w) (turn e).fault
-  one-ends e lt w count same = each-turns c seg p.registers fields loop i kind key test body (record s { near = e }) w from able (edge-shows e lt w count same)
+  one-ends e lt w count same = each-turns c seg p.registers fields loop i kind key test body (record s { near = e }) w from table around result able (typed k e.node shows.inside lt.0) (edge-shows e lt w count same)
 
   fault-part : (it : Iteration) (w : VertexState) (a : After) (o : Option Fault) → TurnEnds c v w it a o → a.fault ≡ fault_or_none v o
   fault-part it w a None e = e.0
@@ -233,8 +238,8 @@ module _ (c : Layout) (p : image.Program) (fields base : ℕ) (all : List Spot) 
   loosen : (e : Expr) → home_finds c n i e ≡ true → loose e ≡ true
   loosen e o = (both-true (loose e) (list_all is_at_edge (loads_in i e)) o).0
 
-  fits : is_body c loose sets_nothing (receiver_gives c n loose) body ≡ true
-  fits = body-weaker c (home_finds c n i) loose sets_nothing (receiver_gives c n (home_finds c n i)) (receiver_gives c n loose) loosen (λ r' ts es o. gives-weaker c n (home_finds c n i) loose r' ts es loosen o) body able.fits
+  fits : is_body c loose sets_nothing (inner_gives c n loose) body ≡ true
+  fits = body-weaker c (home_finds c n i) loose sets_nothing (inner_gives c n (home_finds c n i)) (inner_gives c n loose) loosen (λ r' ts es o. inner-weaker c n (home_finds c n i) loose r' ts es loosen o) body able.fits
 
   in-two : (x : ℕ) → is_in its x ≡ true → (x ≡ n) ⊎ (x ≡ i)
   in-two x o = by (nat_eq x n) (nat_eq x i) refl refl o where
@@ -252,6 +257,12 @@ module _ (c : Layout) (p : image.Program) (fields base : ℕ) (all : List Spot) 
 
     abbrev start : Iteration
     start = begun (write from (slots.Scalar i) (At (Some e.node)))
+
+    abbrev Ready : Stmt → Iteration → Type 0
+    Ready = Typed c table around result loop
+
+    typed-start : Ready body start
+    typed-start = typed k e.node shows.inside lt.0
 
     abbrev home : ℕ → ℕ
     home y = if nat_eq i y then e.node else k
@@ -281,33 +292,45 @@ module _ (c : Layout) (p : image.Program) (fields base : ℕ) (all : List Spot) 
     abbrev body_spots : List Spot
     body_spots = spots_of c n its false body
 
-    reductions-left : (j : Key) (total : TotalKey) (r' : Reduce) (ts : List Target) (es : List Expr) (it : Iteration) → receiver_gives c n loose r' ts es ≡ true → it.fault ≡ None → HoldNodes g its home it
+    reductions-left : (j : Key) (total : TotalKey) (r' : Reduce) (ts : List Target) (es : List Expr) (it : Iteration) → inner_gives c n loose r' ts es ≡ true → Ready (P.Combine j total r' ts es) it → it.fault ≡ None → HoldNodes g its home it
         → Left c its true loop m home (does (P.Combine j total r' ts es) m loop it) (spots_in_all es j ++ reduce_spots false its (way_of c.declarations n ts) j total ts)
-    reductions-left j total r' ts es it o f q =
-        or-cases (puts_to_scalars c loose r' ts es) (folds_to c n loose r' ts es) o
+    reductions-left j total r' ts es it o y f q =
+        or-cases (receiver_gives c n loose r' ts es) (picks_inside c loose r' ts es || tuples_inside c loose r' ts es) o
+        (λ p'.
+        or-cases (puts_to_scalars c loose r' ts es) (folds_to c n loose r' ts es) p'
         (λ z. put-left c its true false n loop m home able.depths j total r' ts es it z f q)
-        (λ z. fold-left c its true k loop e.edge home able.own j total r' ts es it z f q (at-k it q))
+        (λ z. fold-left c its true k loop e.edge home able.own j total r' ts es it z f q (at-k it q)))
+        (λ p'.
+        or-cases (picks_inside c loose r' ts es) (tuples_inside c loose r' ts es) p'
+        (λ z. pick-left c its n loop e.edge home able.depths no_locals table around result j total r' ts es it z y f q)
+        (λ z. keep-left c its n loop e.edge home able.depths no_locals table around result in-n j total r' ts es it z y f q))
 
-    left-body : (st : Stmt) → is_body c loose sets_nothing (receiver_gives c n loose) st ≡ true → (it : Iteration) → it.fault ≡ None → HoldNodes g its home it
+    left-body : (st : Stmt) → is_body c loose sets_nothing (inner_gives c n loose) st ≡ true → (it : Iteration) → Ready st it → it.fault ≡ None → HoldNodes g its home it
         → Left c its true loop m home (does st m loop it) (spots_of c n its false st)
-    left-body st o it f q =
-        body-left c its true loop m home n false sets_nothing (receiver_gives c n loose) Free (free loop m) no_locals (λ y z o'. absurd (both_ways false refl o'))
-        (λ j' total r' ts es it' o' y' f' q'. reductions-left j' total r' ts es it' o' f' q') st o it tt f q
+    left-body st o it y f q =
+        body-left c its true loop m home n false sets_nothing (inner_gives c n loose) Ready (parts-typed c table around result loop m) no_locals (λ y' z o'. absurd (both_ways false refl o'))
+        (λ j' total r' ts es it' o' y' f' q'. reductions-left j' total r' ts es it' o' y' f' q') st o it y f q
 
-    reductions-give : (j : Key) (total : TotalKey) (r' : Reduce) (ts : List Target) (es : List Expr) (it : Iteration) → receiver_gives c n loose r' ts es ≡ true → HoldNodes g its home it
+    reductions-give : (j : Key) (total : TotalKey) (r' : Reduce) (ts : List Target) (es : List Expr) (it : Iteration) → inner_gives c n loose r' ts es ≡ true → Ready (P.Combine j total r' ts es) it → HoldNodes g its home it
         → ((f : Spot) → HasSpot f (reduce_spots false its (way_of c.declarations n ts) j total ts) → HasSpot f all)
         → Gives (IsReceived c k all) it → Gives (IsReceived c k all) (does (P.Combine j total r' ts es) m loop it)
-    reductions-give j total r' ts es it o q f a =
-        or-cases (puts_to_scalars c loose r' ts es) (folds_to c n loose r' ts es) o
+    reductions-give j total r' ts es it o y q f a =
+        or-cases (receiver_gives c n loose r' ts es) (picks_inside c loose r' ts es || tuples_inside c loose r' ts es) o
+        (λ p'.
+        or-cases (puts_to_scalars c loose r' ts es) (folds_to c n loose r' ts es) p'
         (λ z. put-gives-at c its true false n loop m home able.depths all (IsReceived c k all) (put-received c k all) j total r' ts es it z q f a)
-        (λ z. fold-gives c its true k loop e.edge home able.own all j total r' ts es it z q (at-k it q) f a)
+        (λ z. fold-gives c its true k loop e.edge home able.own all j total r' ts es it z q (at-k it q) f a))
+        (λ p'.
+        or-cases (picks_inside c loose r' ts es) (tuples_inside c loose r' ts es) p'
+        (λ z. pick-gives c its n loop e.edge home able.depths no_locals table around result (IsReceived c k all) j total r' ts es it z y q a)
+        (λ z. keep-gives c its n loop e.edge home able.depths no_locals table around result in-n (IsReceived c k all) j total r' ts es it z y q a))
 
-    give-body : (it : Iteration) → it.fault ≡ None → HoldNodes g its home it → Gives (IsReceived c k all) it → Gives (IsReceived c k all) (does body m loop it)
-    give-body it f q a =
-        body-gives c n its false loop m loose sets_nothing (receiver_gives c n loose) (IsReceived c k all) all (HoldNodes g its home) Free (free loop m)
-        (λ st o it' y' f' q'. (left-body st o it' f' q').1)
-        (λ j total r' ts es it' o y' q' f' a'. reductions-give j total r' ts es it' o q' f' a')
-        body fits (λ f' z. incl f' (spot-right f' (spots_in test key) body_spots z)) it tt f q a
+    give-body : (it : Iteration) → Ready body it → it.fault ≡ None → HoldNodes g its home it → Gives (IsReceived c k all) it → Gives (IsReceived c k all) (does body m loop it)
+    give-body it y f q a =
+        body-gives c n its false loop m loose sets_nothing (inner_gives c n loose) (IsReceived c k all) all (HoldNodes g its home) Ready (parts-typed c table around result loop m)
+        (λ st o it' y' f' q'. (left-body st o it' y' f' q').1)
+        (λ j total r' ts es it' o y' q' f' a'. reductions-give j total r' ts es it' o y' q' f' a')
+        body fits (λ f' z. incl f' (spot-right f' (spots_in test key) body_spots z)) it y f q a
 
     has-all : (o : Option Fault) → Has o (each_spots c n i key test body) → Has o all
     has-all None q = tt
@@ -320,7 +343,7 @@ module _ (c : Layout) (p : image.Program) (fields base : ℕ) (all : List Spot) 
 
       way : (b : Bool) → Has (one_way b (does body m loop) as_it_is start).fault all × Gives (IsReceived c k all) (one_way b (does body m loop) as_it_is start)
       way true =
-          (has-all (does body m loop start).fault (has-right (does body m loop start).fault (spots_in test key) body_spots (left-body body fits start refl holds).0), give-body start refl holds nothing)
+          (has-all (does body m loop start).fault (has-right (does body m loop start).fault (spots_in test key) body_spots (left-body body fits start typed-start refl holds).0), give-body start typed-start refl holds nothing)
       way false = (tt, nothing)
 
       by : (a : Result Value Fault) → Within a (spots_in test key)
@@ -518,8 +541,8 @@ module _ (c : Layout) (p : image.Program) (fields base : ℕ) (all : List Spot) 
   mask-value : term_value (view s first) (term ov mask_key mask) ≡ answer_of ov (value mask (view_in loop Outermost begun_at mask_key))
   mask-value =
       value-of (own_site c seg n) loop Outermost s (body_after (length p.places) s)
-      (Shows c seg loop k (length p.registers) fields (length p.places) s able.apart able.outer able.types able.depths) (OwnGave c ov) (own_finds c n) (own_sets c n) (own_gives c n (own_finds c n))
-      (own-holds c seg loop k (length p.registers) fields (length p.places) s able.apart able.outer able.types able.depths (record { limit = 0; declarations = []; inputs = 0 }) [] None) begun_at first mask_key mask outer.found
+      (Shows c seg loop k (length p.registers) fields (length p.places) s able.apart able.outer able.types able.depths (λ it' w'. OwnGave c ov it' w') (own-giving c ov)) (OwnGave c ov) (own_finds c n) (own_sets c n) (own_gives c n (own_finds c n))
+      (own-holds c seg loop k (length p.registers) fields (length p.places) s able.apart able.outer able.types able.depths (λ it' w'. OwnGave c ov it' w') (own-giving c ov) (record { limit = 0; declarations = []; inputs = 0 }) [] None) begun_at first mask_key mask outer.found
       (begins c seg p fields loop kind mask_key mask P.Skip globals fs k r mask-loop shows)
 
   pub home-step : let it = iteration loop mask_key mask inner r k in StepEnds c ov fields k it (vertex_after p (home_block c seg n kind mask_key mask h key test body) s [] fs) it.fault
@@ -574,5 +597,5 @@ module _ (c : Layout) (p : image.Program) (fields base : ℕ) (all : List Spot) 
     by (Err f) w = (masks (spot_of_fault f) w, λ x z. absurd z)
 
 pub home-steps : HomeStepsAreIterations
-home-steps c p fields base all loop kind mask_key mask key place h test body globals fs k r outer able incl fit shows edges within apart =
-    home-step c p fields base all loop kind mask_key mask key place h test body globals fs k r outer able incl fit shows edges within apart
+home-steps c p fields base all loop kind mask_key mask key place h test body globals fs k r table around result outer able typed incl fit shows edges within apart =
+    home-step c p fields base all loop kind mask_key mask key place h test body globals fs k r table around result outer able typed incl fit shows edges within apart

@@ -24,23 +24,24 @@ use Rattle.gm_semantics.specs.Iterations.{Loop, Mode, AtEdge, WithInner, WithOut
 use Rattle.gm_semantics.specs.Levels.{numbers_from}
 use Rattle.gm_semantics.specs.Statements.{variable_at}
 use Rattle.gm_semantics.specs.Stores.{Store, read, write}
+use Rattle.gm_typed_stores.specs.Tells.{TypeTable}
 use Rattle.gm_image.specs.Program.{Line}
 use Rattle.gm_machine.specs.Expressions.{value_at, edge_value_at}
 use Rattle.gm_machine.specs.Vertex.{VertexContext, VertexState, After, lines_after}
-use Rattle.gm_lowering.specs.Layouts.{Layout, is_register}
+use Rattle.gm_lowering.specs.Layouts.{Layout, is_register, body_positions}
 use Rattle.gm_lowering.specs.Places.{Segment}
 use Rattle.gm_lowering.specs.Terms.{Env, term, each_env}
-use Rattle.gm_lowering.specs.Plans.{loads_in}
 use Rattle.gm_lowering.specs.Bodies.{Site, lines_of}
 use Rattle.gm_lowering.specs.Blocks.{Read, first_use, is_read, is_read_first, reads_scalar, zero_line, zero_lines, each_site}
 use Rattle.gm_lowering.specs.Sites.{finds, given, same_length, is_local, IsInGraph, IsApart, is_body}
-use Rattle.gm_lowering.specs.OwnLoops.{is_declared, puts_to_scalars, folds_to}
-use Rattle.gm_lowering.specs.MessageLoops.{sets_nothing, receiver_gives, is_to_scalars, is_to_nodes}
-use Rattle.gm_lowering.specs.HomeTurns.{is_at_edge, home_finds, home_lines, IsHomeLoop, HomeGave, EdgeShows, TurnEnds, EachLinesAreTurns}
+use Rattle.gm_lowering.specs.OwnLoops.{is_declared, puts_to_scalars, folds_to, PicksTyped, HasSpares}
+use Rattle.gm_lowering.specs.MessageLoops.{sets_nothing, receiver_gives, picks_inside, tuples_inside, is_to_scalars, is_to_nodes}
+use Rattle.gm_lowering.specs.HomeTurns.{home_finds, home_lines, IsHomeLoop, HomeGave, EdgeShows, TurnEnds, EachLinesAreTurns}
 use Rattle.gm_lowering.specs.Showing.{fault_of}
 use Rattle.gm_lowering.proofs.Bodies.{Ends, Holds, value-of, ends-by, body-ends, Anywhere}
-use Rattle.gm_lowering.proofs.FirstUses.{Good, SameGiven, Near, Out, Known, weaker, ok-near, value-near, does-near}
+use Rattle.gm_lowering.proofs.FirstUses.{Good, SameGiven, Near, Out, Known, EndsSo, weaker, ok-near, value-near, does-near}
 use Rattle.gm_lowering.proofs.Givens.{are_scalars, scalars-end, are_kept}
+use Rattle.gm_lowering.proofs.HomePicks.{each-loosen, each-no-local, each-apart, late-all, Ready, keeping-holds}
 use Rattle.gm_lowering.proofs.Homes.{own-end, home-holds, HomeShows}
 use Rattle.gm_lowering.proofs.Own.{global-no_register}
 use Rattle.gm_lowering.proofs.OwnSteps.{under-ends}
@@ -73,16 +74,21 @@ abbrev pub TurnAs : Env → (Iteration → VertexState → Type 0) → Iteration
 TurnAs v Gave it a None = (a.fault ≡ None) × Gave it a.state
 TurnAs v Gave it a (Some f) = (a.fault ≡ Some (fault_of v f)) × Gave it a.state
 
--- for any site of an each: how it holds, that nothing is given at first, and that what is given is the same for iterations that give the same
+-- for any site of an each: how it holds with what its locals keep, that nothing is given at first, and that what is given is the same for iterations that give the same
 module _ (c : Layout) (seg : Segment) (registers : List VType) (fields : ℕ) (loop : Loop) (i : ℕ) (kind : ℕ) (key : Key) (test : Expr) (body : Stmt) (s : VertexContext) (w : VertexState) (r : Store)
     (able : IsEachLoop c registers fields loop i test) (shows : EdgeShows c loop registers fields s w r)
-    (gives : Reduce → List Target → List Expr → Bool) (fits : is_body c (home_finds c loop.outer i) sets_nothing gives body ≡ true)
-    (Gave : Iteration → VertexState → Type 0) (Placed : ℕ → Stmt → Type 0) (placed : Placed kind body)
-    (holds : Holds (each_site c seg loop.outer i) loop (AtEdge s.near.edge) s (lines_after s) (λ it u. HomeShows c loop i s.node s.near.node s.near.edge (length registers) fields s it u × Gave it u) Gave (home_finds c loop.outer i) sets_nothing gives (λ kind' st it. Placed kind' st))
-    (at_first : (it : Iteration) → it.with_inner ≡ [] → it.with_outermost ≡ [] → it.deferred ≡ [] → Gave it w)
-    (late : (r' : Reduce) (ts : List Target) (es : List Expr) → gives r' ts es ≡ true
+    (base : Reduce → List Target → List Expr → Bool)
+    (base_late : (r' : Reduce) (ts : List Target) (es : List Expr) → base r' ts es ≡ true
     → ((ends_of_all (AtEdge s.near.edge) loop ts ≡ WithInner) ⊎ (ends_of_all (AtEdge s.near.edge) loop ts ≡ WithOutermost)) × (list_all (home_finds c loop.outer i) es ≡ true))
-    (moved : (a b : Iteration) (u : VertexState) → SameGiven a b → Gave b u → Gave a u) where
+    (Gave : Iteration → VertexState → Type 0) (gave_registers : (it : Iteration) (u : VertexState) (rs : List Value) → length rs ≡ length u.registers → Gave it u → Gave it (record u { registers = rs }))
+    (Placed : ℕ → Stmt → Type 0) (base_placed : Placed kind body)
+    (base_holds : Holds (each_site c seg loop.outer i) loop (AtEdge s.near.edge) s (lines_after s) (λ it u. HomeShows c loop i s.node s.near.node s.near.edge (length registers) fields s it u × Gave it u) Gave (home_finds c loop.outer i) sets_nothing base (λ kind' st it. Placed kind' st))
+    (at_first : (it : Iteration) → it.with_inner ≡ [] → it.with_outermost ≡ [] → it.deferred ≡ [] → Gave it w)
+    (moved : (a b : Iteration) (u : VertexState) → SameGiven a b → Gave b u → Gave a u)
+    (table : TypeTable) (around : List ℕ) (result : Option VType)
+    (fits : is_body c (home_finds c loop.outer i) sets_nothing (λ r' ts es. base r' ts es || (picks_inside c (home_finds c loop.outer i) r' ts es || tuples_inside c (home_finds c loop.outer i) r' ts es)) body ≡ true)
+    (typed : PicksTyped c table around result loop body (begun (write r (Scalar i) (At (Some s.near.node)))))
+    (spares : HasSpares c (length registers) (body_positions c.declarations body)) where
   abbrev n : ℕ
   n = loop.outer
 
@@ -112,6 +118,27 @@ module _ (c : Layout) (seg : Segment) (registers : List VType) (fields : ℕ) (l
 
   abbrev sh : Iteration → VertexState → Type 0
   sh it u = HomeShows c loop i s.node j edge (length registers) fields s it u × Gave it u
+
+  abbrev gives : Reduce → List Target → List Expr → Bool
+  gives r' ts es = base r' ts es || (picks_inside c found r' ts es || tuples_inside c found r' ts es)
+
+  late : (r' : Reduce) (ts : List Target) (es : List Expr) → gives r' ts es ≡ true → EndsSo c loop m ts × (list_all found es ≡ true)
+  late = late-all c seg loop i s.node j edge (length registers) fields s able.apart able.outer able.inner able.depths base base_late Gave gave_registers Placed base_holds table around result
+
+  abbrev Kept : ℕ → Stmt → Iteration → Type 0
+  Kept = Ready c seg loop i s.node j edge (length registers) fields s able.apart able.outer able.inner able.depths base base_late Gave gave_registers Placed base_holds table around result
+
+  holds : Holds site loop m s run sh Gave found sets_nothing gives Kept
+  holds = keeping-holds c seg loop i s.node j edge (length registers) fields s able.apart able.outer able.inner able.depths base base_late Gave gave_registers Placed base_holds table around result
+
+  loosen : (e : Expr) → found e ≡ true → finds c its true e ≡ true
+  loosen = each-loosen c n i
+
+  no_local : (x : ℕ) → is_in its x ≡ true → is_local c x ≡ false
+  no_local = each-no-local c n i able.outer able.inner
+
+  apart : (x : ℕ) → is_local c x ≡ true → nat_eq x n ≡ false
+  apart = each-apart c n i able.outer
 
   -- the turn's beginning, and the same with the locals that the registers hold
   abbrev start : Iteration
@@ -218,33 +245,7 @@ module _ (c : Layout) (seg : Segment) (registers : List VType) (fields : ℕ) (l
   abbrev lines : List Line
   lines = home_lines c seg n i kind key test body
 
-  body-runs : Ends v run sh Gave (zero_lines c body ++ lines_of site kind body) [] w (go held) (go held).fault
-  body-runs =
-      let ls = lines_of site kind body in
-      let z = zero-ends news (locals-of 0 (length c.declarations) (omega arith)) held w begins (ls ++ []) in
-      ends-by site loop m s run sh Gave found sets_nothing gives holds (zero_lines c body ++ ls) [] ls [] w z.0 (go held) (go held).fault
-      (ap (λ y. run y 0 w) (append_assoc (zero_lines c body) ls []) ∙ z.2) (λ t. refl)
-      (body-ends site loop m s run sh Gave found sets_nothing gives holds body kind fits (zeroed news held) placed z.0 [] z.1)
-
-  held-runs : Ends v run sh Gave lines [] w out_held out_held.fault
-  held-runs =
-      under-ends site loop m s run sh Gave found sets_nothing gives holds (zero_lines c body ++ lines_of site kind body) [] w (term v key test) (value test (view_in loop m held key)) go held begins
-      (value-of site loop m s run sh Gave found sets_nothing gives holds held w key test able.found begins) body-runs
-
   -- both turns give the same
-  loosen : (e : Expr) → found e ≡ true → finds c its true e ≡ true
-  loosen e h = (both-true (finds c its true e) (list_all is_at_edge (loads_in i e)) h).0
-
-  no_local : (x : ℕ) → is_in its x ≡ true → is_local c x ≡ false
-  no_local x o = by (nat_eq x n) (nat_eq x i) refl refl o where
-    by : (a b : Bool) → nat_eq x n ≡ a → nat_eq x i ≡ b → a || (b || false) ≡ true → is_local c x ≡ false
-    by true b e f o = ap (is_local c) (eqb-true x n e) ∙ not-local n able.outer
-    by false true e f o = ap (is_local c) (eqb-true x i f) ∙ not-local i able.inner
-    by false false e f o = absurd (both_ways false refl o)
-
-  apart : (x : ℕ) → is_local c x ≡ true → nat_eq x n ≡ false
-  apart x o = turned n x (unlike x n o able.outer)
-
   abbrev NearTo : (ℕ → Type 0) → Iteration → Type 0
   NearTo V b = Near c its n s.node loop m found gives loosen no_local apart late V start b
 
@@ -286,6 +287,50 @@ module _ (c : Layout) (seg : Segment) (registers : List VType) (fields : ℕ) (l
   abbrev begun_same : SameGiven start held
   begun_same = record { inner = refl; outermost = refl; deferred = refl; fault = refl }
 
+  -- what the body needs is known behind the lines by which locals begin anew
+  abbrev known : ℕ → Type 0
+  known x = Global x ⊎ (list_any (nat_eq x) news ≡ true)
+
+  read_known : (x : ℕ) (b : Bool) → is_local c x ≡ b → first_use x body ≡ Read → known x
+  read_known x false e f = inl e
+  read_known x true e f =
+      let t = both-true (nat_lt x (length c.declarations)) (is_register (variable_at c.declarations x)) e in
+      inr (has-new x 0 (length c.declarations) (ap (λ b. b && is_read (first_use x body)) t.1 ∙ ap is_read f) (omega arith) (zero-plus x (length c.declarations) (ltb-true x (length c.declarations) t.0)))
+
+  zero-same : (xs : List ℕ) (b : Iteration) → SameGiven start b → SameGiven start (zeroed xs b)
+  zero-same [] b h = h
+  zero-same (x ∷ xs) b h = zero-same xs (wrote b (Scalar x, first_value x)) (record { inner = h.inner; outermost = h.outermost; deferred = h.deferred; fault = h.fault })
+
+  near-news : NearTo known (zeroed news held)
+  near-news = zero-near news Global held (locals-of 0 (length c.declarations) (omega arith)) near-held
+
+  placed : Kept kind body (zeroed news held)
+  placed = (
+    base_placed,
+    (
+      start,
+      zero-same news held begun_same,
+      weaker c its n s.node loop m found gives loosen no_local apart late known (λ x. (is_local c x ≡ false) ⊎ (first_use x body ≡ Read)) start (zeroed news held)
+          (λ x q. ⊎_elim (λ (e : is_local c x ≡ false). inl e) (λ (e : first_use x body ≡ Read). read_known x (is_local c x) refl e) q) near-news,
+      typed,
+      fits,
+    ),
+    spares,
+  )
+
+  body-runs : Ends v run sh Gave (zero_lines c body ++ lines_of site kind body) [] w (go held) (go held).fault
+  body-runs =
+      let ls = lines_of site kind body in
+      let z = zero-ends news (locals-of 0 (length c.declarations) (omega arith)) held w begins (ls ++ []) in
+      ends-by site loop m s run sh Gave found sets_nothing gives holds (zero_lines c body ++ ls) [] ls [] w z.0 (go held) (go held).fault
+      (ap (λ y. run y 0 w) (append_assoc (zero_lines c body) ls []) ∙ z.2) (λ t. refl)
+      (body-ends site loop m s run sh Gave found sets_nothing gives holds body kind fits (zeroed news held) placed z.0 [] z.1)
+
+  held-runs : Ends v run sh Gave lines [] w out_held out_held.fault
+  held-runs =
+      under-ends site loop m s run sh Gave found sets_nothing gives holds (zero_lines c body ++ lines_of site kind body) [] w (term v key test) (value test (view_in loop m held key)) go held begins
+      (value-of site loop m s run sh Gave found sets_nothing gives holds held w key test able.found begins) body-runs
+
   alike : Out c its n s.node loop m found gives loosen no_local apart late None_known out out_held
   alike =
       ok-near c its n s.node loop m found gives loosen no_local apart late None_known start held (value test (view_in loop m start key)) (value test (view_in loop m held key))
@@ -296,25 +341,12 @@ module _ (c : Layout) (seg : Segment) (registers : List VType) (fields : ℕ) (l
         no_read x true e f = absurd (both_ways (reads_scalar x test) (able.plain x e) f)
         no_read x false e f = e
 
-        known : ℕ → Type 0
-        known x = Global x ⊎ (list_any (nat_eq x) news ≡ true)
-
-        read_known : (x : ℕ) (b : Bool) → is_local c x ≡ b → first_use x body ≡ Read → known x
-        read_known x false e f = inl e
-        read_known x true e f =
-            let t = both-true (nat_lt x (length c.declarations)) (is_register (variable_at c.declarations x)) e in
-            inr (has-new x 0 (length c.declarations) (ap (λ b. b && is_read (first_use x body)) t.1 ∙ ap is_read f) (omega arith) (zero-plus x (length c.declarations) (ltb-true x (length c.declarations) t.0)))
-
         way : (t : Bool) → Out c its n s.node loop m found gives loosen no_local apart late None_known (one_way t (does body m loop) as_it_is start) (one_way t go as_it_is held)
         way false = (begun_same, λ e. weaker c its n s.node loop m found gives loosen no_local apart late Global None_known start held (λ x z. absurd z) near-held)
         way true =
-            let zs = zero-near news Global held (locals-of 0 (length c.declarations) (omega arith)) near-held in
             let done = does-near c its n s.node loop m found gives loosen no_local apart late body fits known (λ x e. inl e) (λ x f. read_known x (is_local c x) refl f) start (zeroed news held)
-            (zero-same news held begun_same) zs in
-            (done.0, λ e. weaker c its n s.node loop m found gives loosen no_local apart late (Known c its n s.node loop m found gives loosen no_local apart late body known) None_known (does body m loop start) (go held) (λ x z. absurd z) (done.1 e)) where
-              zero-same : (xs : List ℕ) (b : Iteration) → SameGiven start b → SameGiven start (zeroed xs b)
-              zero-same [] b h = h
-              zero-same (x ∷ xs) b h = zero-same xs (wrote b (Scalar x, first_value x)) (record { inner = h.inner; outermost = h.outermost; deferred = h.deferred; fault = h.fault })
+            (zero-same news held begun_same) near-news in
+            (done.0, λ e. weaker c its n s.node loop m found gives loosen no_local apart late (Known c its n s.node loop m found gives loosen no_local apart late body known) None_known (does body m loop start) (go held) (λ x z. absurd z) (done.1 e))
 
   ends-as : (f : Option Fault) → Ends v run sh Gave lines [] w out_held f → TurnAs v Gave out (run lines 0 w) f
   ends-as None e = subst (λ a. TurnAs v Gave out a None) (sym (ap (λ ls. run ls 0 w) (sym (append-nil lines)) ∙ e.2)) (refl, moved out out_held e.0 alike.0 e.1.1)
@@ -325,7 +357,8 @@ module _ (c : Layout) (seg : Segment) (registers : List VType) (fields : ℕ) (l
 
 -- home loops
 module _ (c : Layout) (seg : Segment) (registers : List VType) (fields : ℕ) (loop : Loop) (i : ℕ) (kind : ℕ) (key : Key) (test : Expr) (body : Stmt) (s : VertexContext) (w : VertexState) (r : Store)
-    (able : IsHomeLoop c registers fields loop i test body) (shows : EdgeShows c loop registers fields s w r) where
+    (able : IsHomeLoop c registers fields loop i test body) (shows : EdgeShows c loop registers fields s w r)
+    (table : TypeTable) (around : List ℕ) (result : Option VType) (typed : PicksTyped c table around result loop body (begun (write r (Scalar i) (At (Some s.near.node))))) where
   abbrev at_home : Env
   at_home = each_env c seg loop.outer i
 
@@ -373,6 +406,9 @@ module _ (c : Layout) (seg : Segment) (registers : List VType) (fields : ℕ) (l
     deferred = sym same.deferred ∙ g.deferred;
   }
 
+  gave-registers : (it : Iteration) (u : VertexState) (rs : List Value) → length rs ≡ length u.registers → HomeGave c at_home w it u → HomeGave c at_home w it (record u { registers = rs })
+  gave-registers it u rs e g = record { puts = g.puts; folds = g.folds; scalars = g.scalars; nodes = g.nodes; messages = g.messages; fields = g.fields; count = e ∙ g.count; deferred = g.deferred }
+
   abbrev home_out : Iteration
   home_out = turn_at loop (AtEdge s.near.edge) key test (does body (AtEdge s.near.edge) loop) i s.near.node r
 
@@ -383,9 +419,9 @@ module _ (c : Layout) (seg : Segment) (registers : List VType) (fields : ℕ) (l
   pub each-turn : TurnEnds c at_home w home_out (lines_after s (home_lines c seg loop.outer i kind key test body) 0 w) home_out.fault
   each-turn =
       by-fault home_out (lines_after s (home_lines c seg loop.outer i kind key test body) 0 w) home_out.fault
-      (turn-ends c seg registers fields loop i kind key test body s w r is-each shows (receiver_gives c loop.outer finds_here) able.fits (λ x u. HomeGave c at_home w x u) Anywhere tt
+      (turn-ends c seg registers fields loop i kind key test body s w r is-each shows (receiver_gives c loop.outer finds_here) late-home (λ x u. HomeGave c at_home w x u) gave-registers Anywhere tt
       (home-holds c seg loop i s.node s.near.node s.near.edge (length registers) fields s w able.apart able.outer able.inner able.two able.types able.depths able.own)
-      none-given late-home gave-moved)
+      none-given gave-moved table around result able.fits typed able.spares)
 
 pub each-turns : EachLinesAreTurns
-each-turns c seg registers fields loop i kind key test body s w r able shows = each-turn c seg registers fields loop i kind key test body s w r able shows
+each-turns c seg registers fields loop i kind key test body s w r table around result able typed shows = each-turn c seg registers fields loop i kind key test body s w r able shows table around result typed

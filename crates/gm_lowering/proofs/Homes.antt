@@ -517,7 +517,7 @@ module _ (c : Layout) (seg : Segment) (loop : Loop) (i k j edge registers fields
     local = local;
     property = λ key x p at e it w rest o f q. absurd (both_ways false refl o);
     placed_first = λ kind a b it h. tt;
-    placed_second = λ kind a b it h. tt;
+    placed_second = λ kind a b it h e. tt;
     placed_yes = λ kind k e a b it h. tt;
     placed_no = λ kind k e a b it h. tt;
     reduce = λ kind key total r ts es it w rest o h q. reduce kind key total r ts es it w rest o q;

@@ -36,6 +36,7 @@ pub mod Shown
 pub mod Masters
 pub mod Homes
 pub mod FirstUses
+pub mod HomePicks
 pub mod HomeTurns
 pub mod HomeFacts
 pub mod HomeSteps
@@ -46,4 +47,7 @@ pub mod Made
 pub mod TakingSteps
 pub mod SenderTurns
 pub mod SenderSteps
+pub mod OwnSends
 pub mod SenderSupersteps
+pub mod SendSteps
+pub mod OwnSendLoops

@@ -55,7 +55,7 @@ use Rattle.gm_lowering.specs.Settles.{HasSpot, HaveRoom}
 use Rattle.gm_lowering.specs.Sites.{OwnGave}
 use Rattle.gm_lowering.specs.TwoSupersteps.{is_readable, StepsWithin, HasSender}
 use Rattle.gm_lowering.proofs.Bodies.{value-of}
-use Rattle.gm_lowering.proofs.Own.{Shows}
+use Rattle.gm_lowering.proofs.Own.{Shows, own-giving}
 use Rattle.gm_lowering.proofs.OwnGives.{own-holds}
 use Rattle.gm_lowering.proofs.Givens.{node-in}
 use Rattle.gm_lowering.proofs.OwnSteps.{begins}
@@ -322,9 +322,9 @@ module _ (start_of : MessageLoop) where
 
   mask-term : (k : ℕ) → k < node_count g → (z : Value) → mask_value k ≡ Ok z → term_value (view (context_at g globals k) (begin p.registers (fields_at k))) (term (own_env c seg n) mask_key mask) ≡ Ok z
   mask-term k lt z e =
-      value-of (own_site c seg n) loop Outermost (context_at g globals k) _ (Shows c seg loop k (length p.registers) fields (length p.places) (context_at g globals k) able.apart able.outer able.types able.depths)
+      value-of (own_site c seg n) loop Outermost (context_at g globals k) _ (Shows c seg loop k (length p.registers) fields (length p.places) (context_at g globals k) able.apart able.outer able.types able.depths (λ it' w'. OwnGave c (own_env c seg n) it' w') (own-giving c (own_env c seg n)))
       (OwnGave c (own_env c seg n)) (own_finds c n) (own_sets c n) (own_gives c n (own_finds c n))
-      (own-holds c seg loop k (length p.registers) fields (length p.places) (context_at g globals k) able.apart able.outer able.types able.depths (record { limit = 0; declarations = []; inputs = 0 }) [] None)
+      (own-holds c seg loop k (length p.registers) fields (length p.places) (context_at g globals k) able.apart able.outer able.types able.depths (λ it' w'. OwnGave c (own_env c seg n) it' w') (own-giving c (own_env c seg n)) (record { limit = 0; declarations = []; inputs = 0 }) [] None)
       (start k) (begin p.registers (fields_at k)) mask_key mask sender.found
       (begins c seg p fields loop 0 mask_key mask P.Skip globals (fields_at k) k r only-mask (node-shows k lt))
       ∙ ap (answer_of (own_env c seg n)) e

@@ -15,7 +15,7 @@ use Rattle.gm_image.specs.Soundness.{is_sound}
 use Rattle.gm_machine.specs.Machine.{machine}
 use Rattle.gm_lowering.specs.Lowered.{lowered}
 use Rattle.gm_lowering.proofs.Samples.{graph, edge, ints, at}
-use Rattle.gm_lowering.proofs.MoreSamples.{home, random, picks, folds, bounds, caps, pairs, turns}
+use Rattle.gm_lowering.proofs.MoreSamples.{home, random, picks, folds, bounds, caps, pairs, tops, gifts, turns}
 
 abbrev facts : Program → List Bool
 facts p = is_flipped p ∷ is_named p ∷ has_types p ∷ is_ordered p ∷ is_race_free p ∷ is_sound (lowered p) ∷ []
@@ -43,6 +43,12 @@ caps_facts = refl
 
 pairs_facts : facts pairs ≡ all_hold
 pairs_facts = refl
+
+tops_facts : facts tops ≡ all_hold
+tops_facts = refl
+
+gifts_facts : facts gifts ≡ all_hold
+gifts_facts = refl
 
 turns_facts : facts turns ≡ all_hold
 turns_facts = refl
@@ -86,6 +92,18 @@ pairs_mean = refl
 
 pairs_run : (machine (lowered pairs) square (At (Some 3) ∷ []) 9).outcome ≡ Done [] (Some (I32 (pos 0))) (ints (2 ∷ 4 ∷ 7 ∷ 6 ∷ []) ∷ ints (7 ∷ 7 ∷ 9 ∷ 9 ∷ []) ∷ []) 0
 pairs_run = refl
+
+tops_mean : mean tops square (At (Some 3) ∷ []) 9 ≡ Done [] (Some (I32 (pos 3))) (ints (2 ∷ 0 ∷ 3 ∷ 0 ∷ []) ∷ ints (7 ∷ 4 ∷ 4 ∷ 2 ∷ []) ∷ []) 0
+tops_mean = refl
+
+tops_run : (machine (lowered tops) square (At (Some 3) ∷ []) 9).outcome ≡ Done [] (Some (I32 (pos 3))) (ints (2 ∷ 0 ∷ 3 ∷ 0 ∷ []) ∷ ints (7 ∷ 4 ∷ 4 ∷ 2 ∷ []) ∷ []) 0
+tops_run = refl
+
+gifts_mean : mean gifts square (At (Some 3) ∷ []) 9 ≡ Done [] (Some (I32 (pos 0))) (ints (0 ∷ 13 ∷ 13 ∷ 23 ∷ []) ∷ ints (0 ∷ 0 ∷ 0 ∷ 0 ∷ []) ∷ []) 0
+gifts_mean = refl
+
+gifts_run : (machine (lowered gifts) square (At (Some 3) ∷ []) 9).outcome ≡ Done [] (Some (I32 (pos 0))) (ints (0 ∷ 13 ∷ 13 ∷ 23 ∷ []) ∷ ints (0 ∷ 0 ∷ 0 ∷ 0 ∷ []) ∷ []) 0
+gifts_run = refl
 
 turns_run : (machine (lowered turns) square (At (Some 3) ∷ []) 20).outcome ≡ mean turns square (At (Some 3) ∷ []) 20
 turns_run = refl

@@ -143,6 +143,37 @@ pairs = program (
     ∷ Return (key 8) (at 1 8) (Some (int 0))
     ∷ [])
 
+-- Foreach (n: G.Nodes) { Foreach (t: n.InNbrs) (t != n) { Int y; Int w = n.v; y max= w - 5; <y; w> min= <3; y>; n.a += y; n.b max= w; s max= y; } } Return s;
+abbrev pub tops : Program
+tops = program (
+    Declare (key 1) 5 None
+    ∷ Foreach (key 2) (at 1 1) (over 9 Nodes 0) always (
+    Foreach (key 3) (at 1 2) (over 10 InNbrs 9) (Binary two.Ne (at 1 3) (variable 10) (variable 9)) (sequence (
+    Declare (key 4) 12 None
+    ∷ Declare (key 5) 16 (Some (property 9 1))
+    ∷ reduces 6 (at 1 6) reduce.Max (scalar 12) (Binary two.Sub (at 1 6) (variable 16) (int 5))
+    ∷ Combine (key 7) (total 7 (at 1 7)) reduce.Min (scalar 12 ∷ scalar 16 ∷ []) (int 3 ∷ variable 12 ∷ [])
+    ∷ reduces 8 (at 1 8) reduce.Sum (to_property 9 3) (variable 12)
+    ∷ reduces 9 (at 1 9) reduce.Max (to_property 9 4) (variable 16)
+    ∷ reduces 10 (at 1 10) reduce.Max (scalar 5) (variable 12)
+    ∷ [])))
+    ∷ Return (key 11) (at 1 11) (Some (variable 5))
+    ∷ [])
+
+-- Foreach (n: G.Nodes) { Foreach (t: n.Nbrs) (n.v > 2) { Int y = n.v; Int w = 5; y min= 8; <w; y> max= <y; 6>; t.a += w + y; } } Return 0;
+abbrev pub gifts : Program
+gifts = program (
+    Foreach (key 1) (at 1 1) (over 9 Nodes 0) always (
+    Foreach (key 2) (at 1 2) (over 10 OutNbrs 9) (Binary two.Gt (at 1 3) (property 9 1) (int 2)) (sequence (
+    Declare (key 3) 12 (Some (property 9 1))
+    ∷ Declare (key 4) 16 (Some (int 5))
+    ∷ reduces 5 (at 1 5) reduce.Min (scalar 12) (int 8)
+    ∷ Combine (key 6) (total 6 (at 1 6)) reduce.Max (scalar 16 ∷ scalar 12 ∷ []) (variable 12 ∷ int 6 ∷ [])
+    ∷ reduces 7 (at 1 7) reduce.Sum (to_property 10 3) (Binary two.Add (at 1 8) (variable 16) (variable 12))
+    ∷ [])))
+    ∷ Return (key 8) (at 1 9) (Some (int 0))
+    ∷ [])
+
 -- For (c: G.Nodes) (c != r) { k = k + 1; If (k > 2) { Return s; } Else { s = s + k; } Do { s = s * 2; f = s < 10; } While (f); } <s; k> min= <k; s>; If (s < 3) { s = 7; } Return s;
 abbrev pub turns : Program
 turns = program (

@@ -88,11 +88,39 @@ global-no_register x h =
 or-false : (a b : Bool) → a ≡ false → a || b ≡ true → b ≡ true
 or-false a b e h = ap (λ x. x || b) (sym e) ∙ h
 
+-- what is asked of what a vertex has given for an iteration: what both gave tells it, folds do not wait, and contributions to scalars are put
+pub record Giving (c : Layout) (v : Env) (Gave : Iteration → VertexState → Type 0) : Type 0 where
+  pub stays : (it new : Iteration) (w u : VertexState) → new.with_inner ≡ it.with_inner → new.with_outermost ≡ it.with_outermost → new.deferred ≡ it.deferred
+      → u.puts ≡ w.puts → u.folds ≡ [] → u.messages ≡ w.messages → Gave it w → Gave new u
+  pub folds : (it : Iteration) (w : VertexState) → Gave it w → w.folds ≡ []
+  pub puts : (it : Iteration) (w : VertexState) (a : Contribution) → are_of_scalars a.slots ≡ true → Gave it w → Gave (gave_outermost it a) (record w { puts = w.puts ++ given c v a ∷ [] })
+
+-- an own body that sends nothing
+pub own-giving : (c : Layout) (v : Env) → Giving c v (λ it w. OwnGave c v it w)
+own-giving c v = record {
+  stays = λ it new w u inner outermost deferred puts folds messages g. record {
+    puts = puts ∙ g.puts ∙ ap (map (given c v)) (sym outermost);
+    folds = folds;
+    messages = messages ∙ g.messages;
+    inner = inner ∙ g.inner;
+    deferred = deferred ∙ g.deferred;
+  };
+  folds = λ it w g. g.folds;
+  puts = λ it w a o g. record {
+    puts = ap (λ ps. ps ++ given c v a ∷ []) g.puts ∙ sym (map-push (given c v) it.with_outermost a);
+    folds = g.folds;
+    messages = g.messages;
+    inner = g.inner;
+    deferred = g.deferred;
+  };
+}
+
 module _ (c : Layout) (seg : Segment) (loop : Loop) (k registers fields places : ℕ) (s : VertexContext)
     (apart : IsApart c registers fields)
     (unlike : is_register (variable_at c.declarations loop.outer) ≡ false)
     (type_is : (x : ℕ) → loop.vtype x ≡ (variable_at c.declarations x).vtype)
-    (depth_is : (x : ℕ) → loop.depth x ≡ (variable_at c.declarations x).depth) where
+    (depth_is : (x : ℕ) → loop.depth x ≡ (variable_at c.declarations x).depth)
+    (Gave : Iteration → VertexState → Type 0) (giving : Giving c (own_env c seg loop.outer) Gave) where
   abbrev n : ℕ
   n = loop.outer
 
@@ -100,7 +128,7 @@ module _ (c : Layout) (seg : Segment) (loop : Loop) (k registers fields places :
   v = own_env c seg n
 
   abbrev pub Shows : Iteration → VertexState → Type 0
-  Shows it w = OwnShows c v loop.graph n k registers fields s it w × OwnGave c v it w
+  Shows it w = OwnShows c v loop.graph n k registers fields s it w × Gave it w
 
   abbrev run : List Line → ℕ → VertexState → After
   run = body_after places s
@@ -230,7 +258,7 @@ module _ (c : Layout) (seg : Segment) (loop : Loop) (k registers fields places :
           register_count = length-set w.registers (c.register x) a ∙ q.0.register_count;
           field_count = q.0.field_count;
         },
-        record { puts = q.1.puts; folds = q.1.folds; messages = q.1.messages; inner = q.1.inner; deferred = q.1.deferred },
+        giving.stays it (wrote it (Scalar x, a)) w (record w { registers = slice_set w.registers (c.register x) a }) refl refl refl refl (giving.folds it w q.1) refl q.1,
       ) where
         same-register : (x y : ℕ) → x < length c.declarations → y < length c.declarations → is_register (variable_at c.declarations x) ≡ true → is_register (variable_at c.declarations y) ≡ true
             → nat_eq (c.register x) (c.register y) ≡ nat_eq x y
@@ -260,7 +288,7 @@ module _ (c : Layout) (seg : Segment) (loop : Loop) (k registers fields places :
           register_count = q.0.register_count;
           field_count = length-set w.fields (c.field p) a ∙ q.0.field_count;
         },
-        record { puts = q.1.puts; folds = q.1.folds; messages = q.1.messages; inner = q.1.inner; deferred = q.1.deferred },
+        giving.stays it (wrote it (Node p k, a)) w (record w { fields = slice_set w.fields (c.field p) a }) refl refl refl refl (giving.folds it w q.1) refl q.1,
       ) where
         same-field : (x y : ℕ) → c.is_kept x ≡ true → c.is_kept y ≡ true → nat_eq (c.field x) (c.field y) ≡ nat_eq x y
         same-field x y e f = by (nat_eq (c.field x) (c.field y)) refl where
@@ -272,15 +300,15 @@ module _ (c : Layout) (seg : Segment) (loop : Loop) (k registers fields places :
         and-same true = sym (eq-eqb k k refl)
         and-same false = refl
 
-  gave-failed : (it : Iteration) (w : VertexState) (f : Fault) → OwnGave c v it w → OwnGave c v (failed it f) w
-  gave-failed it w f g = record { puts = g.puts; folds = g.folds; messages = g.messages; inner = g.inner; deferred = g.deferred }
+  pub gave-failed : (it : Iteration) (w : VertexState) (f : Fault) → Gave it w → Gave (failed it f) w
+  gave-failed it w f g = giving.stays it (failed it f) w w refl refl refl refl (giving.folds it w g) refl g
 
   with-then : (it : Iteration) (a : Answer) (slot : Slot) (F : Slot × Value → Iteration) → with_ok it (then_with a (λ x. Ok (slot, x))) F ≡ with_ok it a (λ x. F (slot, x))
   with-then it (Ok x) slot F = refl
   with-then it (Err f) slot F = refl
 
   abbrev Ending' : List Line → List Line → VertexState → Iteration → Option Fault → Type 0
-  Ending' = Ending v run Shows (OwnGave c v)
+  Ending' = Ending v run Shows Gave
 
   -- a line that sets a property
   set-field : (it : Iteration) (w : VertexState) (rest : List Line) (p : ℕ) (t : Term) (a : Answer) → c.is_kept p ≡ true → Shows it w
@@ -339,13 +367,7 @@ module _ (c : Layout) (seg : Segment) (loop : Loop) (k registers fields places :
       register_count = q.0.register_count;
       field_count = q.0.field_count;
     },
-    record {
-      puts = ap (λ ps. ps ++ given c v a ∷ []) q.1.puts ∙ sym (map-push (given c v) it.with_outermost a);
-      folds = q.1.folds;
-      messages = q.1.messages;
-      inner = q.1.inner;
-      deferred = q.1.deferred;
-    },
+    giving.puts it w a o q.1,
   )
 
   -- a reduction to scalars of the procedure
@@ -360,7 +382,7 @@ module _ (c : Layout) (seg : Segment) (loop : Loop) (k registers fields places :
       let y = both-true (same_length (t ∷ ts) es) (list_all (own_finds c n) es) z.1 in
       let out = does (S.Combine j total r (t ∷ ts) es) Outermost loop it in
       subst (λ way. Ending' (reduce_lines (own_site c seg n) kind way j total r (t ∷ ts) (map (term v j) es)) rest w out out.fault) (sym (puts-way (t ∷ ts) x.0))
-      (put-ends c v loop Outermost s run Shows (OwnGave c v) depth_is (λ r' place targets ls z. refl) (λ i z a. a.0.fine) (λ i z f a. gave-failed i z f a.1) puts
+      (put-ends c v loop Outermost s run Shows Gave depth_is (λ r' place targets ls z. refl) (λ i z a. a.0.fine) (λ i z f a. gave-failed i z f a.1) puts
       j total r t ts es it w rest q x.0 y.0 (all-tell it w j es y.1 q)) where
         puts-way : (us : List Target) → are_scalars c us ≡ true → way_of c.declarations n us ≡ Puts
         puts-way us e = ap (λ b. if b then Puts else (if list_all (is_property_of n) us then Folds else (if list_any (is_property_off n) us then Sends else Picks))) e

@@ -33,7 +33,7 @@ use Rattle.gm_semantics.specs.Statements.{variable_at}
 use Rattle.gm_lowering.proofs.Givens.{node_slots, are_kept, node-in}
 use Rattle.gm_lowering.proofs.Kept.{Gives}
 use Rattle.gm_lowering.proofs.OwnFolds.{fold-way, kept_at, now-is, scalars-stay}
-use Rattle.gm_lowering.proofs.PutFacts.{IsPut, put-left, put-gives}
+use Rattle.gm_lowering.proofs.PutFacts.{IsPut, put-left, put-gives-at}
 use Rattle.gm_lowering.proofs.Spots.{Has, HoldNodes, Left, Within, spot-left, spot-right, all-read, all-within, all-hoist_nothing, reads as reads_at, then-within, within-left, rest-within, reads-hoist_nothing}
 use Rattle.gm_value.specs.declared.values.VType.{VType}
 use Rattle.gm_ast.specs.Ways.{is_in}
@@ -227,19 +227,25 @@ module _ (c : Layout) (loop : Loop) (home : ℕ → ℕ) (depth_is : (x : ℕ) �
           (or-false (folds_at_once c n (own_finds c n) r ts es) (keeps_at_once c n (own_finds c n) r ts es) j
           (or-false (puts_to_scalars c (own_finds c n) r ts es) (folds_at_once c n (own_finds c n) r ts es || keeps_at_once c n (own_finds c n) r ts es) i o)) typed e h
 
+    pub own-puts-at : (all : List Spot) (Good : Contribution → Type 0) → ((x : Contribution) → IsPut c all x → Good x)
+        → (k : Key) (total : TotalKey) (r : Reduce) (ts : List Target) (es : List Expr) (it : Iteration) → own_gives c n (own_finds c n) r ts es ≡ true → Ready (S.Combine k total r ts es) it → Holding it
+        → ((f : Spot) → HasSpot f (reduce_spots true its (way_of c.declarations n ts) k total ts) → HasSpot f all)
+        → Gives Good it → Gives Good (does (S.Combine k total r ts es) Outermost loop it)
+    own-puts-at all Good good k total r ts es it o typed h j g = by (puts_to_scalars c (own_finds c n) r ts es) (folds_at_once c n (own_finds c n) r ts es) refl refl where
+      by : (a b : Bool) → puts_to_scalars c (own_finds c n) r ts es ≡ a → folds_at_once c n (own_finds c n) r ts es ≡ b → Gives Good (does (S.Combine k total r ts es) Outermost loop it)
+      by true b i f = put-gives-at c its false true n loop Outermost home depth_is all Good good k total r ts es it i h j g
+      by false true i f =
+          subst (Gives Good) (sym (does-fold k total r ts es it f h))
+          (fold-gives-by Good (kept_at (view_in loop Outermost it k) (home n) total.place r ts (evaluated_all es (view_in loop Outermost it k)).rest) it g)
+      by false false i f =
+          keep-gives Good k total r ts es it
+          (or-false (folds_at_once c n (own_finds c n) r ts es) (keeps_at_once c n (own_finds c n) r ts es) f
+          (or-false (puts_to_scalars c (own_finds c n) r ts es) (folds_at_once c n (own_finds c n) r ts es || keeps_at_once c n (own_finds c n) r ts es) i o)) typed h g
+
     pub own-puts : (all : List Spot) (k : Key) (total : TotalKey) (r : Reduce) (ts : List Target) (es : List Expr) (it : Iteration) → own_gives c n (own_finds c n) r ts es ≡ true → Ready (S.Combine k total r ts es) it → Holding it
         → ((f : Spot) → HasSpot f (reduce_spots true its (way_of c.declarations n ts) k total ts) → HasSpot f all)
         → Gives (IsPut c all) it → Gives (IsPut c all) (does (S.Combine k total r ts es) Outermost loop it)
-    own-puts all k total r ts es it o typed h j g = by (puts_to_scalars c (own_finds c n) r ts es) (folds_at_once c n (own_finds c n) r ts es) refl refl where
-      by : (a b : Bool) → puts_to_scalars c (own_finds c n) r ts es ≡ a → folds_at_once c n (own_finds c n) r ts es ≡ b → Gives (IsPut c all) (does (S.Combine k total r ts es) Outermost loop it)
-      by true b i f = put-gives c its false true n loop Outermost home depth_is all k total r ts es it i h j g
-      by false true i f =
-          subst (Gives (IsPut c all)) (sym (does-fold k total r ts es it f h))
-          (fold-gives-by (IsPut c all) (kept_at (view_in loop Outermost it k) (home n) total.place r ts (evaluated_all es (view_in loop Outermost it k)).rest) it g)
-      by false false i f =
-          keep-gives (IsPut c all) k total r ts es it
-          (or-false (folds_at_once c n (own_finds c n) r ts es) (keeps_at_once c n (own_finds c n) r ts es) f
-          (or-false (puts_to_scalars c (own_finds c n) r ts es) (folds_at_once c n (own_finds c n) r ts es || keeps_at_once c n (own_finds c n) r ts es) i o)) typed h g
+    own-puts all k total r ts es it o typed h j g = own-puts-at all (IsPut c all) (λ x a. a) k total r ts es it o typed h j g
 
 -- what is picked into a local picks
 pick-way : (c : Layout) (n : ℕ) (found : Expr → Bool) (r : Reduce) (ts : List Target) (es : List Expr) → picks_at_once c found r ts es ≡ true → way_of c.declarations n ts ≡ Picks
@@ -267,21 +273,10 @@ spot-parts : {A : Type 0} (z : Spot) (xs ys : List Spot) → (HasSpot z xs → A
 spot-parts z [] ys f g h = g h
 spot-parts z (x ∷ xs) ys f g h = ⊎_elim (λ (e : x ≡ z). f (inl e)) (λ (j : HasSpot z (xs ++ ys)). spot-parts z xs ys (λ i. f (inr i)) g j) h
 
--- where the folds of an own body may fault is among its spots
-pub folds-spotted : (c : Layout) (n : ℕ) (st : S.Stmt) → is_body c (own_finds c n) (own_sets c n) (own_gives c n (own_finds c n)) st ≡ true → (z : Spot) → HasSpot z (fold_spots c n st) → HasSpot z (spots_of c n (n ∷ []) true st)
-folds-spotted c n (S.Then a b) o z h =
-    let t = both-true (is_body c (own_finds c n) (own_sets c n) (own_gives c n (own_finds c n)) a) (is_body c (own_finds c n) (own_sets c n) (own_gives c n (own_finds c n)) b) o in
-    let xs = spots_of c n (n ∷ []) true a in
-    let ys = spots_of c n (n ∷ []) true b in
-    spot-parts z (fold_spots c n a) (fold_spots c n b) (λ i. spot-left z xs ys (folds-spotted c n a t.0 z i)) (λ i. spot-right z xs ys (folds-spotted c n b t.1 z i)) h
-folds-spotted c n (S.If k e a b) o z h =
-    let u = both-true (own_finds c n e) (is_body c (own_finds c n) (own_sets c n) (own_gives c n (own_finds c n)) a && is_body c (own_finds c n) (own_sets c n) (own_gives c n (own_finds c n)) b) o in
-    let t = both-true (is_body c (own_finds c n) (own_sets c n) (own_gives c n (own_finds c n)) a) (is_body c (own_finds c n) (own_sets c n) (own_gives c n (own_finds c n)) b) u.1 in
-    let xs = spots_of c n (n ∷ []) true a in
-    let ys = spots_of c n (n ∷ []) true b in
-    spot-right z (spots_in e k) (xs ++ ys)
-    (spot-parts z (fold_spots c n a) (fold_spots c n b) (λ i. spot-left z xs ys (folds-spotted c n a t.0 z i)) (λ i. spot-right z xs ys (folds-spotted c n b t.1 z i)) h)
-folds-spotted c n (S.Combine k total r ts es) o z h = by (puts_to_scalars c (own_finds c n) r ts es) (folds_at_once c n (own_finds c n) r ts es) refl refl where
+-- a fold that is done at once may fault at a spot of its reduction
+pub own-fold-spotted : (c : Layout) (n : ℕ) (k : Key) (total : TotalKey) (r : Reduce) (ts : List Target) (es : List Expr) → own_gives c n (own_finds c n) r ts es ≡ true → (z : Spot)
+    → HasSpot z (fold_spots c n (S.Combine k total r ts es)) → HasSpot z (spots_of c n (n ∷ []) true (S.Combine k total r ts es))
+own-fold-spotted c n k total r ts es o z h = by (puts_to_scalars c (own_finds c n) r ts es) (folds_at_once c n (own_finds c n) r ts es) refl refl where
   or-false : (a b : Bool) → a ≡ false → a || b ≡ true → b ≡ true
   or-false a b e h = ap (λ x. x || b) (sym e) ∙ h
 
@@ -316,4 +311,25 @@ folds-spotted c n (S.Combine k total r ts es) o z h = by (puts_to_scalars c (own
         one : (b : Bool) → HasSpot z (if b then spot_at k total.place ∷ [] else []) → HasSpot z (spot_at k total.place ∷ [])
         one true i = i
         one false i = absurd i
-folds-spotted c n _ o z h = absurd h
+
+-- where the folds of an own body may fault is among its spots
+pub folds-spotted-by : (c : Layout) (n : ℕ) (gives : Reduce → List Target → List Expr → Bool)
+    → ((k : Key) (total : TotalKey) (r : Reduce) (ts : List Target) (es : List Expr) → gives r ts es ≡ true → (z : Spot) → HasSpot z (fold_spots c n (S.Combine k total r ts es)) → HasSpot z (spots_of c n (n ∷ []) true (S.Combine k total r ts es)))
+    → (st : S.Stmt) → is_body c (own_finds c n) (own_sets c n) gives st ≡ true → (z : Spot) → HasSpot z (fold_spots c n st) → HasSpot z (spots_of c n (n ∷ []) true st)
+folds-spotted-by c n gives one (S.Then a b) o z h =
+    let t = both-true (is_body c (own_finds c n) (own_sets c n) gives a) (is_body c (own_finds c n) (own_sets c n) gives b) o in
+    let xs = spots_of c n (n ∷ []) true a in
+    let ys = spots_of c n (n ∷ []) true b in
+    spot-parts z (fold_spots c n a) (fold_spots c n b) (λ i. spot-left z xs ys (folds-spotted-by c n gives one a t.0 z i)) (λ i. spot-right z xs ys (folds-spotted-by c n gives one b t.1 z i)) h
+folds-spotted-by c n gives one (S.If k e a b) o z h =
+    let u = both-true (own_finds c n e) (is_body c (own_finds c n) (own_sets c n) gives a && is_body c (own_finds c n) (own_sets c n) gives b) o in
+    let t = both-true (is_body c (own_finds c n) (own_sets c n) gives a) (is_body c (own_finds c n) (own_sets c n) gives b) u.1 in
+    let xs = spots_of c n (n ∷ []) true a in
+    let ys = spots_of c n (n ∷ []) true b in
+    spot-right z (spots_in e k) (xs ++ ys)
+    (spot-parts z (fold_spots c n a) (fold_spots c n b) (λ i. spot-left z xs ys (folds-spotted-by c n gives one a t.0 z i)) (λ i. spot-right z xs ys (folds-spotted-by c n gives one b t.1 z i)) h)
+folds-spotted-by c n gives one (S.Combine k total r ts es) o z h = one k total r ts es o z h
+folds-spotted-by c n gives one _ o z h = absurd h
+
+pub folds-spotted : (c : Layout) (n : ℕ) (st : S.Stmt) → is_body c (own_finds c n) (own_sets c n) (own_gives c n (own_finds c n)) st ≡ true → (z : Spot) → HasSpot z (fold_spots c n st) → HasSpot z (spots_of c n (n ∷ []) true st)
+folds-spotted c n st o z h = folds-spotted-by c n (own_gives c n (own_finds c n)) (λ k total r ts es g y i. own-fold-spotted c n k total r ts es g y i) st o z h

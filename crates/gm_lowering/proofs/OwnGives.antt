@@ -41,7 +41,7 @@ use Rattle.gm_lowering.specs.Plans.{way_of}
 use Rattle.gm_lowering.specs.Bodies.{reduce_lines, image_targets, better, compared}
 use Rattle.gm_lowering.specs.Blocks.{own_site}
 use Rattle.gm_lowering.specs.Showing.{answer_of, Tells, fault_of}
-use Rattle.gm_lowering.specs.Sites.{finds_scalar, same_length, is_local, given, IsInGraph, IsApart, OwnGave, slot_at}
+use Rattle.gm_lowering.specs.Sites.{finds_scalar, same_length, is_local, given, IsInGraph, IsApart, slot_at}
 use Rattle.gm_lowering.specs.OwnLoops.{own_finds, own_sets, puts_to_scalars, asks_always, folds_to, folds_at_once, own_gives, fold_spots, HaveIndices, picks_at_once, tuples_at_once, keeps_at_once, HasSpares}
 use Rattle.gm_lowering.proofs.Terms.{rest-term, hoisted-parallel}
 use Rattle.gm_lowering.proofs.Bodies.{Ends as Ending, Holds}
@@ -68,7 +68,8 @@ module _ (c : Layout) (seg : Segment) (loop : Loop) (k registers fields places :
     (apart : IsApart c registers fields)
     (unlike : is_register (variable_at c.declarations loop.outer) ≡ false)
     (type_is : (x : ℕ) → loop.vtype x ≡ (variable_at c.declarations x).vtype)
-    (depth_is : (x : ℕ) → loop.depth x ≡ (variable_at c.declarations x).depth) where
+    (depth_is : (x : ℕ) → loop.depth x ≡ (variable_at c.declarations x).depth)
+    (Gave : Iteration → VertexState → Type 0) (giving : O.Giving c (own_env c seg loop.outer) Gave) where
   abbrev n : ℕ
   n = loop.outer
 
@@ -76,38 +77,38 @@ module _ (c : Layout) (seg : Segment) (loop : Loop) (k registers fields places :
   v = own_env c seg n
 
   abbrev Shows : Iteration → VertexState → Type 0
-  Shows = O.Shows c seg loop k registers fields places s apart unlike type_is depth_is
+  Shows = O.Shows c seg loop k registers fields places s apart unlike type_is depth_is Gave giving
 
   abbrev run : List Line → ℕ → VertexState → After
   run = body_after places s
 
   abbrev Ending' : List Line → List Line → VertexState → Iteration → Option Fault → Type 0
-  Ending' = Ending v run Shows (OwnGave c v)
+  Ending' = Ending v run Shows Gave
 
-  gave-failed : (it : Iteration) (w : VertexState) (f : Fault) → OwnGave c v it w → OwnGave c v (failed it f) w
-  gave-failed it w f g = record { puts = g.puts; folds = g.folds; messages = g.messages; inner = g.inner; deferred = g.deferred }
+  gave-failed : (it : Iteration) (w : VertexState) (f : Fault) → Gave it w → Gave (failed it f) w
+  gave-failed = O.gave-failed c seg loop k registers fields places s apart unlike type_is depth_is Gave giving
 
   scalar-is : (it : Iteration) (w : VertexState) (x : ℕ) → finds_scalar c (n ∷ []) x ≡ true → Shows it w → term_value (view s w) (v.scalar x) ≡ Ok (it.store.scalar x)
-  scalar-is = O.scalar-is c seg loop k registers fields places s apart unlike type_is depth_is
+  scalar-is = O.scalar-is c seg loop k registers fields places s apart unlike type_is depth_is Gave giving
 
   tells : (it : Iteration) (w : VertexState) (j : Key) (e : Expr) → own_finds c n e ≡ true → Shows it w → Tells v (view_in loop Outermost it j) (view s w) e
-  tells = O.tells c seg loop k registers fields places s apart unlike type_is depth_is
+  tells = O.tells c seg loop k registers fields places s apart unlike type_is depth_is Gave giving
 
   all-tell : (it : Iteration) (w : VertexState) (j : Key) (es : List Expr) → list_all (own_finds c n) es ≡ true → Shows it w → AllTell v (view_in loop Outermost it j) (view s w) es
-  all-tell = O.all-tell c seg loop k registers fields places s apart unlike type_is depth_is
+  all-tell = O.all-tell c seg loop k registers fields places s apart unlike type_is depth_is Gave giving
 
   local : (it : Iteration) (w : VertexState) (x : ℕ) (a : Value) → is_local c x ≡ true → Shows it w → Shows (wrote it (Scalar x, a)) (record w { registers = slice_set w.registers (c.register x) a })
-  local = O.local c seg loop k registers fields places s apart unlike type_is depth_is
+  local = O.local c seg loop k registers fields places s apart unlike type_is depth_is Gave giving
 
   property : (j : Key) (x p : ℕ) (at : Place) (e : Expr) (it : Iteration) (w : VertexState) (rest : List Line) → own_sets c n x p ≡ true → own_finds c n e ≡ true → Shows it w
       → let out = does (S.Assign j (T.Property x p at) e) Outermost loop it in Ending' (SetField (c.field p) (term v j e) ∷ []) rest w out out.fault
-  property = O.property c seg loop k registers fields places s apart unlike type_is depth_is
+  property = O.property c seg loop k registers fields places s apart unlike type_is depth_is Gave giving
 
   reduce : (kind : ℕ) (j : Key) (total : TotalKey) (r : Reduce) (ts : List Target) (es : List Expr) (it : Iteration) (w : VertexState) (rest : List Line)
       → puts_to_scalars c (own_finds c n) r ts es ≡ true → Shows it w
       → let out = does (S.Combine j total r ts es) Outermost loop it in
       Ending' (reduce_lines (own_site c seg n) kind (way_of c.declarations n ts) j total r ts (map (term v j) es)) rest w out out.fault
-  reduce = O.reduce c seg loop k registers fields places s apart unlike type_is depth_is
+  reduce = O.reduce c seg loop k registers fields places s apart unlike type_is depth_is Gave giving
 
   wrote-own : (it : Iteration) (w : VertexState) (ts : List Target) (vs fields' : List Value) → length fields' ≡ length w.fields
       → ((p : ℕ) → c.is_kept p ≡ true → value_at fields' (c.field p) ≡ (write_all it.store (node_slots k ts) vs).node p k) → Shows it w
@@ -127,7 +128,7 @@ module _ (c : Layout) (seg : Segment) (loop : Loop) (k registers fields places :
           register_count = q.0.register_count;
           field_count = long ∙ q.0.field_count;
         },
-        record { puts = q.1.puts; folds = refl; messages = q.1.messages; inner = q.1.inner; deferred = q.1.deferred },
+        giving.stays it (wrote_all it (node_slots k ts, vs)) w (record w { folds = []; fields = fields' }) refl refl refl refl refl refl q.1,
       )
 
   -- the line of a fold, by the values for it
@@ -197,7 +198,7 @@ module _ (c : Layout) (seg : Segment) (loop : Loop) (k registers fields places :
     after-taking : (ys : List Value) → folding (Ok ys) ≡ goes_on (ended (record w { folds = []; fields = (taken_to ys).values }) (taken_to ys).fault 0) more
     after-taking ys =
         ap (λ g. goes_on (folded places (leaves (record w { folds = w.folds ++ g }))) more) (given-is ys)
-        ∙ ap (λ fs. goes_on (folded places (leaves (record w { folds = fs ++ map (given c (env ys)) (one ys ∷ []) }))) more) q.1.folds
+        ∙ ap (λ fs. goes_on (folded places (leaves (record w { folds = fs ++ map (given c (env ys)) (one ys ∷ []) }))) more) (giving.folds it w q.1)
 
     line-runs : run (line ∷ rest) 0 w ≡ folding (values (view s w) terms)
     line-runs = ap (λ as'. folding (values (view s w) as')) (terms-of c (t ∷ ts) terms long)
@@ -218,7 +219,7 @@ module _ (c : Layout) (seg : Segment) (loop : Loop) (k registers fields places :
         let failing : (taken_to ys).fault ≡ Some (fault_of v (fault_at u total.place Overflow)) =
         (alike ys).fault ∙ ap (fault_or_none (env ys)) (single-fault it.store (one ys) ∙ ap (fault_by it.store (one ys)) e) ∙ ap (λ i. Some (record { place = i; kind = Overflow })) (indexed ys) in (
           record w { folds = []; fields = (taken_to ys).values },
-          record { puts = q.1.puts; folds = refl; messages = q.1.messages; inner = q.1.inner; deferred = q.1.deferred },
+          giving.stays it (failed it (fault_at u total.place Overflow)) w (record w { folds = []; fields = (taken_to ys).values }) refl refl refl refl refl refl q.1,
           line-runs ∙ ap folding f ∙ after-taking ys ∙ ap (λ o. goes_on (ended (record w { folds = []; fields = (taken_to ys).values }) o 0) more) failing,
         )
 
@@ -227,7 +228,7 @@ module _ (c : Layout) (seg : Segment) (loop : Loop) (k registers fields places :
     fold-by (Err f) e = (
       w,
       gave-failed it w f q.1,
-      line-runs ∙ ap folding e ∙ ap (λ a. goes_on a more) (folded-nothing places w (Some (fault_of v f)) 0 q.1.folds),
+      line-runs ∙ ap folding e ∙ ap (λ a. goes_on a more) (folded-nothing places w (Some (fault_of v f)) 0 (giving.folds it w q.1)),
     )
 
   -- a reduction to the node's own properties
@@ -323,7 +324,7 @@ module _ (c : Layout) (seg : Segment) (loop : Loop) (k registers fields places :
         let out = does (S.Combine j total r all es) Outermost loop it in
         let less : length all < suc (suc (suc (length ts))) = omega arith in
         subst (λ way. Ending' (reduce_lines (own_site c seg n) kind way j total r all (map (term v j) es)) rest w out out.fault) (sym (tuple-way c n all kept.local kept.own))
-        (tuple-ends c seg loop k registers fields places s apart unlike type_is depth_is (suc (suc (suc (length ts)))) (tuple-spares c registers j total r t u ts es kept.local spares) j total r t u ts es
+        (tuple-ends c seg loop k registers fields places s apart unlike type_is depth_is Gave giving (suc (suc (suc (length ts)))) (tuple-spares c registers j total r t u ts es kept.local spares) j total r t u ts es
         (types_of_all c table around result loop Outermost j total r t u ts es it k kept.local typed) it w rest kept.keeps kept.own (own-distinct k all kept.distinct) kept.long kept.found less q
         (held-typed c table around result loop Outermost j total r t u ts es it k kept.local typed) (new-typed c table around result loop Outermost j total r t u ts es it k kept.local typed))
 
@@ -358,7 +359,7 @@ module _ (c : Layout) (seg : Segment) (loop : Loop) (k registers fields places :
           (or-false (puts_to_scalars c (own_finds c n) r ts es) (folds_at_once c n (own_finds c n) r ts es || keeps_at_once c n (own_finds c n) r ts es) e o)) ready q
 
     -- an own site holds
-    pub own-holds : Holds (own_site c seg n) loop Outermost s run Shows (OwnGave c v) (own_finds c n) (own_sets c n) (own_gives c n (own_finds c n)) Ready
+    pub own-holds : Holds (own_site c seg n) loop Outermost s run Shows Gave (own_finds c n) (own_sets c n) (own_gives c n (own_finds c n)) Ready
     own-holds =
         let types = parts-typed c table around result loop Outermost in
         record {
@@ -373,7 +374,7 @@ module _ (c : Layout) (seg : Segment) (loop : Loop) (k registers fields places :
           local = local;
           property = property;
           placed_first = λ kind a b it h. ((λ z o. h.0 z (spot-left z (fold_spots c n a) (fold_spots c n b) o)), types.first a b it h.1, spares-left a b h.2);
-          placed_second = λ kind a b it h. ((λ z o. h.0 z (spot-right z (fold_spots c n a) (fold_spots c n b) o)), types.second a b it h.1, spares-right a b h.2);
+          placed_second = λ kind a b it h e. ((λ z o. h.0 z (spot-right z (fold_spots c n a) (fold_spots c n b) o)), types.second a b it h.1, spares-right a b h.2);
           placed_yes = λ kind k e a b it h. ((λ z o. h.0 z (spot-left z (fold_spots c n a) (fold_spots c n b) o)), types.yes k e a b it h.1, spares-left a b h.2);
           placed_no = λ kind k e a b it h. ((λ z o. h.0 z (spot-right z (fold_spots c n a) (fold_spots c n b) o)), types.no k e a b it h.1, spares-right a b h.2);
           reduce = λ kind key total r ts es it w rest o h q. gives kind key total r ts es it w rest o h q;

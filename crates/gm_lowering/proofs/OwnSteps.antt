@@ -35,7 +35,7 @@ use Rattle.gm_lowering.specs.Blocks.{own_site}
 use Rattle.gm_lowering.specs.Showing.{fault_of, answer_of}
 use Rattle.gm_lowering.specs.Sites.{is_body, IsInGraph, OwnGave}
 use Rattle.gm_lowering.specs.OwnLoops.{own_finds, own_sets, own_gives, fold_spots, HaveIndices, own_block, IsOwnLoop, NodeShows, StepEnds, OwnStepsAreIterations, PicksTyped}
-use Rattle.gm_lowering.proofs.Own.{Shows}
+use Rattle.gm_lowering.proofs.Own.{Shows, own-giving}
 use Rattle.gm_lowering.proofs.OwnGives.{own-holds}
 use Rattle.gm_lowering.proofs.Bodies.{Ends, Holds, past, skips, skip-faults, value-of, ends-by, body-ends}
 use Rattle.gm_value.specs.declared.values.VType.{VType}
@@ -134,7 +134,7 @@ module _ (c : Layout) (seg : Segment) (p : image.Program) (fields : ℕ) (loop :
   turned : (x y : ℕ) → nat_eq x y ≡ false → nat_eq y x ≡ false
   turned x y e = ne_eqb y x (λ i. eqb-false x y e (sym i))
 
-  pub begins : Shows c seg loop k (length p.registers) fields (length p.places) s is.apart is.iterator is.types is.depths start first
+  pub begins : Shows c seg loop k (length p.registers) fields (length p.places) s is.apart is.iterator is.types is.depths (λ it' w'. OwnGave c (own_env c seg n) it' w') (own-giving c (own_env c seg n)) start first
   begins = (
     record {
       fine = refl;
@@ -165,7 +165,7 @@ module _ (c : Layout) (seg : Segment) (p : image.Program) (fields : ℕ) (loop :
   step-is : vertex_after p (own_block c seg n kind key test body) s [] values ≡ body_after (length p.places) s (block_lines ++ []) 0 first
   step-is = body-alone p s block_lines values ∙ ap (λ ls. body_after (length p.places) s ls 0 first) (sym (append-nil block_lines))
 
-  ends-as : (f : Option Fault) → Ends (own_env c seg n) (body_after (length p.places) s) (Shows c seg loop k (length p.registers) fields (length p.places) s is.apart is.iterator is.types is.depths) (OwnGave c (own_env c seg n)) block_lines [] first out f
+  ends-as : (f : Option Fault) → Ends (own_env c seg n) (body_after (length p.places) s) (Shows c seg loop k (length p.registers) fields (length p.places) s is.apart is.iterator is.types is.depths (λ it' w'. OwnGave c (own_env c seg n) it' w') (own-giving c (own_env c seg n))) (OwnGave c (own_env c seg n)) block_lines [] first out f
       → StepEnds c (own_env c seg n) fields k out (vertex_after p (own_block c seg n kind key test body) s [] values) f
   ends-as None e =
       subst (λ a. StepEnds c (own_env c seg n) fields k out a None) (sym (step-is ∙ e.2)) (refl, e.1.0.properties, e.1.0.field_count, e.1.1)
@@ -175,10 +175,10 @@ module _ (c : Layout) (seg : Segment) (p : image.Program) (fields : ℕ) (loop :
   pub own-step : (table : TypeTable) (its : List ℕ) (result : Option VType) → HaveIndices seg (length p.places) (fold_spots c n body) → PicksTyped c table its result loop body start → StepEnds c (own_env c seg n) fields k out (vertex_after p (own_block c seg n kind key test body) s [] values) out.fault
   own-step table its result room typed =
       let v = own_env c seg n in
-      let sh = Shows c seg loop k (length p.registers) fields (length p.places) s is.apart is.iterator is.types is.depths in
+      let sh = Shows c seg loop k (length p.registers) fields (length p.places) s is.apart is.iterator is.types is.depths (λ it' w'. OwnGave c (own_env c seg n) it' w') (own-giving c (own_env c seg n)) in
       ends-as out.fault (
       filtered-ends (own_site c seg n) loop Outermost s (body_after (length p.places) s) sh (OwnGave c v) (own_finds c n) (own_sets c n) (own_gives c n (own_finds c n))
-      (own-holds c seg loop k (length p.registers) fields (length p.places) s is.apart is.iterator is.types is.depths table its result)
+      (own-holds c seg loop k (length p.registers) fields (length p.places) s is.apart is.iterator is.types is.depths (λ it' w'. OwnGave c (own_env c seg n) it' w') (own-giving c (own_env c seg n)) table its result)
       key test body kind is.found is.fits start (room, typed, is.spares) first [] begins)
 
 pub own-steps : OwnStepsAreIterations

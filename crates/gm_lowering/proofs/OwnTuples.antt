@@ -125,12 +125,12 @@ module _ (c : Layout) (loop : Loop) (k : ℕ) (depth_is : (x : ℕ) → loop.dep
       ∙ ap (λ a. with_ok it a (wrote_all it)) (together-is (view_in loop Outermost it key) refl there total.place r (t ∷ (u ∷ ts)) es o h)
 
   -- inner locals are taken at once in an inner body
-  inner-now : (edge : ℕ) (ts : List Target) → list_all (is_inner_target c) ts ≡ true → ends_of_all (AtEdge edge) loop ts ≡ AtOnce
-  inner-now edge [] h = refl
-  inner-now edge (T.Property x p at ∷ ts) h = absurd (both_ways false refl h)
-  inner-now edge (T.Scalar x at ∷ ts) h =
+  pub all-inside : (edge : ℕ) (ts : List Target) → list_all (is_inner_target c) ts ≡ true → ends_of_all (AtEdge edge) loop ts ≡ AtOnce
+  all-inside edge [] h = refl
+  all-inside edge (T.Property x p at ∷ ts) h = absurd (both_ways false refl h)
+  all-inside edge (T.Scalar x at ∷ ts) h =
       let q = both-true (is_inner_local c x) (list_all (is_inner_target c) ts) h in
-      ap (λ e. later e (ends_of_all (AtEdge edge) loop ts)) (local-inside edge x q.0) ∙ ap (later AtOnce) (inner-now edge ts q.1)
+      ap (λ e. later e (ends_of_all (AtEdge edge) loop ts)) (local-inside edge x q.0) ∙ ap (later AtOnce) (all-inside edge ts q.1)
 
   pub inner-own : (ts : List Target) → list_all (is_inner_target c) ts ≡ true → are_own c n ts ≡ true
   inner-own [] h = refl
@@ -145,5 +145,5 @@ module _ (c : Layout) (loop : Loop) (k : ℕ) (depth_is : (x : ℕ) → loop.dep
       → does (S.Combine key total r (t ∷ (u ∷ ts)) es) (AtEdge edge) loop it
       ≡ with_ok it (closed_at (view_in loop (AtEdge edge) it key) refl there total.place r (t ∷ (u ∷ ts)) (evaluated_all es (view_in loop (AtEdge edge) it key)).rest) (wrote_all it)
   inner-tuple-now edge it key total r t u ts es o h there =
-      ap (λ e. reduced e (view_in loop (AtEdge edge) it key) it total r (t ∷ (u ∷ ts)) es) (inner-now edge (t ∷ (u ∷ ts)) o)
+      ap (λ e. reduced e (view_in loop (AtEdge edge) it key) it total r (t ∷ (u ∷ ts)) es) (all-inside edge (t ∷ (u ∷ ts)) o)
       ∙ ap (λ a. with_ok it a (wrote_all it)) (together-is (view_in loop (AtEdge edge) it key) refl there total.place r (t ∷ (u ∷ ts)) es (inner-own (t ∷ (u ∷ ts)) o) h)

@@ -157,6 +157,31 @@ picks-way c n x at o = by (is_global (variable_at c.declarations x)) refl where
       and-not true = refl
       and-not false = refl
 
+-- a pick that is done at once is the setting of its local, where what is held and the new value have its type
+module _ (loop : Loop) (m : Mode) (k : Key) (total : TotalKey) (r : Reduce) (x : ℕ) (at : Place) (e : Expr) (it : Iteration) (at_once : scalar_ends m (loop.depth x) ≡ AtOnce)
+    (keeps : keeps_tuples r ≡ true) (limit : ℕ) (t : VType) (held : IsValue limit t (it.store.scalar x)) (new : IfOk (evaluated e (view_in loop m it k)).rest (IsValue limit t))
+    (none : (evaluated e (view_in loop m it k)).hoisted ≡ None) where
+  abbrev w : View
+  w = view_in loop m it k
+
+  abbrev by_one : Evaluated → Iteration
+  by_one a = with_ok it (alone (assigned w (T.Scalar x at) a)) (wrote_all it)
+
+  abbrev closed_with : Answer → Answer
+  closed_with a = then_with a (λ z. located w total.place (close r (it.store.scalar x) (z ∷ [])))
+
+  answered : (a : Answer) → IfOk a (IsValue limit t)
+      → with_ok it (alone (then_with (closed_with a) (λ y. Ok (Scalar x, y)))) (wrote_all it) ≡ with_ok it (kept_value r (it.store.scalar x) a) (λ y. wrote it (Scalar x, y))
+  answered (Err f) h = refl
+  answered (Ok y) h = ap (λ q. with_ok it (alone (then_with (located w total.place q) (λ y. Ok (Scalar x, y)))) (wrote_all it)) (close-picks r t (it.store.scalar x) y keeps held.of_type h.of_type)
+
+  pub pick-of : does (S.Combine k total r (T.Scalar x at ∷ []) (e ∷ [])) m loop it ≡ with_ok it (kept_value r (it.store.scalar x) (evaluated e w).rest) (λ y. wrote it (Scalar x, y))
+  pick-of =
+      ap (λ z. reduced (later z AtOnce) w it total r (T.Scalar x at ∷ []) (e ∷ [])) at_once
+      ∙ ap by_one (combined-is r w total.place (evaluated (S.Var x at) w) (evaluated e w) (keeps-asks r keeps))
+      ∙ ap (λ o. with_ok it (alone (unless_fault o (then_with (closed_with (evaluated e w).rest) (λ y. Ok (Scalar x, y))))) (wrote_all it)) none
+      ∙ answered (evaluated e w).rest new
+
 module _ (c : Layout) (table : TypeTable) (its : List ℕ) (result : Option VType) (loop : Loop) where
   abbrev pub Typed : S.Stmt → Iteration → Type 0
   Typed st it = PicksTyped c table its result loop st it
@@ -183,11 +208,10 @@ module _ (c : Layout) (table : TypeTable) (its : List ℕ) (result : Option VTyp
       let w = both-true (tells_in table its a) (tells_in table its b) (both-true (tells table its e) (tells_in table its a && tells_in table its b) h.tells).1 in
       (record { typed = t.0; named = u.0; tells = w.0 }, record { typed = t.1; named = u.1; tells = w.1 })
 
-  pub parts-typed : (m : Mode) → PartsReady loop m Typed
-  parts-typed m = record {
-    first = λ a b it h e. let t = h (or-left (picks_in c a) (picks_in c b) e) in record { declarations = t.declarations; around = t.around; statement = (well-two a b t.statement).0; iteration = t.iteration };
-    second = λ a b it h e.
-        let t = h (or-right (picks_in c a) (picks_in c b) e) in
+  pub parts-are : (m : Mode) → PartsReady loop m (AreTyped c table its result loop)
+  parts-are m = record {
+    first = λ a b it t. record { declarations = t.declarations; around = t.around; statement = (well-two a b t.statement).0; iteration = t.iteration };
+    second = λ a b it t.
         let w = well-two a b t.statement in
         record {
           declarations = t.declarations;
@@ -195,14 +219,22 @@ module _ (c : Layout) (table : TypeTable) (its : List ℕ) (result : Option VTyp
           statement = w.1;
           iteration = does-keeps table a its result m loop it t.around w.0.typed w.0.named w.0.tells t.iteration;
         };
-    yes = λ k e a b it h o. let t = h (or-left (picks_in c a) (picks_in c b) o) in record { declarations = t.declarations; around = t.around; statement = (well-choice k e a b t.statement).0; iteration = t.iteration };
-    no = λ k e a b it h o. let t = h (or-right (picks_in c a) (picks_in c b) o) in record { declarations = t.declarations; around = t.around; statement = (well-choice k e a b t.statement).1; iteration = t.iteration };
+    yes = λ k e a b it t. record { declarations = t.declarations; around = t.around; statement = (well-choice k e a b t.statement).0; iteration = t.iteration };
+    no = λ k e a b it t. record { declarations = t.declarations; around = t.around; statement = (well-choice k e a b t.statement).1; iteration = t.iteration };
   }
 
-  -- a pick is the setting of its local
-  module _ (m : Mode) (k : Key) (total : TotalKey) (r : Reduce) (x : ℕ) (at : Place) (e : Expr) (it : Iteration) (at_once : scalar_ends m (loop.depth x) ≡ AtOnce)
-      (keeps : keeps_tuples r ≡ true) (local : is_local c x ≡ true) (typed : Typed (S.Combine k total r (T.Scalar x at ∷ []) (e ∷ [])) it)
-      (none : (evaluated e (view_in loop m it k)).hoisted ≡ None) where
+  pub parts-typed : (m : Mode) → PartsReady loop m Typed
+  parts-typed m =
+      let parts = parts-are m in
+      record {
+        first = λ a b it h e. parts.first a b it (h (or-left (picks_in c a) (picks_in c b) e));
+        second = λ a b it h e. parts.second a b it (h (or-right (picks_in c a) (picks_in c b) e));
+        yes = λ k e a b it h o. parts.yes k e a b it (h (or-left (picks_in c a) (picks_in c b) o));
+        no = λ k e a b it h o. parts.no k e a b it (h (or-right (picks_in c a) (picks_in c b) o));
+      }
+
+  -- what a pick holds, and its new value, have types
+  module _ (m : Mode) (k : Key) (total : TotalKey) (r : Reduce) (x : ℕ) (at : Place) (e : Expr) (it : Iteration) (local : is_local c x ≡ true) (typed : Typed (S.Combine k total r (T.Scalar x at ∷ []) (e ∷ [])) it) where
     abbrev u : View
     u = view_in loop m it k
 
@@ -215,11 +247,11 @@ module _ (c : Layout) (table : TypeTable) (its : List ℕ) (result : Option VTyp
     abbrev t : VType
     t = type_at table.declarations x
 
-    held-typed : IsValue table.limit t (it.store.scalar x)
+    pub held-typed : IsValue table.limit t (it.store.scalar x)
     held-typed =
         are.iteration.store.scalar x (holds-scalar table its x (ap (λ ds. is Sorts.Scalar (variable_at ds x)) are.declarations ∙ (both-true (is Sorts.Scalar (variable_at c.declarations x)) _ register).0))
 
-    value-typed : IfOk (evaluated e u).rest (IsValue table.limit t)
+    pub value-typed : IfOk (evaluated e u).rest (IsValue table.limit t)
     value-typed =
         let all = (both-true (all_have_types table.declarations (T.Scalar x at ∷ []) (e ∷ [])) (fits_targets table.declarations r (T.Scalar x at ∷ [])) are.statement.typed).0 in
         let one = (both-true (has_type table.declarations t e) true all).0 in
@@ -227,23 +259,12 @@ module _ (c : Layout) (table : TypeTable) (its : List ℕ) (result : Option VTyp
         (split table.declarations (uses_in e) [] (split table.declarations (uses_of_targets (T.Scalar x at ∷ [])) (uses_in_all (e ∷ [])) are.statement.named).1).0
         (both-true (tells table its e) true are.statement.tells).0
 
-    abbrev by_one : Evaluated → Iteration
-    by_one a = with_ok it (alone (assigned u (T.Scalar x at) a)) (wrote_all it)
-
-    abbrev closed_with : Answer → Answer
-    closed_with a = then_with a (λ z. located u total.place (close r (it.store.scalar x) (z ∷ [])))
-
-    answered : (a : Answer) → IfOk a (IsValue table.limit t)
-        → with_ok it (alone (then_with (closed_with a) (λ y. Ok (Scalar x, y)))) (wrote_all it) ≡ with_ok it (kept_value r (it.store.scalar x) a) (λ y. wrote it (Scalar x, y))
-    answered (Err f) h = refl
-    answered (Ok y) h = ap (λ q. with_ok it (alone (then_with (located u total.place q) (λ y. Ok (Scalar x, y)))) (wrote_all it)) (close-picks r t (it.store.scalar x) y keeps held-typed.of_type h.of_type)
-
-    pub pick-at : does (S.Combine k total r (T.Scalar x at ∷ []) (e ∷ [])) m loop it ≡ with_ok it (kept_value r (it.store.scalar x) (evaluated e u).rest) (λ y. wrote it (Scalar x, y))
-    pick-at =
-        ap (λ z. reduced (later z AtOnce) u it total r (T.Scalar x at ∷ []) (e ∷ [])) at_once
-        ∙ ap by_one (combined-is r u total.place (evaluated (S.Var x at) u) (evaluated e u) (keeps-asks r keeps))
-        ∙ ap (λ o. with_ok it (alone (unless_fault o (then_with (closed_with (evaluated e u).rest) (λ y. Ok (Scalar x, y))))) (wrote_all it)) none
-        ∙ answered (evaluated e u).rest value-typed
+  -- a pick is the setting of its local
+  pub pick-at : (m : Mode) (k : Key) (total : TotalKey) (r : Reduce) (x : ℕ) (at : Place) (e : Expr) (it : Iteration) → scalar_ends m (loop.depth x) ≡ AtOnce → keeps_tuples r ≡ true → is_local c x ≡ true
+      → Typed (S.Combine k total r (T.Scalar x at ∷ []) (e ∷ [])) it → (evaluated e (view_in loop m it k)).hoisted ≡ None
+      → does (S.Combine k total r (T.Scalar x at ∷ []) (e ∷ [])) m loop it ≡ with_ok it (kept_value r (it.store.scalar x) (evaluated e (view_in loop m it k)).rest) (λ y. wrote it (Scalar x, y))
+  pick-at m k total r x at e it at_once keeps local typed none =
+      pick-of loop m k total r x at e it at_once keeps table.limit (type_at table.declarations x) (held-typed m k total r x at e it local typed) (value-typed m k total r x at e it local typed) none
 
   -- in an own body a local takes a value at once
   own-now : ((x : ℕ) → loop.depth x ≡ (variable_at c.declarations x).depth) → (x : ℕ) → is_local c x ≡ true → scalar_ends Outermost (loop.depth x) ≡ AtOnce

@@ -50,7 +50,7 @@ use Rattle.gm_lowering.specs.Blocks.{message_value, receiver_env, receiver_site}
 use Rattle.gm_lowering.specs.Showing.{answer_of, Tells}
 use Rattle.gm_lowering.specs.Sites.{are_of_scalars, finds, finds_scalar, finds_node, same_length, is_local, slot_at, given, phase_value, IsInGraph, HoldLocals, HoldProperties, IsApart}
 use Rattle.gm_lowering.specs.OwnLoops.{is_declared, puts_to_scalars, folds_to, HasSpares}
-use Rattle.gm_lowering.specs.MessageLoops.{has_load, receiver_finds, sets_nothing, receiver_gives, handler_lines, IsMessageLoop, load_value, Carries, is_to_scalars, is_to_nodes, ReceiverGave, MessageShows, RunEnds, HandlersAreTurns, is_inner_local, picks_inside, message_gives, is_inner_target, tuples_inside}
+use Rattle.gm_lowering.specs.MessageLoops.{has_load, receiver_finds, sets_nothing, receiver_gives, handler_lines, IsMessageLoop, load_value, Carries, is_to_scalars, is_to_nodes, ReceiverGave, MessageShows, RunEnds, HandlersAreTurns, is_inner_local, picks_inside, inner_gives, is_inner_target, tuples_inside}
 use Rattle.gm_lowering.proofs.Bodies.{Ends as Ending, Holds}
 use Rattle.gm_lowering.proofs.Givens.{AllTell, are_scalars, values-all, none-hoisted, terms-of, slots-of, assigned-is, put-ends, node_slots, are_kept, node-numbers, node-slots, folds-way, node-in}
 use Rattle.gm_lowering.proofs.Own.{after-set, live-same, phase-term, global-has_value, global-no_register}
@@ -619,7 +619,7 @@ module _ (c : Layout) (seg : Segment) (loop : Loop) (i k j edge registers fields
         (held-typed c table around result loop m key total r t u ts es it k x.some ready.0) (new-typed c table around result loop m key total r t u ts es it k x.some ready.0))
 
     message-case : (kind : ℕ) (key : Key) (total : TotalKey) (r : Reduce) (ts : List Target) (es : List Expr) (it : Iteration) (w : VertexState) (rest : List Line)
-        → message_gives c i found r ts es ≡ true → Ready kind (S.Combine key total r ts es) it → Shows it w
+        → inner_gives c i found r ts es ≡ true → Ready kind (S.Combine key total r ts es) it → Shows it w
         → let out = does (S.Combine key total r ts es) m loop it in
         Ended (reduce_lines (receiver_site c seg n i loads) kind (way_of c.declarations i ts) key total r ts (map (term v key) es)) rest w out out.fault
     message-case kind key total r ts es it w rest o typed q = by (receiver_gives c i found r ts es) refl where
@@ -632,7 +632,7 @@ module _ (c : Layout) (seg : Segment) (loop : Loop) (i k j edge registers fields
           (λ h. pick-case kind key total r ts es it w rest h typed.0 q) (λ h. tuple-case kind key total r ts es it w rest h typed q)
 
     -- a receiver's site holds
-    pub receiver-holds : Holds (receiver_site c seg n i loads) loop m s run Shows (ReceiverGave c v) found sets_nothing (message_gives c i found) Ready
+    pub receiver-holds : Holds (receiver_site c seg n i loads) loop m s run Shows (ReceiverGave c v) found sets_nothing (inner_gives c i found) Ready
     receiver-holds =
         let types = parts-typed c table around result loop m in
         record {
@@ -647,7 +647,7 @@ module _ (c : Layout) (seg : Segment) (loop : Loop) (i k j edge registers fields
           local = local;
           property = λ key x p at e it w rest o f q. absurd (both_ways false refl o);
           placed_first = λ kind a b it h. (types.first a b it h.0, spares-first c registers (body_positions c.declarations a) (body_positions c.declarations b) h.1);
-          placed_second = λ kind a b it h. (types.second a b it h.0, spares-second c registers (body_positions c.declarations a) (body_positions c.declarations b) h.1);
+          placed_second = λ kind a b it h e. (types.second a b it h.0, spares-second c registers (body_positions c.declarations a) (body_positions c.declarations b) h.1);
           placed_yes = λ kind k e a b it h. (types.yes k e a b it h.0, spares-first c registers (body_positions c.declarations a) (body_positions c.declarations b) h.1);
           placed_no = λ kind k e a b it h. (types.no k e a b it h.0, spares-second c registers (body_positions c.declarations a) (body_positions c.declarations b) h.1);
           reduce = λ kind key total r ts es it w rest o h q. message-case kind key total r ts es it w rest o h q;
@@ -722,7 +722,7 @@ module _ (c : Layout) (seg : Segment) (registers : List VType) (fields : ℕ) (l
   handler-run typed =
       let sh = Shows c seg loop i k s.node edge (length registers) fields loads s able.apart able.outer able.inner able.two able.types able.depths in
       ends-as out.fault (
-      filtered-ends (receiver_site c seg loop.outer i loads) loop (AtEdge edge) s (lines_after s) sh (ReceiverGave c w_env) (receiver_finds c loop.outer i loads) sets_nothing (message_gives c i (receiver_finds c loop.outer i loads))
+      filtered-ends (receiver_site c seg loop.outer i loads) loop (AtEdge edge) s (lines_after s) sh (ReceiverGave c w_env) (receiver_finds c loop.outer i loads) sets_nothing (inner_gives c i (receiver_finds c loop.outer i loads))
       (receiver-holds c seg loop i k s.node edge (length registers) fields loads s able.apart able.outer able.inner able.two able.types able.depths table around result)
       key test body kind able.found able.fits start (typed, able.spares) first [] begins)
 

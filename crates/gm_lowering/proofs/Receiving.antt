@@ -45,7 +45,7 @@ use Rattle.gm_lowering.specs.Blocks.{receiver_env}
 use Rattle.gm_lowering.specs.Showing.{fault_of}
 use Rattle.gm_lowering.specs.Sites.{slot_at, given, finds, same_length, IsInGraph, is_body}
 use Rattle.gm_lowering.specs.OwnLoops.{NodeShows, puts_to_scalars, is_declared, are_any, folds_to}
-use Rattle.gm_lowering.specs.MessageLoops.{has_load, receiver_finds, sets_nothing, receiver_gives, handler_lines, IsMessageLoop, MessageShows, is_to_scalars, is_to_nodes, ReceiverGave, RunEnds, picks_inside, message_gives, TurnsTyped, tuples_inside}
+use Rattle.gm_lowering.specs.MessageLoops.{has_load, receiver_finds, sets_nothing, receiver_gives, handler_lines, IsMessageLoop, MessageShows, is_to_scalars, is_to_nodes, ReceiverGave, RunEnds, picks_inside, inner_gives, TurnsTyped, tuples_inside}
 use Rattle.gm_lowering.specs.Phases.{GivesApart}
 use Rattle.gm_lowering.specs.Receiving.{receive_block, turn_of, given_by, faults_by, IsMessageOf, Receives, inner_spots, ReceivingStepsAreTurns}
 use Rattle.gm_lowering.specs.Settles.{HasSpot, fault_or_none, AreHeld, AreGiven, SettlesAlike, spot_of_fault, HaveRoom}
@@ -99,8 +99,8 @@ gives-weaker c i found other r ts es f h =
       or-right true k = refl
       or-right false k = k
 
-message-weaker : (c : Layout) (i : ℕ) (found other : Expr → Bool) (r : Reduce) (ts : List Target) (es : List Expr) → ((e : Expr) → found e ≡ true → other e ≡ true) → message_gives c i found r ts es ≡ true → message_gives c i other r ts es ≡ true
-message-weaker c i found other r ts es f h =
+pub inner-weaker : (c : Layout) (i : ℕ) (found other : Expr → Bool) (r : Reduce) (ts : List Target) (es : List Expr) → ((e : Expr) → found e ≡ true → other e ≡ true) → inner_gives c i found r ts es ≡ true → inner_gives c i other r ts es ≡ true
+inner-weaker c i found other r ts es f h =
     or-cases (receiver_gives c i found r ts es) (picks_inside c found r ts es || tuples_inside c found r ts es) h
     (λ k. ap (λ b. b || (picks_inside c other r ts es || tuples_inside c other r ts es)) (gives-weaker c i found other r ts es f k))
     (λ k. or-right (receiver_gives c i other r ts es)
@@ -251,8 +251,8 @@ module _ (c : Layout) (p : image.Program) (fields base : ℕ) (all : List Spot) 
   loosen : (e : Expr) → receiver_finds c n i loads e ≡ true → loose e ≡ true
   loosen e h = (both-true (loose e) (list_all (has_load loads) (loads_in n e)) h).0
 
-  fits : is_body c loose sets_nothing (message_gives c i loose) body ≡ true
-  fits = body-weaker c (receiver_finds c n i loads) loose sets_nothing (message_gives c i (receiver_finds c n i loads)) (message_gives c i loose) loosen (λ r' ts es h. message-weaker c i (receiver_finds c n i loads) loose r' ts es loosen h) body able.fits
+  fits : is_body c loose sets_nothing (inner_gives c i loose) body ≡ true
+  fits = body-weaker c (receiver_finds c n i loads) loose sets_nothing (inner_gives c i (receiver_finds c n i loads)) (inner_gives c i loose) loosen (λ r' ts es h. inner-weaker c i (receiver_finds c n i loads) loose r' ts es loosen h) body able.fits
 
   in-two : (x : ℕ) → is_in its x ≡ true → (x ≡ n) ⊎ (x ≡ i)
   in-two x o = by (nat_eq x n) (nat_eq x i) refl refl o where
@@ -308,7 +308,7 @@ module _ (c : Layout) (p : image.Program) (fields base : ℕ) (all : List Spot) 
     abbrev body_spots : List Spot
     body_spots = spots_of c i its false body
 
-    reductions-left : (k : Key) (total : TotalKey) (r' : Reduce) (ts : List Target) (es : List Expr) (it : Iteration) → message_gives c i loose r' ts es ≡ true → Ready (P.Combine k total r' ts es) it → it.fault ≡ None → HoldNodes g its home it
+    reductions-left : (k : Key) (total : TotalKey) (r' : Reduce) (ts : List Target) (es : List Expr) (it : Iteration) → inner_gives c i loose r' ts es ≡ true → Ready (P.Combine k total r' ts es) it → it.fault ≡ None → HoldNodes g its home it
         → Left c its true loop m home (does (P.Combine k total r' ts es) m loop it) (spots_in_all es k ++ reduce_spots false its (way_of c.declarations i ts) k total ts)
     reductions-left k total r' ts es it o y e h =
         or-cases (receiver_gives c i loose r' ts es) (picks_inside c loose r' ts es || tuples_inside c loose r' ts es) o
@@ -321,13 +321,13 @@ module _ (c : Layout) (p : image.Program) (fields base : ℕ) (all : List Spot) 
         (λ z. pick-left c its i loop x.1.edge home able.depths no_locals table around result k total r' ts es it z y e h)
         (λ z. keep-left c its i loop x.1.edge home able.depths no_locals table around result outer-in k total r' ts es it z y e h))
 
-    left-body : (st : Stmt) → is_body c loose sets_nothing (message_gives c i loose) st ≡ true → (it : Iteration) → Ready st it → it.fault ≡ None → HoldNodes g its home it
+    left-body : (st : Stmt) → is_body c loose sets_nothing (inner_gives c i loose) st ≡ true → (it : Iteration) → Ready st it → it.fault ≡ None → HoldNodes g its home it
         → Left c its true loop m home (does st m loop it) (spots_of c i its false st)
     left-body st o it y e h =
-        body-left c its true loop m home i false sets_nothing (message_gives c i loose) Ready (parts-typed c table around result loop m) no_locals (λ y q f. absurd (both_ways false refl f))
+        body-left c its true loop m home i false sets_nothing (inner_gives c i loose) Ready (parts-typed c table around result loop m) no_locals (λ y q f. absurd (both_ways false refl f))
         (λ j' total r' ts es it' o' y' f' q'. reductions-left j' total r' ts es it' o' y' f' q') st o it y e h
 
-    reductions-give : (k : Key) (total : TotalKey) (r' : Reduce) (ts : List Target) (es : List Expr) (it : Iteration) → message_gives c i loose r' ts es ≡ true → Ready (P.Combine k total r' ts es) it → HoldNodes g its home it
+    reductions-give : (k : Key) (total : TotalKey) (r' : Reduce) (ts : List Target) (es : List Expr) (it : Iteration) → inner_gives c i loose r' ts es ≡ true → Ready (P.Combine k total r' ts es) it → HoldNodes g its home it
         → ((f : Spot) → HasSpot f (reduce_spots false its (way_of c.declarations i ts) k total ts) → HasSpot f all)
         → Gives (IsReceived c j all) it → Gives (IsReceived c j all) (does (P.Combine k total r' ts es) m loop it)
     reductions-give k total r' ts es it o y h e q =
@@ -343,7 +343,7 @@ module _ (c : Layout) (p : image.Program) (fields base : ℕ) (all : List Spot) 
 
     give-body : (it : Iteration) → Ready body it → it.fault ≡ None → HoldNodes g its home it → Gives (IsReceived c j all) it → Gives (IsReceived c j all) (does body m loop it)
     give-body it y e h q =
-        body-gives c i its false loop m loose sets_nothing (message_gives c i loose) (IsReceived c j all) all (HoldNodes g its home) Ready (parts-typed c table around result loop m)
+        body-gives c i its false loop m loose sets_nothing (inner_gives c i loose) (IsReceived c j all) all (HoldNodes g its home) Ready (parts-typed c table around result loop m)
         (λ st o it' y' e' h'. (left-body st o it' y' e' h').1)
         (λ k total r' ts es it' o y' h' e' q'. reductions-give k total r' ts es it' o y' h' e' q')
         body fits (λ f z. incl f (spot-right f (spots_in test key) body_spots z)) it y e h q

@@ -5,6 +5,7 @@ use Rattle.std.specs.List.{list_all}
 use Rattle.std.proofs.lemmas.Bool.{both_ways, ne_eqb, eq-eqb, eqb-true, eqb-false, ltb-true}
 use Rattle.std.proofs.lemmas.List.{append-nil}
 use Rattle.gm_base.specs.declared.places.Place.{Place}
+use Rattle.gm_value.specs.declared.values.VType.{VType}
 use Rattle.gm_value.specs.declared.values.Value.{Value}
 use Rattle.gm_value.specs.declared.values.Value.TheVariants.{Flag, At}
 use Rattle.gm_value.specs.declared.reductions.Reduce.{Reduce}
@@ -32,6 +33,7 @@ use Rattle.gm_semantics.specs.Levels.{node_in}
 use Rattle.gm_semantics.specs.Loops.{iteration}
 use Rattle.gm_semantics.specs.Statements.{variable_at}
 use Rattle.gm_semantics.specs.Stores.{Store, write}
+use Rattle.gm_typed_stores.specs.Tells.{TypeTable}
 use Rattle.gm_image.specs.Term as T
 use Rattle.gm_image.specs.Term.{Term}
 use Rattle.gm_image.specs.Program as image
@@ -53,7 +55,7 @@ use Rattle.gm_lowering.specs.Blocks.{direction_of, each_lines, own_site}
 use Rattle.gm_lowering.specs.Showing.{fault_of, answer_of}
 use Rattle.gm_lowering.specs.Sites.{given, finds, is_body, IsInGraph, HoldProperties, OwnGave, same_length}
 use Rattle.gm_lowering.specs.OwnLoops.{own_finds, own_sets, puts_to_scalars, own_gives, IsOwnLoop, NodeShows, folds_to}
-use Rattle.gm_lowering.specs.MessageLoops.{sets_nothing, receiver_gives, is_to_scalars, is_to_nodes}
+use Rattle.gm_lowering.specs.MessageLoops.{sets_nothing, receiver_gives, picks_inside, tuples_inside, inner_gives, TurnsTyped, is_to_scalars, is_to_nodes}
 use Rattle.gm_lowering.specs.Phases.{EdgesShown}
 use Rattle.gm_lowering.specs.Receiving.{turn_of}
 use Rattle.gm_lowering.specs.TwoSupersteps.{IsInside, StepsWithin}
@@ -65,13 +67,15 @@ use Rattle.gm_lowering.specs.SenderSteps.{AreSent, SendsAs, SendingStepsAreItera
 use Rattle.gm_lowering.proofs.Bodies.{value-of}
 use Rattle.gm_lowering.proofs.FoldFacts.{body-weaker, fold-left, IsReceived, put-received, fold-gives}
 use Rattle.gm_lowering.proofs.Orders.{lesser-lower}
-use Rattle.gm_lowering.proofs.Own.{Shows}
+use Rattle.gm_lowering.proofs.Own.{Shows, own-giving}
 use Rattle.gm_lowering.proofs.OwnGives.{own-holds}
 use Rattle.gm_lowering.proofs.Supersteps.{least-parts}
 use Rattle.gm_lowering.proofs.OwnSteps.{body-alone, begins}
 use Rattle.gm_lowering.proofs.PutFacts.{put-left, IsPut, put-gives-at}
-use Rattle.gm_lowering.proofs.Receiving.{or-cases, gives-weaker}
-use Rattle.gm_lowering.proofs.Spots.{Has, HoldNodes, Left, Within, spot-left, has-right, reads, value-within, body-left, spot-right, Free, free}
+use Rattle.gm_lowering.proofs.InnerPicks.{pick-left, pick-gives, keep-left, keep-gives}
+use Rattle.gm_lowering.proofs.Picks.{Typed, parts-typed}
+use Rattle.gm_lowering.proofs.Receiving.{or-cases, inner-weaker}
+use Rattle.gm_lowering.proofs.Spots.{Has, HoldNodes, Left, Within, spot-left, has-right, reads, value-within, body-left, spot-right}
 use Rattle.gm_lowering.proofs.SenderTurns.{sends-way, sending-turns}
 use Rattle.gm_lowering.proofs.Givens.{are_kept, folds-way, node-in}
 use Rattle.gm_lowering.proofs.Kept.{Gives, body-gives}
@@ -126,9 +130,10 @@ record TurnsSent (c : Layout) (v : Env) (kind : ℕ) (as' : List Away) (g : Numb
   deferred : joined (map (λ t. t.deferred) turns) ≡ []
 
 module _ (c : Layout) (p : image.Program) (fields base : ℕ) (all : List Spot) (loop : Loop) (kind : ℕ) (mask_key : Key) (mask : Expr) (key : Key) (place : Place) (h : Head) (test : Expr) (body : Stmt)
-    (globals fs : List Value) (k : ℕ) (r : Store)
+    (globals fs : List Value) (k : ℕ) (r : Store) (table : TypeTable) (around : List ℕ) (result : Option VType)
     (outer : HasEach c loop mask h)
     (able : IsSenderLoop c p.registers fields loop h.iterator test body)
+    (typed : TurnsTyped c table around result loop h.iterator body r)
     (incl : (f : Spot) → HasSpot f (each_spots c loop.outer h.iterator key test body) → HasSpot f all)
     (shows : NodeShows c loop.graph p.registers fields globals fs k r)
     (edges : EdgesShown c loop.graph r)
@@ -196,7 +201,7 @@ module _ (c : Layout) (p : image.Program) (fields base : ℕ) (all : List Spot) 
   one e w = lines_after (record s { near = e }) lines 0 w
 
   one-ends : (e : Step) → IsInside g e → (w : VertexState) → length w.registers ≡ length p.registers → w.fields ≡ fs → SendingEnds c v kind sends e.node w (turn e) (one e w) (turn e).fault
-  one-ends e lt w count same = sending-turns c seg p.registers fields loop i kind key test body (record s { near = e }) w from able (edge-shows e lt w count same)
+  one-ends e lt w count same = sending-turns c seg p.registers fields loop i kind key test body (record s { near = e }) w from table around result able (typed k e.node shows.inside lt.0) (edge-shows e lt w count same)
 
   fault-part : (j : ℕ) (it : Iteration) (w : VertexState) (a : After) (o : Option Fault) → SendingEnds c v kind sends j w it a o → a.fault ≡ fault_or_none v o
   fault-part j it w a None e = e.0
@@ -257,8 +262,8 @@ module _ (c : Layout) (p : image.Program) (fields base : ℕ) (all : List Spot) 
   loosen : (e : Expr) → home_finds c n i e ≡ true → loose e ≡ true
   loosen e o = (both-true (loose e) (list_all is_at_edge (loads_in i e)) o).0
 
-  fits : is_body c loose sets_nothing (receiver_gives c i loose) body ≡ true
-  fits = body-weaker c (home_finds c n i) loose sets_nothing (receiver_gives c i (home_finds c n i)) (receiver_gives c i loose) loosen (λ r' ts es o. gives-weaker c i (home_finds c n i) loose r' ts es loosen o) body able.fits
+  fits : is_body c loose sets_nothing (inner_gives c i loose) body ≡ true
+  fits = body-weaker c (home_finds c n i) loose sets_nothing (inner_gives c i (home_finds c n i)) (inner_gives c i loose) loosen (λ r' ts es o. inner-weaker c i (home_finds c n i) loose r' ts es loosen o) body able.fits
 
   in-two : (x : ℕ) → is_in its x ≡ true → (x ≡ n) ⊎ (x ≡ i)
   in-two x o = by (nat_eq x n) (nat_eq x i) refl refl o where
@@ -276,6 +281,15 @@ module _ (c : Layout) (p : image.Program) (fields base : ℕ) (all : List Spot) 
 
     abbrev start : Iteration
     start = begun (write from (slots.Scalar i) (At (Some e.node)))
+
+    abbrev Ready : Stmt → Iteration → Type 0
+    Ready = Typed c table around result loop
+
+    typed-start : Ready body start
+    typed-start = typed k e.node shows.inside lt.0
+
+    in-n : is_in its n ≡ true
+    in-n = ap (λ b. b || (nat_eq n i || false)) (eq-eqb n n refl)
 
     abbrev home : ℕ → ℕ
     home y = if nat_eq i y then e.node else k
@@ -314,10 +328,10 @@ module _ (c : Layout) (p : image.Program) (fields base : ℕ) (all : List Spot) 
           either [] q = ⊎_elim (λ (e : spot_of_total total ≡ z). inl e) (λ (w : ⊥). absurd w) q
           either (y ∷ ys) q = ⊎_elim (λ (e : y ≡ z). inl e) (λ (w : HasSpot z (ys ++ spot_of_total total ∷ [])). inr (either ys w)) q
 
-    reductions-left : (j : Key) (total : TotalKey) (r' : Reduce) (ts : List Target) (es : List Expr) (it : Iteration) → receiver_gives c i loose r' ts es ≡ true → it.fault ≡ None → HoldNodes g its home it
+    ended-left : (j : Key) (total : TotalKey) (r' : Reduce) (ts : List Target) (es : List Expr) (it : Iteration) → receiver_gives c i loose r' ts es ≡ true → it.fault ≡ None → HoldNodes g its home it
         → Left c its true loop m home (does (P.Combine j total r' ts es) m loop it) (spots_in_all es j ++ reduce_spots false its (way_of c.declarations n ts) j total ts)
-    reductions-left j total r' [] es it o f q = absurd (both_ways false refl o)
-    reductions-left j total r' (t ∷ ts) es it o f q =
+    ended-left j total r' [] es it o f q = absurd (both_ways false refl o)
+    ended-left j total r' (t ∷ ts) es it o f q =
         or-cases (puts_to_scalars c loose r' (t ∷ ts) es) (folds_to c i loose r' (t ∷ ts) es) o
         (λ z. put-left c its true false n loop m home able.depths j total r' (t ∷ ts) es it z f q)
         (λ z.
@@ -328,11 +342,19 @@ module _ (c : Layout) (p : image.Program) (fields base : ℕ) (all : List Spot) 
           l.1,
         ))
 
-    left-body : (st : Stmt) → is_body c loose sets_nothing (receiver_gives c i loose) st ≡ true → (it : Iteration) → it.fault ≡ None → HoldNodes g its home it
+    reductions-left : (j : Key) (total : TotalKey) (r' : Reduce) (ts : List Target) (es : List Expr) (it : Iteration) → inner_gives c i loose r' ts es ≡ true → Ready (P.Combine j total r' ts es) it → it.fault ≡ None → HoldNodes g its home it
+        → Left c its true loop m home (does (P.Combine j total r' ts es) m loop it) (spots_in_all es j ++ reduce_spots false its (way_of c.declarations n ts) j total ts)
+    reductions-left j total r' ts es it o y f q =
+        or-cases (receiver_gives c i loose r' ts es) (picks_inside c loose r' ts es || tuples_inside c loose r' ts es) o (λ z. ended-left j total r' ts es it z f q) (λ p'.
+        or-cases (picks_inside c loose r' ts es) (tuples_inside c loose r' ts es) p'
+        (λ z. pick-left c its n loop e.edge home able.depths no_locals table around result j total r' ts es it z y f q)
+        (λ z. keep-left c its n loop e.edge home able.depths no_locals table around result in-n j total r' ts es it z y f q))
+
+    left-body : (st : Stmt) → is_body c loose sets_nothing (inner_gives c i loose) st ≡ true → (it : Iteration) → Ready st it → it.fault ≡ None → HoldNodes g its home it
         → Left c its true loop m home (does st m loop it) (spots_of c n its false st)
-    left-body st o it f q =
-        body-left c its true loop m home n false sets_nothing (receiver_gives c i loose) Free (free loop m) no_locals (λ y z o'. absurd (both_ways false refl o'))
-        (λ j' total r' ts es it' o' y' f' q'. reductions-left j' total r' ts es it' o' f' q') st o it tt f q
+    left-body st o it y f q =
+        body-left c its true loop m home n false sets_nothing (inner_gives c i loose) Ready (parts-typed c table around result loop m) no_locals (λ y' z o'. absurd (both_ways false refl o'))
+        (λ j' total r' ts es it' o' y' f' q'. reductions-left j' total r' ts es it' o' y' f' q') st o it y f q
 
     -- what is given is received at the neighbour, or goes to scalars
     total-in : (j : Key) (total : TotalKey) (t : Target) (ts : List Target) → are_kept c i (t ∷ ts) ≡ true → ((f : Spot) → HasSpot f (reduce_spots false its (way_of c.declarations n (t ∷ ts)) j total (t ∷ ts)) → HasSpot f all)
@@ -341,21 +363,30 @@ module _ (c : Layout) (p : image.Program) (fields base : ℕ) (all : List Spot) 
         incl' f (subst (λ w. HasSpot f (reduce_spots false its w j total (t ∷ ts))) (sym (sends-way c n i t ts able.two x))
         (⊎_elim (λ (e : spot_of_total total ≡ f). inl e) (λ (w : ⊥). absurd w) (subst (λ w. HasSpot f (reduce_spots false its w j total (t ∷ ts))) (folds-way c i t ts x) q)))
 
-    reductions-give : (j : Key) (total : TotalKey) (r' : Reduce) (ts : List Target) (es : List Expr) (it : Iteration) → receiver_gives c i loose r' ts es ≡ true → HoldNodes g its home it
+    ended-give : (j : Key) (total : TotalKey) (r' : Reduce) (ts : List Target) (es : List Expr) (it : Iteration) → receiver_gives c i loose r' ts es ≡ true → HoldNodes g its home it
         → ((f : Spot) → HasSpot f (reduce_spots false its (way_of c.declarations n ts) j total ts) → HasSpot f all)
         → Gives (IsReceived c e.node all) it → Gives (IsReceived c e.node all) (does (P.Combine j total r' ts es) m loop it)
-    reductions-give j total r' [] es it o q f a = absurd (both_ways false refl o)
-    reductions-give j total r' (t ∷ ts) es it o q f a =
+    ended-give j total r' [] es it o q f a = absurd (both_ways false refl o)
+    ended-give j total r' (t ∷ ts) es it o q f a =
         or-cases (puts_to_scalars c loose r' (t ∷ ts) es) (folds_to c i loose r' (t ∷ ts) es) o
         (λ z. put-gives-at c its true false n loop m home able.depths all (IsReceived c e.node all) (put-received c e.node all) j total r' (t ∷ ts) es it z q f a)
         (λ z. fold-gives c its true i e.node loop m home able.two all j total r' (t ∷ ts) es it z q (at-j it q) (total-in j total t ts (both-true (are_kept c i (t ∷ ts)) (same_length (t ∷ ts) es && list_all loose es) z).0 f) a)
 
-    give-body : (it : Iteration) → it.fault ≡ None → HoldNodes g its home it → Gives (IsReceived c e.node all) it → Gives (IsReceived c e.node all) (does body m loop it)
-    give-body it f q a =
-        body-gives c n its false loop m loose sets_nothing (receiver_gives c i loose) (IsReceived c e.node all) all (HoldNodes g its home) Free (free loop m)
-        (λ st o it' y' f' q'. (left-body st o it' f' q').1)
-        (λ j total r' ts es it' o y' q' f' a'. reductions-give j total r' ts es it' o q' f' a')
-        body fits (λ f' z. incl f' (spot-right f' (spots_in test key) body_spots z)) it tt f q a
+    reductions-give : (j : Key) (total : TotalKey) (r' : Reduce) (ts : List Target) (es : List Expr) (it : Iteration) → inner_gives c i loose r' ts es ≡ true → Ready (P.Combine j total r' ts es) it → HoldNodes g its home it
+        → ((f : Spot) → HasSpot f (reduce_spots false its (way_of c.declarations n ts) j total ts) → HasSpot f all)
+        → Gives (IsReceived c e.node all) it → Gives (IsReceived c e.node all) (does (P.Combine j total r' ts es) m loop it)
+    reductions-give j total r' ts es it o y q f a =
+        or-cases (receiver_gives c i loose r' ts es) (picks_inside c loose r' ts es || tuples_inside c loose r' ts es) o (λ z. ended-give j total r' ts es it z q f a) (λ p'.
+        or-cases (picks_inside c loose r' ts es) (tuples_inside c loose r' ts es) p'
+        (λ z. pick-gives c its n loop e.edge home able.depths no_locals table around result (IsReceived c e.node all) j total r' ts es it z y q a)
+        (λ z. keep-gives c its n loop e.edge home able.depths no_locals table around result in-n (IsReceived c e.node all) j total r' ts es it z y q a))
+
+    give-body : (it : Iteration) → Ready body it → it.fault ≡ None → HoldNodes g its home it → Gives (IsReceived c e.node all) it → Gives (IsReceived c e.node all) (does body m loop it)
+    give-body it y f q a =
+        body-gives c n its false loop m loose sets_nothing (inner_gives c i loose) (IsReceived c e.node all) all (HoldNodes g its home) Ready (parts-typed c table around result loop m)
+        (λ st o it' y' f' q'. (left-body st o it' y' f' q').1)
+        (λ j total r' ts es it' o y' q' f' a'. reductions-give j total r' ts es it' o y' q' f' a')
+        body fits (λ f' z. incl f' (spot-right f' (spots_in test key) body_spots z)) it y f q a
 
     turn-gives : Gives (IsReceived c e.node all) (turn e)
     turn-gives = by (value test (view_in loop m start key)) where
@@ -363,7 +394,7 @@ module _ (c : Layout) (p : image.Program) (fields base : ℕ) (all : List Spot) 
       nothing = record { outermost = λ y z. absurd z; inner = λ y z. absurd z }
 
       way : (b : Bool) → Gives (IsReceived c e.node all) (one_way b (does body m loop) as_it_is start)
-      way true = give-body start refl holds nothing
+      way true = give-body start typed-start refl holds nothing
       way false = nothing
 
       by : (a : Result Value Fault) → Gives (IsReceived c e.node all) (with_ok start a (λ z. one_way (is_true z) (does body m loop) as_it_is start))
@@ -377,7 +408,7 @@ module _ (c : Layout) (p : image.Program) (fields base : ℕ) (all : List Spot) 
     turn-left : Has (turn e).fault all
     turn-left = by (value test (view_in loop m start key)) (value-within (view_in loop m start key) test refl (reads c its true loop m home start key test (loosen test able.found) holds)) where
       way : (b : Bool) → Has (one_way b (does body m loop) as_it_is start).fault all
-      way true = has-all (does body m loop start).fault (has-right (does body m loop start).fault (spots_in test key) body_spots (left-body body fits start refl holds).0)
+      way true = has-all (does body m loop start).fault (has-right (does body m loop start).fault (spots_in test key) body_spots (left-body body fits start typed-start refl holds).0)
       way false = tt
 
       by : (a : Result Value Fault) → Within a (spots_in test key) → Has (with_ok start a (λ z. one_way (is_true z) (does body m loop) as_it_is start)).fault all
@@ -535,8 +566,8 @@ module _ (c : Layout) (p : image.Program) (fields base : ℕ) (all : List Spot) 
   mask-value : term_value (view s first) (term ov mask_key mask) ≡ answer_of ov (value mask (view_in loop Outermost begun_at mask_key))
   mask-value =
       value-of (own_site c seg n) loop Outermost s (body_after (length p.places) s)
-      (Shows c seg loop k (length p.registers) fields (length p.places) s able.apart able.outer able.types able.depths) (OwnGave c ov) (own_finds c n) (own_sets c n) (own_gives c n (own_finds c n))
-      (own-holds c seg loop k (length p.registers) fields (length p.places) s able.apart able.outer able.types able.depths (record { limit = 0; declarations = []; inputs = 0 }) [] None) begun_at first mask_key mask outer.found
+      (Shows c seg loop k (length p.registers) fields (length p.places) s able.apart able.outer able.types able.depths (λ it' w'. OwnGave c ov it' w') (own-giving c ov)) (OwnGave c ov) (own_finds c n) (own_sets c n) (own_gives c n (own_finds c n))
+      (own-holds c seg loop k (length p.registers) fields (length p.places) s able.apart able.outer able.types able.depths (λ it' w'. OwnGave c ov it' w') (own-giving c ov) (record { limit = 0; declarations = []; inputs = 0 }) [] None) begun_at first mask_key mask outer.found
       (begins c seg p fields loop kind mask_key mask P.Skip globals fs k r mask-loop shows)
 
   pub sending-step : As (iteration loop mask_key mask inner r k) (vertex_after p (home_block c seg n kind mask_key mask h key test body) s [] fs)
@@ -571,5 +602,5 @@ module _ (c : Layout) (p : image.Program) (fields base : ℕ) (all : List Spot) 
     by (Err f) w = (masks (spot_of_fault f) w, λ y o z. absurd z)
 
 pub sending-steps : SendingStepsAreIterations
-sending-steps c p fields base all loop kind mask_key mask key place h test body globals fs k r outer able incl shows edges within =
-    sending-step c p fields base all loop kind mask_key mask key place h test body globals fs k r outer able incl shows edges within
+sending-steps c p fields base all loop kind mask_key mask key place h test body globals fs k r table around result outer able typed incl shows edges within =
+    sending-step c p fields base all loop kind mask_key mask key place h test body globals fs k r table around result outer able typed incl shows edges within

@@ -4,6 +4,7 @@ use Rattle.std.specs.Prelude.{◌+◌, ◌&&◌, ◌||◌, nat_lt, if◌then◌e
 use Rattle.std.specs.List.{list_all, flat_map, enumerate_from}
 use Rattle.std.proofs.lemmas.Bool.{both_ways, ne_eqb, ltb-true, lt-ltb}
 use Rattle.std.proofs.Math.Path.{fun_ext}
+use Rattle.gm_value.specs.declared.values.VType.{VType}
 use Rattle.gm_value.specs.declared.values.Value.{Value}
 use Rattle.gm_value.specs.Bag.{IsIn}
 use Rattle.gm_value.specs.Numbers.{zero_of}
@@ -19,6 +20,7 @@ use Rattle.gm_semantics.specs.declared.slots.Slot.{Slot}
 use Rattle.gm_semantics.specs.declared.slots.Slot.TheVariants as slots
 use Rattle.gm_semantics.specs.Contributions as S
 use Rattle.gm_semantics.specs.Stores as St
+use Rattle.gm_typed_stores.specs.Tells.{TypeTable}
 use Rattle.gm_semantics.specs.Contributions.{Contribution, total_faults, settled_store}
 use Rattle.gm_semantics.specs.Faults.{least, somes, joined, unless_fault}
 use Rattle.gm_semantics.specs.Faults as F
@@ -54,7 +56,7 @@ use Rattle.gm_lowering.specs.HomeSteps.{home_block, each_spots, HasEach}
 use Rattle.gm_lowering.specs.HomeLoops.{home_spots}
 use Rattle.gm_lowering.specs.TwoSupersteps.{StepsWithin}
 use Rattle.gm_lowering.specs.Plans.{Away, aways}
-use Rattle.gm_lowering.specs.MessageLoops.{is_to_scalars, is_to_nodes}
+use Rattle.gm_lowering.specs.MessageLoops.{is_to_scalars, is_to_nodes, TurnsTyped}
 use Rattle.gm_lowering.specs.SenderLoops.{TotalsLast, TwoStepsAre, SendingLoopsAreTwoSupersteps}
 use Rattle.gm_lowering.specs.TakingSteps.{taking_block, Carried, IsTaken, contributions_of}
 use Rattle.gm_lowering.specs.Takings.{slots_at}
@@ -81,8 +83,10 @@ map-append f [] ys = refl
 map-append f (x ∷ xs) ys = ap (λ l. f x ∷ l) (map-append f xs ys)
 
 module _ (c : Layout) (p : image.Program) (fields base q kind : ℕ) (loop : Loop) (mask_key : Key) (mask : Expr) (key : Key) (place : Place) (h : Head) (test : Expr) (body : Stmt) (globals : List Value) (s : Nodes) (r : Store)
+    (table : TypeTable) (around : List ℕ) (result : Option VType)
     (outer : HasEach c loop mask h)
     (able : IsSenderLoop c p.registers fields loop h.iterator test body)
+    (typed : TurnsTyped c table around result loop h.iterator body r)
     (gs : GlobalsApart c (length globals))
     (fit : HaveRoom base (home_spots c loop.outer h.iterator mask_key mask key test body) (length p.places))
     (block : block_at p q ≡ home_block c (segment base (home_spots c loop.outer h.iterator mask_key mask key test body)) loop.outer kind mask_key mask h key test body)
@@ -140,10 +144,10 @@ module _ (c : Layout) (p : image.Program) (fields base q kind : ℕ) (loop : Loo
   masks f i = spot-left f (spots_in mask mask_key) (each_spots c n h.iterator key test body) i
 
   sends-at : (k : ℕ) → k < node_count g → SendsAs c v kind sends g (fields_at k) r (it k) (one_step (k, fields_at k))
-  sends-at k lt = sending-steps c p fields base all loop kind mask_key mask key place h test body globals (fields_at k) k r outer able incl (node-shows k lt) edges within
+  sends-at k lt = sending-steps c p fields base all loop kind mask_key mask key place h test body globals (fields_at k) k r table around result outer able typed incl (node-shows k lt) edges within
 
   spotted-at : (k : ℕ) → k < node_count g → Has (it k).fault all × ((y : Contribution) → is_to_scalars y ≡ true → IsIn y (it k).with_outermost → IsPut c all y)
-  spotted-at k lt = iteration-spotted c p fields base all loop kind mask_key mask key place h test body globals (fields_at k) k r outer able incl (node-shows k lt) edges within masks
+  spotted-at k lt = iteration-spotted c p fields base all loop kind mask_key mask key place h test body globals (fields_at k) k r table around result outer able typed incl (node-shows k lt) edges within masks
 
   -- all nodes from one on
   abbrev AllSend : ℕ → List (List Value) → Type 0
@@ -583,9 +587,9 @@ module _ (c : Layout) (p : image.Program) (fields base q kind : ℕ) (loop : Loo
         lead (Some y) o = ap (lesser_of (Some x)) o ∙ ap Some (last x y (least-is firsts x e).is_in (least-is seconds y o).is_in)
 
 pub sending-supersteps : SendingSuperstepsSend
-sending-supersteps c p fields base q kind loop mask_key mask key place h test body globals s r outer able gs fit block shown edges in_graph within apart =
-    sends-all c p fields base q kind loop mask_key mask key place h test body globals s r outer able gs fit block shown edges in_graph within apart
+sending-supersteps c p fields base q kind loop mask_key mask key place h test body globals s r table around result outer able typed gs fit block shown edges in_graph within apart =
+    sends-all c p fields base q kind loop mask_key mask key place h test body globals s r table around result outer able typed gs fit block shown edges in_graph within apart
 
 pub sending-loops : SendingLoopsAreTwoSupersteps
-sending-loops c p fields base q q2 kind loop mask_key mask key place h test body globals s r outer able gs fit block shown edges in_graph within apart block2 takes last =
-    two-steps c p fields base q kind loop mask_key mask key place h test body globals s r outer able gs fit block shown edges in_graph within apart q2 block2 takes last
+sending-loops c p fields base q q2 kind loop mask_key mask key place h test body globals s r table around result outer able typed gs fit block shown edges in_graph within apart block2 takes last =
+    two-steps c p fields base q kind loop mask_key mask key place h test body globals s r table around result outer able typed gs fit block shown edges in_graph within apart q2 block2 takes last

@@ -6,6 +6,7 @@ use Rattle.std.proofs.lemmas.List.{append-nil}
 use Rattle.std.proofs.lemmas.Bool.{both_ways, eqb-true}
 use Rattle.gm_value.specs.declared.values.VType.{VType}
 use Rattle.gm_value.specs.declared.values.Value.{Value}
+use Rattle.gm_value.specs.declared.values.Value.TheVariants.{At}
 use Rattle.gm_value.specs.declared.reductions.Reduce.{Reduce}
 use Rattle.gm_ast.specs.declared.tree.Key.{Key}
 use Rattle.gm_ast.specs.declared.tree.Target.{Target}
@@ -19,10 +20,11 @@ use Rattle.gm_semantics.specs.declared.slots.Slot.TheVariants.{Scalar, Node}
 use Rattle.gm_semantics.specs.Contributions.{Contribution}
 use Rattle.gm_semantics.specs.Expressions.{View, evaluated, evaluated_all}
 use Rattle.gm_semantics.specs.Faults.{then_with}
-use Rattle.gm_semantics.specs.Iterations.{Loop, Mode, AtEdge, WithInner, WithOutermost, Iteration, ends_of_all, view_in, failed, with_ok, contribution, gave_outermost, reduced, wrote, turn_at, does}
+use Rattle.gm_semantics.specs.Iterations.{Loop, Mode, AtEdge, WithInner, WithOutermost, Iteration, ends_of_all, begun, view_in, failed, with_ok, contribution, gave_outermost, reduced, wrote, turn_at, does}
 use Rattle.gm_semantics.specs.Levels.{node_in}
 use Rattle.gm_semantics.specs.Statements.{variable_at}
-use Rattle.gm_semantics.specs.Stores.{Store}
+use Rattle.gm_semantics.specs.Stores.{Store, write}
+use Rattle.gm_typed_stores.specs.Tells.{TypeTable}
 use Rattle.gm_image.specs.Program.{Line, Send}
 use Rattle.gm_image.specs.Term as M
 use Rattle.gm_image.specs.Term.{Term}
@@ -36,7 +38,7 @@ use Rattle.gm_lowering.specs.Bodies.{reduce_lines, target_node}
 use Rattle.gm_lowering.specs.Blocks.{each_site}
 use Rattle.gm_lowering.specs.Showing.{answer_of, Tells}
 use Rattle.gm_lowering.specs.Sites.{are_of_scalars, same_length, is_local, given, IsApart, HoldLocals, HoldProperties}
-use Rattle.gm_lowering.specs.OwnLoops.{is_declared, puts_to_scalars, folds_to}
+use Rattle.gm_lowering.specs.OwnLoops.{is_declared, puts_to_scalars, folds_to, PicksTyped}
 use Rattle.gm_lowering.specs.MessageLoops.{sets_nothing, receiver_gives, is_to_scalars, is_to_nodes}
 use Rattle.gm_lowering.specs.HomeTurns.{home_finds, home_lines, HomeGave, EdgeShows}
 use Rattle.gm_lowering.specs.Takings.{slots_at}
@@ -70,17 +72,17 @@ to-neighbour c seg n i key (T.Property x p at) ts e h =
     ∙ ap (λ b. if b || false then (each_env c seg n i).scalar x else M.Live ((each_env c seg n i).place key at) ((each_env c seg n i).scalar x)) here
     ∙ ap (λ b. if b then M.Neighbour else (own_env c seg n).scalar x) here
 
-same-slots : (j : ℕ) (ts : List Target) → node_slots j ts ≡ slots_at j ts
+pub same-slots : (j : ℕ) (ts : List Target) → node_slots j ts ≡ slots_at j ts
 same-slots j [] = refl
 same-slots j (T.Scalar x at ∷ ts) = same-slots j ts
 same-slots j (T.Property x p at ∷ ts) = ap (λ l. Node p j ∷ l) (same-slots j ts)
 
 -- as many values as expressions
-abbrev LongAs : {A : Type 0} → List A → Result (List Value) Fault → Type 0
+abbrev pub LongAs : {A : Type 0} → List A → Result (List Value) Fault → Type 0
 LongAs ts (Ok xs) = same_length ts xs ≡ true
 LongAs ts (Err f) = Unit {0}
 
-long-values : {A : Type 0} (w : View) (ts : List A) (es : List Expr) → same_length ts es ≡ true → LongAs ts (evaluated_all es w).rest
+pub long-values : {A : Type 0} (w : View) (ts : List A) (es : List Expr) → same_length ts es ≡ true → LongAs ts (evaluated_all es w).rest
 long-values w [] [] h = refl
 long-values w [] (e ∷ es) h = absurd (both_ways false refl h)
 long-values w (t ∷ ts) [] h = absurd (both_ways false refl h)
@@ -93,7 +95,7 @@ long-values w (t ∷ ts) (e ∷ es) h = first (evaluated e w).rest (long-values 
   first (Ok x) o = more x (evaluated_all es w).rest o
   first (Err f) o = tt
 
-filter-last : (p : Contribution → Bool) (xs : List Contribution) (a : Contribution) (b : Bool) → p a ≡ b → filter p (xs ++ a ∷ []) ≡ filter p xs ++ cond b (a ∷ []) []
+pub filter-last : (p : Contribution → Bool) (xs : List Contribution) (a : Contribution) (b : Bool) → p a ≡ b → filter p (xs ++ a ∷ []) ≡ filter p xs ++ cond b (a ∷ []) []
 filter-last p [] a b e = ap (λ z. cond z (a ∷ []) []) e
 filter-last p (x ∷ xs) a b e = by (p x) (filter-last p xs a b e) where
   by : (z : Bool) → filter p (xs ++ a ∷ []) ≡ filter p xs ++ cond b (a ∷ []) [] → cond z (x ∷ filter p (xs ++ a ∷ [])) (filter p (xs ++ a ∷ [])) ≡ cond z (x ∷ filter p xs) (filter p xs) ++ cond b (a ∷ []) []
@@ -106,12 +108,12 @@ carried-more kind as' j [] (n ∷ ms) a m h o e = absurd h
 carried-more kind as' j (x ∷ xs) [] a m h o e = absurd h
 carried-more kind as' j (x ∷ xs) (n ∷ ms) a m h o e = (h.0, h.1, carried-more kind as' j xs ms a m h.2 o e)
 
-get-left : {A : Type 0} (xs ys : List A) (i : ℕ) (x : A) → slice_get xs i ≡ Some x → slice_get (xs ++ ys) i ≡ Some x
+pub get-left : {A : Type 0} (xs ys : List A) (i : ℕ) (x : A) → slice_get xs i ≡ Some x → slice_get (xs ++ ys) i ≡ Some x
 get-left [] ys i x e = cc
 get-left (z ∷ xs) ys zero x e = e
 get-left (z ∷ xs) ys (suc i) x e = get-left xs ys i x e
 
-get-right : {A : Type 0} (xs ys : List A) (i : ℕ) (x : A) → slice_get ys i ≡ Some x → slice_get (xs ++ ys) (length xs + i) ≡ Some x
+pub get-right : {A : Type 0} (xs ys : List A) (i : ℕ) (x : A) → slice_get ys i ≡ Some x → slice_get (xs ++ ys) (length xs + i) ≡ Some x
 get-right [] ys i x e = ap (slice_get ys) (let z : 0 + i ≡ i = omega arith in z) ∙ e
 get-right (y ∷ xs) ys i x e = ap (slice_get (y ∷ (xs ++ ys))) (let z : suc (length xs) + i ≡ suc (length xs + i) = omega arith in z) ∙ get-right xs ys i x e
 
@@ -362,7 +364,7 @@ module _ (c : Layout) (seg : Segment) (loop : Loop) (i k j edge registers fields
     local = local;
     property = λ key x p at e it w rest o f q. absurd (both_ways false refl o);
     placed_first = λ first a b it h at x e. h at x (get-left (aways c.declarations n a) (aways c.declarations n b) at x e);
-    placed_second = λ first a b it h at x e.
+    placed_second = λ first a b it h fine at x e.
         let t = h (length (aways c.declarations n a) + at) x (get-right (aways c.declarations n a) (aways c.declarations n b) at x e) in
         let z : first + (length (aways c.declarations n a) + at) ≡ kind + t.0 = t.2 in (t.0, t.1, (omega (arith, z)));
     placed_yes = λ first key e a b it h at x e'. h at x (get-left (aways c.declarations n a) (aways c.declarations n b) at x e');
@@ -377,7 +379,8 @@ module _ (c : Layout) (seg : Segment) (loop : Loop) (i k j edge registers fields
 
 -- the turn
 module _ (c : Layout) (seg : Segment) (registers : List VType) (fields : ℕ) (loop : Loop) (i : ℕ) (kind : ℕ) (key : Key) (test : Expr) (body : Stmt) (s : VertexContext) (w : VertexState) (r : Store)
-    (able : IsSenderLoop c registers fields loop i test body) (shows : EdgeShows c loop registers fields s w r) where
+    (able : IsSenderLoop c registers fields loop i test body) (shows : EdgeShows c loop registers fields s w r)
+    (table : TypeTable) (around : List ℕ) (result : Option VType) (typed : PicksTyped c table around result loop body (begun (write r (Scalar i) (At (Some s.near.node))))) where
   abbrev at_sender : Env
   at_sender = each_env c seg loop.outer i
 
@@ -432,6 +435,10 @@ module _ (c : Layout) (seg : Segment) (registers : List VType) (fields : ℕ) (l
     deferred = sym same.deferred ∙ g.deferred;
   }
 
+  gave-registers : (it : Iteration) (u : VertexState) (rs : List Value) → length rs ≡ length u.registers → GaveHere it u → GaveHere it (record u { registers = rs })
+  gave-registers it u rs e g =
+      record { puts = g.puts; folds = g.folds; sent = g.sent; messages = g.messages; carried = g.carried; fields = g.fields; count = e ∙ g.count; inner = g.inner; deferred = g.deferred }
+
   abbrev sender_out : Iteration
   sender_out = turn_at loop (AtEdge s.near.edge) key test (does body (AtEdge s.near.edge) loop) i s.near.node r
 
@@ -442,10 +449,10 @@ module _ (c : Layout) (seg : Segment) (registers : List VType) (fields : ℕ) (l
   pub sending-turn : SendingEnds c at_sender kind sent_here s.near.node w sender_out (lines_after s (home_lines c seg loop.outer i kind key test body) 0 w) sender_out.fault
   sending-turn =
       by-fault sender_out (lines_after s (home_lines c seg loop.outer i kind key test body) 0 w) sender_out.fault
-      (turn-ends c seg registers fields loop i kind key test body s w r is-each shows (receiver_gives c i finds_here) able.fits GaveHere
+      (turn-ends c seg registers fields loop i kind key test body s w r is-each shows (receiver_gives c i finds_here) late-sender GaveHere gave-registers
       (Placed c seg loop i s.node s.near.node s.near.edge (length registers) fields kind sent_here s w able.apart able.outer able.inner able.two able.types able.depths) (λ at a e. (at, e, refl))
       (sender-holds c seg loop i s.node s.near.node s.near.edge (length registers) fields kind sent_here s w able.apart able.outer able.inner able.two able.types able.depths)
-      none-given late-sender gave-moved)
+      none-given gave-moved table around result able.fits typed able.spares)
 
 pub sending-turns : SendingLinesAreTurns
-sending-turns c seg registers fields loop i kind key test body s w r able shows = sending-turn c seg registers fields loop i kind key test body s w r able shows
+sending-turns c seg registers fields loop i kind key test body s w r table around result able typed shows = sending-turn c seg registers fields loop i kind key test body s w r able shows table around result typed

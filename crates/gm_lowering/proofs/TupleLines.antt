@@ -339,6 +339,7 @@ module _ (c : Layout) (seg : Segment) (loop : Loop) (k registers fields places :
     (unlike : is_register (variable_at c.declarations loop.outer) ≡ false)
     (type_is : (x : ℕ) → loop.vtype x ≡ (variable_at c.declarations x).vtype)
     (depth_is : (x : ℕ) → loop.depth x ≡ (variable_at c.declarations x).depth)
+    (Gave : Iteration → VertexState → Type 0) (giving : O.Giving c (own_env c seg loop.outer) Gave)
     (positions : ℕ) (spares : HasSpares c registers positions) where
   abbrev n' : ℕ
   n' = loop.outer
@@ -347,7 +348,7 @@ module _ (c : Layout) (seg : Segment) (loop : Loop) (k registers fields places :
   v' = own_env c seg n'
 
   abbrev OwnShown : Iteration → VertexState → Type 0
-  OwnShown = O.Shows c seg loop k registers fields places s apart unlike type_is depth_is
+  OwnShown = O.Shows c seg loop k registers fields places s apart unlike type_is depth_is Gave giving
 
   found-local : (x : ℕ) → is_local c x ≡ true → finds_scalar c (n' ∷ []) x ≡ true
   found-local x o =
@@ -375,27 +376,27 @@ module _ (c : Layout) (seg : Segment) (loop : Loop) (k registers fields places :
       register_count = length-set w.registers (c.spare_register i t) a ∙ q.0.register_count;
       field_count = q.0.field_count;
     },
-    record { puts = q.1.puts; folds = q.1.folds; messages = q.1.messages; inner = q.1.inner; deferred = q.1.deferred },
+    giving.stays it it w (record w { registers = slice_set w.registers (c.spare_register i t) a }) refl refl refl refl (giving.folds it w q.1) refl q.1,
   )
 
-  own-tupled : Tupled (own_site c seg n') loop Outermost k registers positions s (body_after places s) OwnShown (OwnGave c v') (own_finds c n') (is_own_target c n')
+  own-tupled : Tupled (own_site c seg n') loop Outermost k registers positions s (body_after places s) OwnShown Gave (own_finds c n') (is_own_target c n')
   own-tupled = record {
     register_runs = λ x t ls w. refl;
     field_runs = λ x t ls w. refl;
     fine = λ it w q. q.0.fine;
-    gave_failed = λ it w f q. record { puts = q.1.puts; folds = q.1.folds; messages = q.1.messages; inner = q.1.inner; deferred = q.1.deferred };
-    tells = O.tells c seg loop k registers fields places s apart unlike type_is depth_is;
-    local_is = λ it w x at o q. O.scalar-is c seg loop k registers fields places s apart unlike type_is depth_is it w x (found-local x o) q;
+    gave_failed = λ it w f q. O.gave-failed c seg loop k registers fields places s apart unlike type_is depth_is Gave giving it w f q.1;
+    tells = O.tells c seg loop k registers fields places s apart unlike type_is depth_is Gave giving;
+    local_is = λ it w x at o q. O.scalar-is c seg loop k registers fields places s apart unlike type_is depth_is Gave giving it w x (found-local x o) q;
     property_is = λ it w x p at o q. ap Ok (q.0.properties p (both-true (nat_eq x n') (c.is_kept p) o).1);
     count = λ it w q. q.0.register_count;
     spared = own-spared;
     is_local_of = λ x at o. o;
     within = λ x at o. let d = both-true (nat_lt x (length c.declarations)) (is_register (variable_at c.declarations x)) o in apart.register_within x (ltb-true x (length c.declarations) d.0) d.1;
-    local = λ it w x at a o q. O.local c seg loop k registers fields places s apart unlike type_is depth_is it w x a o q;
-    field = λ it w x p at a o q. O.field c seg loop k registers fields places s apart unlike type_is depth_is it w p a (both-true (nat_eq x n') (c.is_kept p) o).1 q;
+    local = λ it w x at a o q. O.local c seg loop k registers fields places s apart unlike type_is depth_is Gave giving it w x a o q;
+    field = λ it w x p at a o q. O.field c seg loop k registers fields places s apart unlike type_is depth_is Gave giving it w p a (both-true (nat_eq x n') (c.is_kept p) o).1 q;
     now = λ it w key total r t u ts es o f q.
         tuple-now c loop k depth_is it key total r t u ts es o
-        (none-hoisted v' (view_in loop Outermost it key) (view s w) es refl (O.all-tell c seg loop k registers fields places s apart unlike type_is depth_is it w key es f q))
+        (none-hoisted v' (view_in loop Outermost it key) (view s w) es refl (O.all-tell c seg loop k registers fields places s apart unlike type_is depth_is Gave giving it w key es f q))
         (ap (node_in loop.graph) q.0.at_node ∙ node-in loop.graph k q.0.inside);
   }
 
@@ -404,17 +405,17 @@ module _ (c : Layout) (seg : Segment) (loop : Loop) (k registers fields places :
       → length (t ∷ (u ∷ ts)) < positions → OwnShown it w
       → AreOf types (reads it.store (own_slots k (t ∷ (u ∷ ts)))) → ((ys : List Value) → (evaluated_all es (view_in loop Outermost it key)).rest ≡ Ok ys → AreOf types ys)
       → let out = does (S.Combine key total r (t ∷ (u ∷ ts)) es) Outermost loop it in
-      Ending v' (body_after places s) OwnShown (OwnGave c v') (kept_lines (keeping (own_site c seg n')) r (with_types c (t ∷ (u ∷ ts))) (map (term v' key) es)) rest w out out.fault
+      Ending v' (body_after places s) OwnShown Gave (kept_lines (keeping (own_site c seg n')) r (with_types c (t ∷ (u ∷ ts))) (map (term v' key) es)) rest w out out.fault
   tuple-ends key total r t u ts es types it w rest keeps own distinct long found room q held_typed new_typed =
-      tuple-goes (own_site c seg n') loop Outermost k registers positions s (body_after places s) OwnShown (OwnGave c v') (own_finds c n') (is_own_target c n') own-tupled spares
+      tuple-goes (own_site c seg n') loop Outermost k registers positions s (body_after places s) OwnShown Gave (own_finds c n') (is_own_target c n') own-tupled spares
       key total r t u ts es types it w rest keeps own distinct long found room q held_typed new_typed
 
 pub tuple-lines : TupleLinesKeep
 tuple-lines c seg registers fields places positions loop k s key total r t u ts es types it w rest apart spares unlike type_is depth_is keeps own distinct long found room shows gave held_typed new_typed =
     by (does (S.Combine key total r (t ∷ (u ∷ ts)) es) Outermost loop it).fault
-    (tuple-ends c seg loop k registers fields places s apart unlike type_is depth_is positions spares key total r t u ts es types it w rest keeps own distinct long found room (shows, gave) held_typed new_typed) where
+    (tuple-ends c seg loop k registers fields places s apart unlike type_is depth_is (λ it' w'. OwnGave c (own_env c seg loop.outer) it' w') (O.own-giving c (own_env c seg loop.outer)) positions spares key total r t u ts es types it w rest keeps own distinct long found room (shows, gave) held_typed new_typed) where
       by : (o : Option Fault)
-          → Ending (own_env c seg loop.outer) (body_after places s) (O.Shows c seg loop k registers fields places s apart unlike type_is depth_is) (OwnGave c (own_env c seg loop.outer)) (kept_lines (keeping (own_site c seg loop.outer)) r (with_types c (t ∷ (u ∷ ts))) (map (term (own_env c seg loop.outer) key) es)) rest w (does (S.Combine key total r (t ∷ (u ∷ ts)) es) Outermost loop it) o
+          → Ending (own_env c seg loop.outer) (body_after places s) (O.Shows c seg loop k registers fields places s apart unlike type_is depth_is (λ it' w'. OwnGave c (own_env c seg loop.outer) it' w') (O.own-giving c (own_env c seg loop.outer))) (OwnGave c (own_env c seg loop.outer)) (kept_lines (keeping (own_site c seg loop.outer)) r (with_types c (t ∷ (u ∷ ts))) (map (term (own_env c seg loop.outer) key) es)) rest w (does (S.Combine key total r (t ∷ (u ∷ ts)) es) Outermost loop it) o
           → LinesEnd c seg loop k registers fields places s (kept_lines (keeping (own_site c seg loop.outer)) r (with_types c (t ∷ (u ∷ ts))) (map (term (own_env c seg loop.outer) key) es)) rest w (does (S.Combine key total r (t ∷ (u ∷ ts)) es) Outermost loop it) o
       by None e = e
       by (Some f) e = e

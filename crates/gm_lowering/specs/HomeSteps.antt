@@ -1,6 +1,7 @@
 -- Home loops: the step of a vertex with an each is the loop's iteration at its node.
-use Rattle.std.specs.Prelude.{◌≡◌, ◌⊎◌, ℕ, true, false, List, [], ◌∷◌, ◌++◌, length, map}
+use Rattle.std.specs.Prelude.{◌≡◌, ◌⊎◌, ℕ, true, false, Option, List, [], ◌∷◌, ◌++◌, length, map}
 use Rattle.gm_base.specs.declared.places.Place.{Place}
+use Rattle.gm_value.specs.declared.values.VType.{VType}
 use Rattle.gm_value.specs.declared.values.Value.{Value}
 use Rattle.gm_ast.specs.declared.tree.Domain.TheVariants.{OutNbrs, InNbrs}
 use Rattle.gm_ast.specs.declared.tree.Head.{Head}
@@ -11,6 +12,7 @@ use Rattle.gm_semantics.specs.Faults.{joined}
 use Rattle.gm_semantics.specs.Iterations.{Loop, Iteration}
 use Rattle.gm_semantics.specs.Loops.{iteration}
 use Rattle.gm_semantics.specs.Stores.{Store}
+use Rattle.gm_typed_stores.specs.Tells.{TypeTable}
 use Rattle.gm_image.specs.Program.{Program, Block}
 use Rattle.gm_machine.specs.Machine.{context_at}
 use Rattle.gm_machine.specs.Vertex.{steps, vertex_after}
@@ -20,6 +22,7 @@ use Rattle.gm_lowering.specs.Terms.{term, own_env}
 use Rattle.gm_lowering.specs.Bodies.{under, spots_of}
 use Rattle.gm_lowering.specs.Blocks.{body_block, direction_of, each_lines}
 use Rattle.gm_lowering.specs.OwnLoops.{own_finds, NodeShows, StepEnds}
+use Rattle.gm_lowering.specs.MessageLoops.{TurnsTyped}
 use Rattle.gm_lowering.specs.Settles.{HasSpot, HaveRoom}
 use Rattle.gm_lowering.specs.Phases.{EdgesShown, GivesApart}
 use Rattle.gm_lowering.specs.Receiving.{turn_of}
@@ -49,13 +52,14 @@ pub record HasEach (c : Layout) (loop : Loop) (mask : Expr) (h : Head) : Type 0 
   pub owner : h.owner ≡ loop.outer
   pub found : own_finds c loop.outer mask ≡ true
 
--- the step of each vertex with a home loop's block is the loop's iteration there
+-- the step of each vertex with a home loop's block is the loop's iteration there, where what it picks has types
 abbrev pub HomeStepsAreIterations : Type 0
 HomeStepsAreIterations =
     (c : Layout) (p : Program) (fields base : ℕ) (all : List Spot) (loop : Loop) (kind : ℕ) (mask_key : Key) (mask : Expr) (key : Key) (place : Place) (h : Head) (test : Expr) (body : Stmt)
-    (globals values : List Value) (k : ℕ) (r : Store)
+    (globals values : List Value) (k : ℕ) (r : Store) (table : TypeTable) (its : List ℕ) (result : Option VType)
     → HasEach c loop mask h
     → IsHomeLoop c p.registers fields loop h.iterator test body
+    → TurnsTyped c table its result loop h.iterator body r
     → ((f : Spot) → HasSpot f (each_spots c loop.outer h.iterator key test body) → HasSpot f all)
     → HaveRoom base all (length p.places)
     → NodeShows c loop.graph p.registers fields globals values k r

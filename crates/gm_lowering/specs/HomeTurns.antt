@@ -11,13 +11,15 @@ use Rattle.gm_ast.specs.Names.{is}
 use Rattle.gm_ast.specs.Program.{Expr, Stmt, Program}
 use Rattle.gm_forms.specs.Typing.{type_at}
 use Rattle.gm_semantics.specs.declared.faults.Fault.{Fault}
-use Rattle.gm_semantics.specs.Iterations.{Loop, AtEdge, Iteration, turn_at, does}
+use Rattle.gm_semantics.specs.declared.slots.Slot.TheVariants.{Scalar}
+use Rattle.gm_semantics.specs.Iterations.{Loop, AtEdge, Iteration, begun, turn_at, does}
 use Rattle.gm_semantics.specs.Statements.{variable_at}
-use Rattle.gm_semantics.specs.Stores.{Store}
+use Rattle.gm_semantics.specs.Stores.{Store, write}
+use Rattle.gm_typed_stores.specs.Tells.{TypeTable}
 use Rattle.gm_image.specs.Program.{Line}
 use Rattle.gm_machine.specs.Expressions.{value_at, edge_value_at}
 use Rattle.gm_machine.specs.Vertex.{VertexContext, VertexState, After, lines_after}
-use Rattle.gm_lowering.specs.Layouts.{Layout, is_global, is_register, has_value, layout, register_types}
+use Rattle.gm_lowering.specs.Layouts.{Layout, is_global, is_register, has_value, layout, register_types, body_positions}
 use Rattle.gm_lowering.specs.Places.{Segment}
 use Rattle.gm_lowering.specs.Terms.{Env, term, each_env}
 use Rattle.gm_lowering.specs.Plans.{Load, SenderItself, SenderProperty, SenderDegree, EdgeValue, loads_in}
@@ -25,7 +27,8 @@ use Rattle.gm_lowering.specs.Bodies.{under, lines_of}
 use Rattle.gm_lowering.specs.Blocks.{reads_scalar, zero_lines, each_site}
 use Rattle.gm_lowering.specs.Showing.{fault_of}
 use Rattle.gm_lowering.specs.Sites.{finds, is_local, is_body, given, phase_value, IsInGraph, HoldProperties, IsApart}
-use Rattle.gm_lowering.specs.MessageLoops.{sets_nothing, receiver_gives, is_to_scalars, is_to_nodes}
+use Rattle.gm_lowering.specs.OwnLoops.{PicksTyped, HasSpares}
+use Rattle.gm_lowering.specs.MessageLoops.{sets_nothing, inner_gives, is_to_scalars, is_to_nodes}
 
 -- what a node knows of the other end of an edge: the neighbour itself, and the edge's values
 abbrev pub is_at_edge : Load → Bool
@@ -42,7 +45,7 @@ home_finds c n i e = finds c (n ∷ i ∷ []) true e && list_all is_at_edge (loa
 abbrev pub home_lines : Layout → Segment → ℕ → ℕ → ℕ → Key → Expr → Stmt → List Line
 home_lines c seg n i kind key test body = under (term (each_env c seg n i) key test) (zero_lines c body ++ lines_of (each_site c seg n i) kind body)
 
--- an inner loop of a loop that is evaluated at the outer node: its iterators are two and no locals; its filter reads no locals, and it does what an each may; the loop reduces no property through other nodes; and registers begin with the first values of their locals
+-- an inner loop of a loop that is evaluated at the outer node: its iterators are two and no locals; its filter reads no locals, and it does what an inner body may; the loop reduces no property through other nodes; registers begin with the first values of their locals; and it has spare registers for its tuples
 pub record IsHomeLoop (c : Layout) (registers : List VType) (fields : ℕ) (loop : Loop) (i : ℕ) (test : Expr) (body : Stmt) : Type 0 where
   pub apart : IsApart c (length registers) fields
   pub outer : is_register (variable_at c.declarations loop.outer) ≡ false
@@ -54,7 +57,8 @@ pub record IsHomeLoop (c : Layout) (registers : List VType) (fields : ℕ) (loop
   pub firsts : (x : ℕ) → is_local c x ≡ true → value_at (map zero_of registers) (c.register x) ≡ zero_of (type_at c.declarations x)
   pub plain : (x : ℕ) → is_local c x ≡ true → reads_scalar x test ≡ false
   pub found : home_finds c loop.outer i test ≡ true
-  pub fits : is_body c (home_finds c loop.outer i) sets_nothing (receiver_gives c loop.outer (home_finds c loop.outer i)) body ≡ true
+  pub fits : is_body c (home_finds c loop.outer i) sets_nothing (inner_gives c loop.outer (home_finds c loop.outer i)) body ≡ true
+  pub spares : HasSpares c (length registers) (body_positions c.declarations body)
 
 -- what a vertex has given since a state is what a turn has given: puts to scalars, and folds to its own properties. Its fields are as they were
 pub record HomeGave (c : Layout) (v : Env) (before : VertexState) (it : Iteration) (w : VertexState) : Type 0 where
@@ -87,11 +91,13 @@ abbrev pub TurnEnds : Layout → Env → VertexState → Iteration → After →
 TurnEnds c v before it a None = (a.fault ≡ None) × HomeGave c v before it a.state
 TurnEnds c v before it a (Some f) = (a.fault ≡ Some (fault_of v f)) × HomeGave c v before it a.state
 
--- the lines of an each, at an edge, are the inner loop's turn there
+-- the lines of an each, at an edge, are the inner loop's turn there, where what it picks has types
 abbrev pub EachLinesAreTurns : Type 0
 EachLinesAreTurns =
     (c : Layout) (seg : Segment) (registers : List VType) (fields : ℕ) (loop : Loop) (i : ℕ) (kind : ℕ) (key : Key) (test : Expr) (body : Stmt) (s : VertexContext) (w : VertexState) (r : Store)
+    (table : TypeTable) (its : List ℕ) (result : Option VType)
     → IsHomeLoop c registers fields loop i test body
+    → PicksTyped c table its result loop body (begun (write r (Scalar i) (At (Some s.near.node))))
     → EdgeShows c loop registers fields s w r
     → let it = turn_at loop (AtEdge s.near.edge) key test (does body (AtEdge s.near.edge) loop) i s.near.node r in
     let v = each_env c seg loop.outer i in

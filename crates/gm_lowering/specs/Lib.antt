@@ -27,5 +27,7 @@ pub mod Made
 pub mod TakingSteps
 pub mod SenderTurns
 pub mod SenderSteps
+pub mod OwnSends
 pub mod SenderSupersteps
 pub mod SenderLoops
+pub mod OwnSendLoops

@@ -70,9 +70,9 @@ tuples_inside c found r (t ∷ (u ∷ ts)) es =
     let all = t ∷ (u ∷ ts) in keeps_tuples r && (list_all (is_inner_target c) all && (are_distinct (variables_of all) && (same_length all es && list_all found es)))
 tuples_inside c found r _ es = false
 
--- the receiver of a message puts, folds, or keeps a value or a tuple
-abbrev pub message_gives : Layout → ℕ → (Expr → Bool) → Reduce → List Target → List Expr → Bool
-message_gives c i found r ts es = receiver_gives c i found r ts es || (picks_inside c found r ts es || tuples_inside c found r ts es)
+-- an inner body puts, folds to properties of a node, or keeps a value or a tuple
+abbrev pub inner_gives : Layout → ℕ → (Expr → Bool) → Reduce → List Target → List Expr → Bool
+inner_gives c i found r ts es = receiver_gives c i found r ts es || (picks_inside c found r ts es || tuples_inside c found r ts es)
 
 -- where an inner body picks, it has types in each turn of its loop, from a node to a node
 abbrev pub TurnsTyped : Layout → TypeTable → List ℕ → Option VType → Loop → ℕ → Stmt → Store → Type 0
@@ -93,7 +93,7 @@ pub record IsMessageLoop (c : Layout) (registers : List VType) (fields : ℕ) (l
   pub types : (x : ℕ) → loop.vtype x ≡ (variable_at c.declarations x).vtype
   pub depths : (x : ℕ) → loop.depth x ≡ (variable_at c.declarations x).depth
   pub found : receiver_finds c loop.outer i loads test ≡ true
-  pub fits : is_body c (receiver_finds c loop.outer i loads) sets_nothing (message_gives c i (receiver_finds c loop.outer i loads)) body ≡ true
+  pub fits : is_body c (receiver_finds c loop.outer i loads) sets_nothing (inner_gives c i (receiver_finds c loop.outer i loads)) body ≡ true
   pub spares : HasSpares c (length registers) (body_positions c.declarations body)
 
 -- what a load has: at a sender, and along an edge

@@ -1,5 +1,5 @@
 -- Two supersteps are a loop that sends along its edges.
-use Rattle.std.specs.Prelude.{◌≡◌, ◌⊎◌, ℕ, Some, None, Result, Err, List, ◌++◌, length, map, filter}
+use Rattle.std.specs.Prelude.{◌≡◌, ◌⊎◌, ℕ, Option, Some, None, Result, Err, List, ◌++◌, length, map, filter}
 use Rattle.gm_base.specs.declared.places.Place.{Place}
 use Rattle.gm_value.specs.declared.values.VType.{VType}
 use Rattle.gm_value.specs.declared.values.Value.{Value}
@@ -15,6 +15,7 @@ use Rattle.gm_semantics.specs.Iterations.{Loop}
 use Rattle.gm_semantics.specs.Levels.{nodes}
 use Rattle.gm_semantics.specs.Loops.{iteration, parallel}
 use Rattle.gm_semantics.specs.Stores.{Store}
+use Rattle.gm_typed_stores.specs.Tells.{TypeTable}
 use Rattle.gm_image.specs.Program.{Program}
 use Rattle.gm_machine.specs.Machine.{Nodes, Stepped, block_at, superstep}
 use Rattle.gm_lowering.specs.Layouts.{Layout}
@@ -22,7 +23,7 @@ use Rattle.gm_lowering.specs.Places.{Spot, segment}
 use Rattle.gm_lowering.specs.Terms.{Env, own_env}
 use Rattle.gm_lowering.specs.Plans.{Away, aways}
 use Rattle.gm_lowering.specs.Showing.{fault_of}
-use Rattle.gm_lowering.specs.MessageLoops.{is_to_scalars, is_to_nodes}
+use Rattle.gm_lowering.specs.MessageLoops.{is_to_scalars, is_to_nodes, TurnsTyped}
 use Rattle.gm_lowering.specs.Phases.{GlobalsApart, NodesInGraph, EdgesShown, Shown, StepIs, GivesApart, given_in}
 use Rattle.gm_lowering.specs.TwoSupersteps.{StepsWithin}
 use Rattle.gm_lowering.specs.Settles.{HasSpot, HaveRoom, spot_of_fault}
@@ -42,11 +43,11 @@ TwoStepsAre c v spots registers fields g globals result first second =
     ((first.fault ≡ None) × StepIs c v spots registers fields g globals result second)
     ⊎ ((f : Fault) × (result ≡ Err f) × (first.fault ≡ Some (fault_of v f)) × HasSpot (spot_of_fault f) spots)
 
--- the two supersteps of a loop that sends along its edges are the loop
+-- the two supersteps of a loop that sends along its edges are the loop, where what it picks has types
 abbrev pub SendingLoopsAreTwoSupersteps : Type 0
 SendingLoopsAreTwoSupersteps =
     (c : Layout) (p : Program) (fields base q q2 kind : ℕ) (loop : Loop) (mask_key : Key) (mask : Expr) (key : Key) (place : Place) (h : Head) (test : Expr) (body : Stmt)
-    (globals : List Value) (s : Nodes) (r : Store)
+    (globals : List Value) (s : Nodes) (r : Store) (table : TypeTable) (around : List ℕ) (result : Option VType)
     → let inner = Foreach key place h test body in
     let all = home_spots c loop.outer h.iterator mask_key mask key test body in
     let seg = segment base all in
@@ -54,6 +55,7 @@ SendingLoopsAreTwoSupersteps =
     let its = map (iteration loop mask_key mask inner r) (nodes loop.graph) in
     HasEach c loop mask h
     → IsSenderLoop c p.registers fields loop h.iterator test body
+    → TurnsTyped c table around result loop h.iterator body r
     → GlobalsApart c (length globals)
     → HaveRoom base all (length p.places)
     → block_at p q ≡ home_block c seg loop.outer kind mask_key mask h key test body

@@ -1,5 +1,5 @@
 -- The first superstep of a loop that sends along its edges: it puts what goes to scalars, and sends the rest.
-use Rattle.std.specs.Prelude.{◌≡◌, ℕ, List, [], ◌++◌, length, map, filter}
+use Rattle.std.specs.Prelude.{◌≡◌, ℕ, Option, List, [], ◌++◌, length, map, filter}
 use Rattle.gm_base.specs.declared.places.Place.{Place}
 use Rattle.gm_value.specs.declared.values.VType.{VType}
 use Rattle.gm_value.specs.declared.values.Value.{Value}
@@ -16,13 +16,14 @@ use Rattle.gm_semantics.specs.Iterations.{Loop}
 use Rattle.gm_semantics.specs.Levels.{nodes}
 use Rattle.gm_semantics.specs.Loops.{iteration}
 use Rattle.gm_semantics.specs.Stores.{Store}
+use Rattle.gm_typed_stores.specs.Tells.{TypeTable}
 use Rattle.gm_image.specs.Program.{Program}
 use Rattle.gm_machine.specs.Machine.{Nodes, Stepped, block_at, superstep}
 use Rattle.gm_lowering.specs.Layouts.{Layout}
 use Rattle.gm_lowering.specs.Places.{Spot, segment}
 use Rattle.gm_lowering.specs.Terms.{Env, own_env}
 use Rattle.gm_lowering.specs.Plans.{Away, aways}
-use Rattle.gm_lowering.specs.MessageLoops.{is_to_scalars, is_to_nodes}
+use Rattle.gm_lowering.specs.MessageLoops.{is_to_scalars, is_to_nodes, TurnsTyped}
 use Rattle.gm_lowering.specs.Phases.{GlobalsApart, NodesInGraph, EdgesShown, Shown, OthersKept, GivesApart, given_in}
 use Rattle.gm_lowering.specs.TwoSupersteps.{StepsWithin}
 use Rattle.gm_lowering.specs.Settles.{HasSpot, HaveRoom, spot_of_fault, fault_or_none}
@@ -44,16 +45,17 @@ pub record Sends (c : Layout) (v : Env) (kind : ℕ) (as' : List Away) (spots : 
   pub others : OthersKept c globals t.globals
   pub count : length t.globals ≡ length globals
 
--- the first superstep of a loop that sends along its edges
+-- the first superstep of a loop that sends along its edges, where what it picks has types
 abbrev pub SendingSuperstepsSend : Type 0
 SendingSuperstepsSend =
     (c : Layout) (p : Program) (fields base q kind : ℕ) (loop : Loop) (mask_key : Key) (mask : Expr) (key : Key) (place : Place) (h : Head) (test : Expr) (body : Stmt)
-    (globals : List Value) (s : Nodes) (r : Store)
+    (globals : List Value) (s : Nodes) (r : Store) (table : TypeTable) (its : List ℕ) (result : Option VType)
     → let inner = Foreach key place h test body in
     let all = home_spots c loop.outer h.iterator mask_key mask key test body in
     let seg = segment base all in
     HasEach c loop mask h
     → IsSenderLoop c p.registers fields loop h.iterator test body
+    → TurnsTyped c table its result loop h.iterator body r
     → GlobalsApart c (length globals)
     → HaveRoom base all (length p.places)
     → block_at p q ≡ home_block c seg loop.outer kind mask_key mask h key test body

@@ -7,6 +7,8 @@ ghost use Rattle.gm_lowering.specs.HomeTurns.{EachLinesAreTurns, RegistersBegin}
 ghost use Rattle.gm_lowering.specs.Made.{LoopsGiveApart, TurnsGiveApart};
 ghost use Rattle.gm_lowering.specs.MessageLoops.{HandlersAreTurns};
 ghost use Rattle.gm_lowering.specs.OwnLoops.{OwnStepsAreIterations};
+ghost use Rattle.gm_lowering.specs.OwnSendLoops.{SendingOwnLoopsAreTwoSupersteps};
+ghost use Rattle.gm_lowering.specs.OwnSends.{SendingOwnStepsAreIterations};
 ghost use Rattle.gm_lowering.specs.Phases.{OwnLoopsAreSupersteps};
 ghost use Rattle.gm_lowering.specs.Receiving.{ReceivingStepsAreTurns};
 ghost use Rattle.gm_lowering.specs.SenderLoops.{SendingLoopsAreTwoSupersteps};
@@ -125,7 +127,8 @@ pub fn phase_terms_have_values()
 
 /// The lines of an each at an edge are the inner loop's turn there, whatever the turns before left in the registers: they have
 /// the turn's fault; and what they put to scalars and fold to properties of the node is what the turn gives, also before a
-/// fault. The fields stay as they were.
+/// fault. The fields stay as they were. The body may keep the better of two values or tuples in its locals, where it and the
+/// store have the types of the declarations and there are spare registers for the tuples.
 pub fn each_lines_are_turns()
     ensures { EachLinesAreTurns }
 {}
@@ -133,7 +136,7 @@ pub fn each_lines_are_turns()
 /// The step of a vertex with the block of a home loop is the loop's iteration at its node: its fault is the least of the
 /// mask's, the turns' and the totals at the node, or its fields hold what the inner loop leaves there; and what it puts is
 /// what the turns give, also before a fault. The inner loop's reductions go to scalars of the procedure and to properties of
-/// the node.
+/// the node, or at once to its locals, of values or tuples, where these have the types of the declarations.
 pub fn home_steps_are_iterations()
     ensures { HomeStepsAreIterations }
 {}
@@ -169,7 +172,8 @@ pub fn taking_blocks_take()
 
 /// The lines of an each that reduces to properties of the neighbour are the inner loop's turn at the edge, whatever the turns
 /// before left in the registers: they have the turn's fault; and what they put to scalars and send to the neighbour is what the
-/// turn gives, also before a fault, each message by the kind of its reduction. The fields stay as they were.
+/// turn gives, also before a fault, each message by the kind of its reduction. The fields stay as they were. The body may keep
+/// the better of two values or tuples in its locals, as that of a home loop.
 pub fn sending_lines_are_turns()
     ensures { SendingLinesAreTurns }
 {}
@@ -193,4 +197,20 @@ pub fn sending_supersteps_send()
 /// globals and nodes show the store that the loop leaves, no message waits, and the other globals keep their values.
 pub fn sending_loops_are_two_supersteps()
     ensures { SendingLoopsAreTwoSupersteps }
+{}
+
+/// The step of a vertex with the block of an own loop that sends through node variables is the loop's iteration at its node: it
+/// has the iteration's fault, or its fields hold what the iteration leaves there; it puts what the iteration gives to scalars of
+/// the procedure, and sends what it gives through node variables to the nodes that these hold, also before a fault, each message
+/// by the kind of its reduction. The body and the store have the types of the declarations, and their nodes are the graph's.
+pub fn sending_own_steps_are_iterations()
+    ensures { SendingOwnStepsAreIterations }
+{}
+
+/// The two supersteps of an own loop that sends through node variables are the loop, where the totals of what is sent come behind
+/// all its other faults: the first has the loop's fault, at the index of its place; or it has none, and the second has the loop's,
+/// or globals and nodes show the store that the loop leaves, no message waits, and the other globals keep their values. The body
+/// and the store have the types of the declarations, and their nodes are the graph's.
+pub fn sending_own_loops_are_two_supersteps()
+    ensures { SendingOwnLoopsAreTwoSupersteps }
 {}

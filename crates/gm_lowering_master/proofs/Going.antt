@@ -41,11 +41,14 @@ use Rattle.gm_lowering.specs.Plans.{way_of, away_by, aways, carried, Load, Away}
 use Rattle.gm_lowering.specs.Blocks.{Lowered, loop, own_loop, each_loop, message_loop, direction_of, taking_blocks, receiver_env}
 use Rattle.gm_lowering.specs.Showing.{fault_of}
 use Rattle.gm_lowering.specs.Sites.{is_body}
-use Rattle.gm_lowering.specs.OwnLoops.{IsOwnLoop, own_block, own_finds, own_sets, own_gives, puts_to_scalars, folds_at_once, are_any, is_kept_property, folds_to, keeps_at_once, PicksTyped}
+use Rattle.gm_lowering.specs.OwnSends.{sending_gives, IsSendingOwnLoop}
+use Rattle.gm_lowering.specs.SenderSteps.{AreSent}
+use Rattle.gm_lowering.proofs.OwnSendLoops.{sending-own-loops, first-spotted, first-sent}
+use Rattle.gm_lowering.specs.OwnLoops.{AreTyped, IsOwnLoop, own_block, own_finds, own_sets, own_gives, puts_to_scalars, folds_at_once, are_any, is_kept_property, folds_to, keeps_at_once, PicksTyped}
 use Rattle.gm_lowering.specs.Phases.{GlobalsApart, EdgesShown, StepIs, own_spots, GivesApart, given_in}
 use Rattle.gm_lowering.specs.Settles.{HasSpot, HaveRoom, spot_of_fault}
 use Rattle.gm_lowering.specs.Shown.{ShowOne}
-use Rattle.gm_lowering.specs.MessageLoops.{IsMessageLoop, sets_nothing, receiver_finds, receiver_gives, message_gives, picks_inside, TurnsTyped, tuples_inside}
+use Rattle.gm_lowering.specs.MessageLoops.{is_to_scalars, is_to_nodes, IsMessageLoop, sets_nothing, receiver_finds, receiver_gives, is_inner_target, inner_gives, picks_inside, TurnsTyped, tuples_inside}
 use Rattle.gm_lowering.specs.Sends.{send_block}
 use Rattle.gm_lowering.specs.Receiving.{receive_block, inner_spots}
 use Rattle.gm_lowering.specs.TwoSupersteps.{IsInside, StepsWithin}
@@ -68,7 +71,7 @@ use Rattle.gm_lowering.proofs.SenderSupersteps.{sending-loops, sending-superstep
 use Rattle.gm_lowering_master.specs.Runs.{supersteps, StandsAt}
 use Rattle.gm_lowering_master.specs.Cells.{Cell, OfScalar, OfResult, CounterOf, FlagOf, is_scalar, Setting, IsSetting, Between}
 use Rattle.gm_lowering_master.specs.Follows.{IsFault, StepsAre, IsPoint, LoopGoes}
-use Rattle.gm_lowering_master.specs.Going.{phase_loop, GiveApart, OwnLoopsGo, IsMessage, MessageLoopsGo, IsHome, HomeLoopsGo, IsSending, SendingLoopsGo, HasBodySpares}
+use Rattle.gm_lowering_master.specs.Going.{phase_loop, GiveApart, OwnLoopsGo, IsOwnSending, OwnSendingLoopsGo, IsMessage, MessageLoopsGo, IsHome, HomeLoopsGo, IsSending, SendingLoopsGo, HasBodySpares}
 use Rattle.gm_lowering_master.proofs.Indices.{place-found}
 use Rattle.gm_lowering_master.proofs.Ranks.{get-within}
 use Rattle.gm_lowering_master.proofs.SentLast.{totals-last}
@@ -77,7 +80,7 @@ use Rattle.gm_lowering.proofs.OwnFolds.{fold-way}
 use Rattle.gm_lowering.proofs.OwnFacts.{keep-way}
 use Rattle.gm_semantics.specs.declared.slots.Slot.TheVariants.{Scalar}
 use Rattle.gm_value.specs.declared.values.Value.TheVariants.{At}
-use Rattle.gm_forms.specs.Typing.{is_typed_in}
+use Rattle.gm_forms.specs.Typing.{is_typed_in, keeps_tuples}
 use Rattle.gm_forms.specs.Uses.{uses_in, uses_of, uses_of_head}
 use Rattle.gm_typed_stores.specs.Tells.{takes_nodes, tells, tells_in}
 use Rattle.gm_typed_stores.specs.Stores.{IsGraphBelow}
@@ -200,8 +203,8 @@ gives-nothing-away : (c : Layout) (i : ℕ) (found : Expr → Bool) (r : Reduce)
 gives-nothing-away c i found r ts es total h =
     or-cases (puts_to_scalars c found r ts es) (folds_to c i found r ts es) h (puts-nothing-away c i found r ts es total) (folds-nothing-away c i found r ts es total)
 
-message-nothing-away : (c : Layout) (loop : Loop) (depth_is : (x : ℕ) → loop.depth x ≡ (variable_at c.declarations x).depth) (i : ℕ) (found : Expr → Bool) (r : Reduce) (ts : List Target) (es : List Expr) (total : TotalKey) → message_gives c i found r ts es ≡ true → away_by (way_of c.declarations i ts) total r ts ≡ []
-message-nothing-away c loop depth_is i found r ts es total h =
+inner-nothing-away : (c : Layout) (loop : Loop) (depth_is : (x : ℕ) → loop.depth x ≡ (variable_at c.declarations x).depth) (i : ℕ) (found : Expr → Bool) (r : Reduce) (ts : List Target) (es : List Expr) (total : TotalKey) → inner_gives c i found r ts es ≡ true → away_by (way_of c.declarations i ts) total r ts ≡ []
+inner-nothing-away c loop depth_is i found r ts es total h =
     or-cases (receiver_gives c i found r ts es) (picks_inside c found r ts es || tuples_inside c found r ts es) h (gives-nothing-away c i found r ts es total) (λ q.
     or-cases (picks_inside c found r ts es) (tuples_inside c found r ts es) q (λ p. ap (λ w. away_by w total r ts) (pick-way c i found r ts es p)) (λ p. ap (λ w. away_by w total r ts) (inside-way c loop depth_is i found r ts es p)))
 
@@ -229,17 +232,36 @@ scalars-not-elsewhere c n p [] h = refl
 scalars-not-elsewhere c n p (T.Scalar x at ∷ ts) h = scalars-not-elsewhere c n p ts (both-true (is_global (variable_at c.declarations x)) _ h).1
 scalars-not-elsewhere c n p (T.Property x q at ∷ ts) h = absurd (both_ways false refl h)
 
-pushes-nothing : (c : Layout) (n p : ℕ) (found : Expr → Bool) (sets : ℕ → ℕ → Bool) (st : Stmt) → is_body c found sets (receiver_gives c n found) st ≡ true → pushes st n p ≡ false
+inner-not-elsewhere : (c : Layout) (n p : ℕ) (ts : List Target) → list_all (is_inner_target c) ts ≡ true → list_any (is_elsewhere n p) ts ≡ false
+inner-not-elsewhere c n p [] h = refl
+inner-not-elsewhere c n p (T.Property x q at ∷ ts) h = absurd (both_ways false refl h)
+inner-not-elsewhere c n p (T.Scalar x at ∷ ts) h = inner-not-elsewhere c n p ts (both-true (is_inner_target c (T.Scalar x at)) (list_all (is_inner_target c) ts) h).1
+
+picked-not-elsewhere : (c : Layout) (n p : ℕ) (found : Expr → Bool) (r : Reduce) (ts : List Target) (es : List Expr) → picks_inside c found r ts es ≡ true → list_any (is_elsewhere n p) ts ≡ false
+picked-not-elsewhere c n p found r [] es h = refl
+picked-not-elsewhere c n p found r (T.Scalar x at ∷ []) es h = refl
+picked-not-elsewhere c n p found r (T.Property x q at ∷ ts) es h = absurd (both_ways false refl h)
+picked-not-elsewhere c n p found r (T.Scalar x at ∷ (t ∷ ts)) es h = absurd (both_ways false refl h)
+
+kept-not-elsewhere : (c : Layout) (n p : ℕ) (found : Expr → Bool) (r : Reduce) (ts : List Target) (es : List Expr) → tuples_inside c found r ts es ≡ true → list_any (is_elsewhere n p) ts ≡ false
+kept-not-elsewhere c n p found r [] es h = refl
+kept-not-elsewhere c n p found r (t ∷ []) es h = absurd (both_ways false refl h)
+kept-not-elsewhere c n p found r (t ∷ (u ∷ ts)) es h = inner-not-elsewhere c n p (t ∷ (u ∷ ts)) (both-true (list_all (is_inner_target c) (t ∷ (u ∷ ts))) _ (both-true (keeps_tuples r) _ h).1).0
+
+pushes-nothing : (c : Layout) (n p : ℕ) (found : Expr → Bool) (sets : ℕ → ℕ → Bool) (st : Stmt) → is_body c found sets (inner_gives c n found) st ≡ true → pushes st n p ≡ false
 pushes-nothing c n p found sets (S.Then a b) h =
-    let gives = receiver_gives c n found in
+    let gives = inner_gives c n found in
     let q = both-true (is_body c found sets gives a) (is_body c found sets gives b) h in
     ap (λ x. x || pushes b n p) (pushes-nothing c n p found sets a q.0) ∙ pushes-nothing c n p found sets b q.1
 pushes-nothing c n p found sets (S.Combine k total r ts es) h =
-    or-cases (puts_to_scalars c found r ts es) (folds_to c n found r ts es) h
+    or-cases (receiver_gives c n found r ts es) (picks_inside c found r ts es || tuples_inside c found r ts es) h
+    (λ g.
+    or-cases (puts_to_scalars c found r ts es) (folds_to c n found r ts es) g
     (λ z. scalars-not-elsewhere c n p ts (both-true (list_all (is_scalar_of is_global c.declarations) ts) _ (both-true (are_any ts) _ z).1).0)
-    (λ z. not-elsewhere c n p ts (both-true (list_all (is_kept_property c n) ts) _ (both-true (are_any ts) _ z).1).0)
+    (λ z. not-elsewhere c n p ts (both-true (list_all (is_kept_property c n) ts) _ (both-true (are_any ts) _ z).1).0))
+    (λ g. or-cases (picks_inside c found r ts es) (tuples_inside c found r ts es) g (picked-not-elsewhere c n p found r ts es) (kept-not-elsewhere c n p found r ts es))
 pushes-nothing c n p found sets (S.If k e a b) h =
-    let gives = receiver_gives c n found in
+    let gives = inner_gives c n found in
     let q = both-true (found e) (is_body c found sets gives a && is_body c found sets gives b) h in
     let u = both-true (is_body c found sets gives a) (is_body c found sets gives b) q.1 in
     ap (λ x. x || pushes b n p) (pushes-nothing c n p found sets a u.0) ∙ pushes-nothing c n p found sets b u.1
@@ -304,9 +326,9 @@ module _ (s : Setting) (is' : IsSetting s) where
   edges-stay l key test body ks globals held r q between e p d lt o less = between.edges p d lt o less ∙ ap (λ f. f p d) (sym (loop-edges l key test body ks r q e))
 
 -- the body of a loop has types where each of its iterations begins
-typed-start : (s : Setting) (is' : IsSetting s) (its : List ℕ) (k : Key) (place : Place) (h : Head) (test : Expr) (body : Stmt) (state : State) → IsPoint s its (S.Foreach k place h test body) state
-    → (i : ℕ) → i < node_count s.run.graph → PicksTyped s.frame.layout s.table (h.iterator ∷ its) s.result (phase_loop s h.iterator body) body (begun (write state.store (Scalar h.iterator) (At (Some i))))
-typed-start s is' its k place h test body state point i lt picks =
+are-typed-start : (s : Setting) (is' : IsSetting s) (its : List ℕ) (k : Key) (place : Place) (h : Head) (test : Expr) (body : Stmt) (state : State) → IsPoint s its (S.Foreach k place h test body) state
+    → (i : ℕ) → i < node_count s.run.graph → AreTyped s.frame.layout s.table (h.iterator ∷ its) s.result (phase_loop s h.iterator body) body (begun (write state.store (Scalar h.iterator) (At (Some i))))
+are-typed-start s is' its k place h test body state point i lt =
     let table = s.table in
     let is = point.typed.statement in
     let graph : IsGraphBelow table.limit s.run.graph = record { graph = is'.graph; nodes = is'.below } in
@@ -319,6 +341,10 @@ typed-start s is' its k place h test body state point i lt picks =
       statement = record { typed = t.1; named = u.1; tells = (both-true (tells table (h.iterator ∷ its) test) (tells_in table (h.iterator ∷ its) body) w.1).1 };
       iteration = record { store = enter table its h.iterator i s.run.graph state.store graph w.0 lt point.typed.store; with_inner = tt; with_outermost = tt; deferred = tt };
     }
+
+typed-start : (s : Setting) (is' : IsSetting s) (its : List ℕ) (k : Key) (place : Place) (h : Head) (test : Expr) (body : Stmt) (state : State) → IsPoint s its (S.Foreach k place h test body) state
+    → (i : ℕ) → i < node_count s.run.graph → PicksTyped s.frame.layout s.table (h.iterator ∷ its) s.result (phase_loop s h.iterator body) body (begun (write state.store (Scalar h.iterator) (At (Some i))))
+typed-start s is' its k place h test body state point i lt picks = are-typed-start s is' its k place h test body state point i lt
 
 -- and so has the body of an inner loop where each of its turns begins
 typed-turns : (s : Setting) (is' : IsSetting s) (its : List ℕ) (k : Key) (place : Place) (outer : Head) (mask : Expr) (j : Key) (inner_place : Place) (h : Head) (test : Expr) (body : Stmt) (state : State)
@@ -380,6 +406,73 @@ own-loops-go s at k place h test body is' own spares apart =
           ∙ ap (λ ys. record { blocks = own_block c seg n at.kind k test body ∷ taking_blocks c seg at.kind ys; segment = seg })
           (sends-nothing c n (own_finds c n) (own_sets c n) (own_gives c n (own_finds c n)) (own-nothing-away c n) body own.fits)
 
+-- a loop of own statements that sends
+module _ (s : Setting) (at : L.At) (k : Key) (place : Place) (h : Head) (test : Expr) (body : Stmt) (is' : IsSetting s) (own : IsOwnSending s.frame.layout h.iterator k test body) (spares : HasBodySpares s body)
+    (apart : GiveApart s k place h test body) where
+  abbrev co : Layout
+  co = s.frame.layout
+
+  abbrev nn : ℕ
+  nn = h.iterator
+
+  abbrev own_loop' : Loop
+  own_loop' = phase_loop s nn body
+
+  abbrev own_all : List Spot
+  own_all = own_spots co nn k test body
+
+  abbrev own_seg : Segment
+  own_seg = segment at.place own_all
+
+  abbrev own_sends : List Away
+  own_sends = aways co.declarations nn body
+
+  abbrev turns_of : State → List Iteration
+  turns_of state = map (iteration own_loop' k test body state.store) (nodes s.run.graph)
+
+  able-own : IsSendingOwnLoop co s.image.registers (length s.image.fields) own_loop' test body
+  able-own = record { apart = is'.rows; iterator = own.iterator; types = type-is s is'; depths = depth-is s is'; found = own.found; fits = own.fits; spares = spares }
+
+  one-taking : (xs : List Away) → are_any xs ≡ true → taking_blocks co own_seg at.kind xs ≡ taking_block co own_seg at.kind xs ∷ []
+  one-taking [] o = absurd (both_ways false refl o)
+  one-taking (x ∷ xs) o = refl
+
+  own-lowered : loop co at.place at.kind nn k test body ≡ record { blocks = own_block co own_seg nn at.kind k test body ∷ taking_block co own_seg at.kind own_sends ∷ []; segment = own_seg }
+  own-lowered =
+      own-is co at.place at.kind nn k test (own_finds co nn) (own_sets co nn) (sending_gives co nn (own_finds co nn)) body own.fits
+      ∙ ap (λ bs. record { blocks = own_block co own_seg nn at.kind k test body ∷ bs; segment = own_seg }) (one-taking own_sends own.sends)
+
+  own-sending-goes : ((its : List ℕ) (state : State) (globals : List Value) (held : Nodes) → IsPoint s its (S.Foreach k place h test body) state
+      → ((f : Fault) → IsIn f (somes (map (λ it. it.fault) (turns_of state)) ++ total_faults (own_left state.store (nodes s.run.graph) (turns_of state)) (filter is_to_scalars (given_in own_loop' k test body state.store))) → HasSpot (spot_of_fault f) own_all)
+      → AreSent at.kind own_sends s.run.graph (filter is_to_nodes (given_in own_loop' k test body state.store)) (superstep s.image s.run.graph at.block globals held).nodes.sent
+      → TotalsLast (somes (map (λ it. it.fault) (turns_of state))) (own_left state.store (nodes s.run.graph) (turns_of state)) (given_in own_loop' k test body state.store))
+      → LoopGoes s at k place h test body
+  own-sending-goes last =
+      subst (λ l. GoesAs s at l k place h test body) (sym own-lowered) (λ blocks places globals held its state between point.
+      let first = superstep s.image s.run.graph at.block globals held in
+      let second = superstep s.image s.run.graph (suc at.block) first.globals first.nodes in
+      let meant = parallel own_loop' k test body (nodes s.run.graph) state.store in
+      let typed = λ (i : ℕ) (lt : i < node_count s.run.graph). are-typed-start s is' its k place h test body state point i lt in
+      let room = have-room s.image.places at.place own_all places in
+      let begins = get-is-index_or s.image.blocks at.block (own_block co own_seg nn at.kind k test body) _ blocks.0 in
+      let apart-globals = globals-apart s is' globals between.count in
+      let law =
+      sending-own-loops co s.image (length s.image.fields) at.place at.block (suc at.block) at.kind own_loop' k test body globals held state.store s.table (nn ∷ its) s.result
+      able-own typed is'.limit apart-globals room begins between.shown point.in_graph (apart its state point)
+      (get-is-index_or s.image.blocks (suc at.block) (taking_block co own_seg at.kind own_sends) _ blocks.1.0) own.taken
+      (last its state globals held point
+      (first-spotted co s.image (length s.image.fields) at.place at.block at.kind own_loop' k test body globals held state.store s.table (nn ∷ its) s.result able-own typed is'.limit apart-globals room begins between.shown point.in_graph (apart its state point))
+      (first-sent co s.image (length s.image.fields) at.place at.block at.kind own_loop' k test body globals held state.store s.table (nn ∷ its) s.result able-own typed is'.limit apart-globals room begins between.shown point.in_graph (apart its state point))) in
+      ⊎_elim
+      (λ (o : (first.fault ≡ None) × StepIs co (own_env co own_seg nn) own_all s.image.registers (length s.image.fields) s.run.graph globals meant second).
+      subst (λ o. StepsAre s globals meant (step_ends o (λ f. first) (step_ends second.fault (λ f. second) (rest_of second)))) (sym o.0)
+      (step-is s (own_env co own_seg nn) at.place own_all refl places own.shows globals meant second between.count (λ r e. edges-stay s is' own_loop' k test body (nodes s.run.graph) globals held state.store r between e) o.1))
+      (λ (o : (f : Fault) × (meant ≡ Err f) × (first.fault ≡ Some (fault_of (own_env co own_seg nn) f)) × HasSpot (spot_of_fault f) own_all).
+      subst (λ a. StepsAre s globals a (step_ends first.fault (λ f. first) (step_ends second.fault (λ f. second) (rest_of second)))) (sym o.1)
+      (subst (λ z. StepsAre s globals (Err o.0) (step_ends z (λ f. first) (step_ends second.fault (λ f. second) (rest_of second)))) (sym o.2)
+      (fault_of (own_env co own_seg nn) o.0, o.2, fault-shown s (own_env co own_seg nn) at.place own_all refl places own.shows o.0 o.3)))
+      law)
+
 module _ (s : Setting) (at : L.At) (k : Key) (place : Place) (outer : Head) (mask : Expr) (j : Key) (inner_place : Place) (h : Head) (test : Expr) (body : Stmt) (is' : IsSetting s) where
   abbrev c' : Layout
   c' = s.frame.layout
@@ -436,17 +529,17 @@ module _ (s : Setting) (at : L.At) (k : Key) (place : Place) (outer : Head) (mas
         lowered-is =
             ap (λ b. if b then each_loop c' at.place at.kind n k mask j h test body else message_loop c' at.place at.kind n k mask j h test body) m.away
             ∙ ap (λ ys. record { blocks = send ∷ (receive ∷ taking_blocks c' seg (suc at.kind) ys); segment = seg })
-            (sends-nothing c' h.iterator (receiver_finds c' n h.iterator loads) sets_nothing (message_gives c' h.iterator (receiver_finds c' n h.iterator loads)) (message-nothing-away c' loops (depth-is s is') h.iterator (receiver_finds c' n h.iterator loads)) body m.fits)
+            (sends-nothing c' h.iterator (receiver_finds c' n h.iterator loads) sets_nothing (inner_gives c' h.iterator (receiver_finds c' n h.iterator loads)) (inner-nothing-away c' loops (depth-is s is') h.iterator (receiver_finds c' n h.iterator loads)) body m.fits)
 
-  home-goes : IsHome c' n k mask j h test body → ((its : List ℕ) (state : State) → IsPoint s its (S.Foreach k place outer mask inner) state → GivesApart (given_in loops k mask inner state.store))
+  home-goes : IsHome c' n k mask j h test body → HasBodySpares s body → ((its : List ℕ) (state : State) → IsPoint s its (S.Foreach k place outer mask inner) state → GivesApart (given_in loops k mask inner state.store))
       → ((its : List ℕ) (state : State) (i : ℕ) → IsPoint s its (S.Foreach k place outer mask inner) state → i < node_count g → GivesApart (given_inside (home_turns loops h j test body state.store i)))
       → LoopGoes s at k place outer mask inner
-  home-goes m apart apart_inside =
+  home-goes m spares apart apart_inside =
       subst AsLoop (sym lowered-is) (λ blocks places globals held its state between point.
       step-is s (own_env c' seg n) at.place spots refl places m.shows globals (meant state) (superstep s.image g at.block globals held)
       between.count (λ r e. edges-stay s is' loops k mask inner (nodes g) globals held state.store r between e)
-      (home-loops c' s.image (length s.image.fields) at.place at.block at.kind loops k mask j inner_place h test body globals held state.store
-      (record { neighbours = m.nested.neighbours; owner = m.nested.owner; found = m.masked }) able (globals-apart s is' globals between.count) (have-room s.image.places at.place spots places)
+      (home-loops c' s.image (length s.image.fields) at.place at.block at.kind loops k mask j inner_place h test body globals held state.store s.table (h.iterator ∷ (outer.iterator ∷ its)) s.result
+      (record { neighbours = m.nested.neighbours; owner = m.nested.owner; found = m.masked }) able (typed-turns s is' its k place outer mask j inner_place h test body state point) (globals-apart s is' globals between.count) (have-room s.image.places at.place spots places)
       (block-found s.image at.block block blocks) between.shown between.edges point.in_graph (steps-inside g h.domain is'.graph) (apart its state point) (λ i lt. apart_inside its state i point lt))) where
         spots : List Spot
         spots = home_spots c' n h.iterator k mask j test body
@@ -470,13 +563,14 @@ module _ (s : Setting) (at : L.At) (k : Key) (place : Place) (outer : Head) (mas
           plain = m.plain;
           found = m.found;
           fits = m.fits;
+          spares = spares;
         }
 
         lowered-is : loop c' at.place at.kind n k mask inner ≡ record { blocks = block ∷ []; segment = seg }
         lowered-is =
             ap (λ b. if b then each_loop c' at.place at.kind n k mask j h test body else message_loop c' at.place at.kind n k mask j h test body) m.here
             ∙ ap (λ ys. record { blocks = block ∷ taking_blocks c' seg at.kind ys; segment = seg })
-            (sends-nothing c' n (home_finds c' n h.iterator) sets_nothing (receiver_gives c' n (home_finds c' n h.iterator)) (gives-nothing-away c' n (home_finds c' n h.iterator)) body m.fits)
+            (sends-nothing c' n (home_finds c' n h.iterator) sets_nothing (inner_gives c' n (home_finds c' n h.iterator)) (inner-nothing-away c' loops (depth-is s is') n (home_finds c' n h.iterator)) body m.fits)
 
   -- what the first superstep of a loop that sends does
   abbrev AreSending : List Value → Nodes → State → Type 0
@@ -485,23 +579,24 @@ module _ (s : Setting) (at : L.At) (k : Key) (place : Place) (outer : Head) (mas
       Sends c' (own_env c' (segment at.place spots) n) at.kind (aways c'.declarations n body) spots s.image.registers (length s.image.fields) g globals state.store
       (somes (map (λ it. it.fault) (map (iteration loops k mask inner state.store) (nodes g)))) (given_in loops k mask inner state.store) (superstep s.image g at.block globals held)
 
-  sending-goes : IsSending c' n k mask j h test body → ((its : List ℕ) (state : State) → IsPoint s its (S.Foreach k place outer mask inner) state → GivesApart (given_in loops k mask inner state.store))
+  sending-goes : IsSending c' n k mask j h test body → HasBodySpares s body → ((its : List ℕ) (state : State) → IsPoint s its (S.Foreach k place outer mask inner) state → GivesApart (given_in loops k mask inner state.store))
       → ((its : List ℕ) (state : State) (globals : List Value) (held : Nodes) → IsPoint s its (S.Foreach k place outer mask inner) state → AreSending globals held state
       → TotalsLast (somes (map (λ it. it.fault) (map (iteration loops k mask inner state.store) (nodes g)))) state.store (given_in loops k mask inner state.store))
       → LoopGoes s at k place outer mask inner
-  sending-goes m apart last =
+  sending-goes m spares apart last =
       subst AsLoop (sym lowered-is) (λ blocks places globals held its state between point.
       let first = superstep s.image g at.block globals held in
       let second = superstep s.image g (suc at.block) first.globals first.nodes in
       let each : HasEach c' loops mask h = record { neighbours = m.nested.neighbours; owner = m.nested.owner; found = m.masked } in
+      let typed = typed-turns s is' its k place outer mask j inner_place h test body state point in
       let room = have-room s.image.places at.place spots places in
       let begins = get-is-index_or s.image.blocks at.block block _ blocks.0 in
       let sends =
-      sending-supersteps c' s.image (length s.image.fields) at.place at.block at.kind loops k mask j inner_place h test body globals held state.store
-      each able (globals-apart s is' globals between.count) room begins between.shown between.edges point.in_graph (steps-inside g h.domain is'.graph) (apart its state point) in
+      sending-supersteps c' s.image (length s.image.fields) at.place at.block at.kind loops k mask j inner_place h test body globals held state.store s.table (h.iterator ∷ (outer.iterator ∷ its)) s.result
+      each able typed (globals-apart s is' globals between.count) room begins between.shown between.edges point.in_graph (steps-inside g h.domain is'.graph) (apart its state point) in
       let law =
-      sending-loops c' s.image (length s.image.fields) at.place at.block (suc at.block) at.kind loops k mask j inner_place h test body globals held state.store
-      each able (globals-apart s is' globals between.count) room begins between.shown between.edges point.in_graph (steps-inside g h.domain is'.graph) (apart its state point)
+      sending-loops c' s.image (length s.image.fields) at.place at.block (suc at.block) at.kind loops k mask j inner_place h test body globals held state.store s.table (h.iterator ∷ (outer.iterator ∷ its)) s.result
+      each able typed (globals-apart s is' globals between.count) room begins between.shown between.edges point.in_graph (steps-inside g h.domain is'.graph) (apart its state point)
       (get-is-index_or s.image.blocks (suc at.block) takes _ blocks.1.0) m.taken (last its state globals held point sends) in
       ⊎_elim
       (λ (o : (first.fault ≡ None) × StepIs c' (own_env c' seg n) spots s.image.registers (length s.image.fields) g globals (meant state) second).
@@ -536,6 +631,7 @@ module _ (s : Setting) (at : L.At) (k : Key) (place : Place) (outer : Head) (mas
           plain = m.plain;
           found = m.found;
           fits = m.fits;
+          spares = spares;
         }
 
         one-taking : (xs : List Away) → are_any xs ≡ true → taking_blocks c' seg at.kind xs ≡ taking_block c' seg at.kind xs ∷ []
@@ -551,19 +647,34 @@ pub message-loops-go : MessageLoopsGo
 message-loops-go s at k place outer mask j inner_place h test body is' m spares apart = message-goes s at k place outer mask j inner_place h test body is' m spares apart
 
 pub home-loops-go : HomeLoopsGo
-home-loops-go s at k place outer mask j inner_place h test body is' m apart inside = home-goes s at k place outer mask j inner_place h test body is' m apart inside
+home-loops-go s at k place outer mask j inner_place h test body is' m spares apart inside = home-goes s at k place outer mask j inner_place h test body is' m spares apart inside
+
+pub own-sending-loops-go : OwnSendingLoopsGo
+own-sending-loops-go s at k place h test body is' own spares apart last = own-sending-goes s at k place h test body is' own spares apart (λ its state globals held point spotted sent. last its state point)
+
+-- totals of what is sent come last where none of the loop's spots comes behind theirs
+pub last-own-sending-loops-go : (s : Setting) (at : L.At) (k : Key) (place : Place) (h : Head) (test : Expr) (body : Stmt)
+    → IsSetting s → IsOwnSending s.frame.layout h.iterator k test body → HasBodySpares s body → GiveApart s k place h test body
+    → ((a : Away) → IsIn a (aways s.frame.layout.declarations h.iterator body) → (z : Spot) → IsIn z (own_spots s.frame.layout h.iterator k test body) → spot_lt (spot_of_total a.total) z ≡ false)
+    → LoopGoes s at k place h test body
+last-own-sending-loops-go s at k place h test body is' own spares apart ends =
+    own-sending-goes s at k place h test body is' own spares apart (λ its state globals held point spotted sent.
+    let turns = map (iteration (phase_loop s h.iterator body) k test body state.store) (nodes s.run.graph) in
+    totals-last at.kind (aways s.frame.layout.declarations h.iterator body) s.run.graph (own_spots s.frame.layout h.iterator k test body) (own_left state.store (nodes s.run.graph) turns)
+    (somes (map (λ it. it.fault) turns)) (given_in (phase_loop s h.iterator body) k test body state.store) (superstep s.image s.run.graph at.block globals held).nodes.sent
+    own.shows spotted sent (λ a i. ((own.taken a i).spotted, ends a i)))
 
 pub sending-loops-go : SendingLoopsGo
-sending-loops-go s at k place outer mask j inner_place h test body is' m apart last =
-    sending-goes s at k place outer mask j inner_place h test body is' m apart (λ its state globals held point sends. last its state point)
+sending-loops-go s at k place outer mask j inner_place h test body is' m spares apart last =
+    sending-goes s at k place outer mask j inner_place h test body is' m spares apart (λ its state globals held point sends. last its state point)
 
 -- totals of what is sent come last where none of the loop's spots comes behind theirs
 pub last-sending-loops-go : (s : Setting) (at : L.At) (k : Key) (place : Place) (outer : Head) (mask : Expr) (j : Key) (inner_place : Place) (h : Head) (test : Expr) (body : Stmt)
-    → IsSetting s → IsSending s.frame.layout outer.iterator k mask j h test body → GiveApart s k place outer mask (S.Foreach j inner_place h test body)
+    → IsSetting s → IsSending s.frame.layout outer.iterator k mask j h test body → HasBodySpares s body → GiveApart s k place outer mask (S.Foreach j inner_place h test body)
     → ((a : Away) → IsIn a (aways s.frame.layout.declarations outer.iterator body) → (z : Spot) → IsIn z (home_spots s.frame.layout outer.iterator h.iterator k mask j test body) → spot_lt (spot_of_total a.total) z ≡ false)
     → LoopGoes s at k place outer mask (S.Foreach j inner_place h test body)
-last-sending-loops-go s at k place outer mask j inner_place h test body is' m apart ends =
-    sending-goes s at k place outer mask j inner_place h test body is' m apart (λ its state globals held point sends.
+last-sending-loops-go s at k place outer mask j inner_place h test body is' m spares apart ends =
+    sending-goes s at k place outer mask j inner_place h test body is' m spares apart (λ its state globals held point sends.
     totals-last at.kind (aways s.frame.layout.declarations outer.iterator body) s.run.graph (home_spots s.frame.layout outer.iterator h.iterator k mask j test body) state.store
     (somes (map (λ it. it.fault) (map (iteration (phase_loop s outer.iterator (S.Foreach j inner_place h test body)) k mask (S.Foreach j inner_place h test body) state.store) (nodes s.run.graph))))
     (given_in (phase_loop s outer.iterator (S.Foreach j inner_place h test body)) k mask (S.Foreach j inner_place h test body) state.store)

@@ -9,6 +9,8 @@ use Rattle.gm_ast.specs.declared.tree.Domain.{Domain}
 use Rattle.gm_ast.specs.declared.tree.Domain.TheVariants.{Nodes, OutNbrs, InNbrs, UpNbrs, DownNbrs}
 use Rattle.gm_ast.specs.declared.tree.Head.{Head}
 use Rattle.gm_ast.specs.declared.tree.Key.{Key}
+use Rattle.gm_ast.specs.declared.tree.Target.{Target}
+use Rattle.gm_ast.specs.declared.tree.Target.TheVariants as T
 use Rattle.gm_ast.specs.Keys.{Fault, fault_lt}
 use Rattle.gm_ast.specs.Program as S
 use Rattle.gm_ast.specs.Program.{Expr, Stmt}
@@ -23,7 +25,8 @@ use Rattle.gm_lowering.specs.Blocks.{reads_scalar}
 use Rattle.gm_lowering.specs.Sites.{is_body, is_local}
 use Rattle.gm_lowering.specs.OwnLoops.{are_any, own_finds, own_sets, own_gives, is_kept_property, HasSpares}
 use Rattle.gm_lowering.specs.Phases.{own_spots}
-use Rattle.gm_lowering.specs.MessageLoops.{receiver_finds, sets_nothing, receiver_gives, message_gives}
+use Rattle.gm_lowering.specs.OwnSends.{sending_gives}
+use Rattle.gm_lowering.specs.MessageLoops.{receiver_finds, sets_nothing, inner_gives}
 use Rattle.gm_lowering.specs.Receiving.{inner_spots}
 use Rattle.gm_lowering.specs.TwoSupersteps.{is_readable}
 use Rattle.gm_lowering.specs.HomeTurns.{home_finds}
@@ -41,8 +44,8 @@ use Rattle.gm_lowering_master.specs.Cells.{Setting, IsSetting}
 use Rattle.gm_lowering_master.specs.Follows.{LoopGoes, LoopsGo}
 use Rattle.gm_lowering_master.specs.Going.{phase_loop, GiveApart, AreNested, HasBodySpares}
 use Rattle.gm_lowering_master.specs.Whole.{setting}
-use Rattle.gm_lowering_master.specs.Plain.{same_place, shows_with, all_show_one, is_neighbours, reads_no_local, own_goes, are_nested, message_goes, home_goes, is_same_spot, is_last_among, is_sent_last, sending_goes, loop_goes, is_plain, PlainLoopsGo, PlainProgramsRun}
-use Rattle.gm_lowering_master.proofs.Going.{own-loops-go, message-loops-go, home-loops-go, last-sending-loops-go}
+use Rattle.gm_lowering_master.specs.Plain.{same_place, shows_with, all_show_one, is_neighbours, reads_no_local, own_goes, is_last_through, own_sending_goes, are_nested, message_goes, home_goes, is_same_spot, is_last_among, is_sent_last, sending_goes, loop_goes, is_plain, PlainLoopsGo, PlainProgramsRun}
+use Rattle.gm_lowering_master.proofs.Going.{own-loops-go, last-own-sending-loops-go, message-loops-go, home-loops-go, last-sending-loops-go}
 use Rattle.gm_lowering_master.proofs.Inside.{runs-are-followed}
 use Rattle.gm_lowering_master.proofs.Ranks.{layouts-are-settings}
 use Rattle.gm_lowering.proofs.TupleFacts.{fewer-spares}
@@ -160,6 +163,38 @@ module _ (s : Setting) (is' : IsSetting s) where
       (record { iterator = not-true (is_register (variable_at c.declarations n)) a.0; found = b.0; fits = d.0; shows = show-one (own_spots c n k test body) e.0 }) spares
       (give-apart k place h test body e.1)
 
+  own-sending-goes : (at : L.At) (k : Key) (place : Place) (h : Head) (test : Expr) (body : Stmt) → HasBodySpares s body → own_sending_goes c h.iterator k test body ≡ true → LoopGoes s at k place h test body
+  own-sending-goes at k place h test body spares o =
+      let n = h.iterator in
+      let spots = own_spots c n k test body in
+      let sends = aways c.declarations n body in
+      let last = list_all (λ a. is_last_through c spots a a.targets) sends in
+      let fits = is_body c (own_finds c n) (own_sets c n) (sending_gives c n (own_finds c n)) body in
+      let rest = all_show_one spots && (gives_apart c.declarations n body && (are_any sends && last)) in
+      let a = both-true (not (is_register (variable_at c.declarations n))) (own_finds c n test && (fits && rest)) o in
+      let b = both-true (own_finds c n test) (fits && rest) a.1 in
+      let d = both-true fits rest b.1 in
+      let e = both-true (all_show_one spots) (gives_apart c.declarations n body && (are_any sends && last)) d.1 in
+      let f = both-true (gives_apart c.declarations n body) (are_any sends && last) e.1 in
+      let g = both-true (are_any sends) last f.1 in
+      let each = λ (a : Away) (i : IsIn a sends). last-through spots a a.targets (all-in (λ a. is_last_through c spots a a.targets) sends a g.1 i) in
+      last-own-sending-loops-go s at k place h test body is'
+      (record {
+        iterator = not-true (is_register (variable_at c.declarations n)) a.0;
+        found = b.0;
+        fits = d.0;
+        sends = g.0;
+        taken = λ a i. (each a i).0;
+        shows = show-one spots e.0;
+      })
+      spares
+      (give-apart k place h test body f.0)
+      (λ a i z l. (each a i).1 z l) where
+        last-through : (spots : List Spot) (a : Away) (ts : List Target) → is_last_through c spots a ts ≡ true → IsTaken c spots a × ((z : Spot) → IsIn z spots → spot_lt (spot_of_total a.total) z ≡ false)
+        last-through spots a [] o = absurd (both_ways false refl o)
+        last-through spots a (T.Scalar x at' ∷ ts) o = absurd (both_ways false refl o)
+        last-through spots a (T.Property x p at' ∷ ts) o = sent-last c x spots a o
+
   nested-are : (n : ℕ) (h : Head) → are_nested c n h ≡ true → AreNested c n h
   nested-are n h o =
       let a = both-true (not (is_register (variable_at c.declarations n))) (not (is_register (variable_at c.declarations h.iterator)) && (not (nat_eq h.iterator n) && (is_neighbours h.domain && nat_eq h.owner n))) o in
@@ -185,7 +220,7 @@ module _ (s : Setting) (is' : IsSetting s) where
     message-goes nested spares apart o =
         let loads = carried n test body in
         let found = receiver_finds c n h.iterator loads in
-        let fits = is_body c found sets_nothing (message_gives c h.iterator found) body in
+        let fits = is_body c found sets_nothing (inner_gives c h.iterator found) body in
         let spots = spots_in mask k ++ inner_spots c n h.iterator j test body in
         let a1 = both-true (not (is_here c.declarations n h test body)) (own_finds c n mask && (not (are_any (spots_in mask k)) && (list_all (is_readable c) loads && (found test && (fits && all_show_one spots))))) o in
         let a2 = both-true (own_finds c n mask) (not (are_any (spots_in mask k)) && (list_all (is_readable c) loads && (found test && (fits && all_show_one spots)))) a1.1 in
@@ -207,10 +242,10 @@ module _ (s : Setting) (is' : IsSetting s) where
         spares
         (give-apart k place outer mask inner apart)
 
-    home-goes : AreNested c n h → gives_apart c.declarations n inner ≡ true → home_goes c n k mask j h test body ≡ true → LoopGoes s at k place outer mask inner
-    home-goes nested apart o =
+    home-goes : AreNested c n h → HasBodySpares s body → gives_apart c.declarations n inner ≡ true → home_goes c n k mask j h test body ≡ true → LoopGoes s at k place outer mask inner
+    home-goes nested spares apart o =
         let found = home_finds c n h.iterator in
-        let fits = is_body c found sets_nothing (receiver_gives c n found) body in
+        let fits = is_body c found sets_nothing (inner_gives c n found) body in
         let spots = home_spots c n h.iterator k mask j test body in
         let a1 = both-true (is_here c.declarations n h test body) (own_finds c n mask && (reads_no_local c test && (found test && (fits && all_show_one spots)))) o in
         let a2 = both-true (own_finds c n mask) (reads_no_local c test && (found test && (fits && all_show_one spots))) a1.1 in
@@ -219,13 +254,14 @@ module _ (s : Setting) (is' : IsSetting s) where
         let a5 = both-true fits (all_show_one spots) a4.1 in
         home-loops-go s at k place outer mask j inner_place h test body is'
         (record { nested = nested; here = a1.0; masked = a2.0; plain = no-local c test a3.0; found = a4.0; fits = a5.0; shows = show-one spots a5.1 })
+        spares
         (give-apart k place outer mask inner apart)
         (λ its state m point lt. turns-give-apart c.declarations (phase_loop s n inner) j inner_place h test body state.store m depth-is apart)
 
-    sending-goes : AreNested c n h → gives_apart c.declarations n inner ≡ true → sending_goes c n k mask j h test body ≡ true → LoopGoes s at k place outer mask inner
-    sending-goes nested apart o =
+    sending-goes : AreNested c n h → HasBodySpares s body → gives_apart c.declarations n inner ≡ true → sending_goes c n k mask j h test body ≡ true → LoopGoes s at k place outer mask inner
+    sending-goes nested spares apart o =
         let found = home_finds c n h.iterator in
-        let fits = is_body c found sets_nothing (receiver_gives c h.iterator found) body in
+        let fits = is_body c found sets_nothing (inner_gives c h.iterator found) body in
         let spots = home_spots c n h.iterator k mask j test body in
         let sends = aways c.declarations n body in
         let last = list_all (is_sent_last c h.iterator spots) sends in
@@ -248,6 +284,7 @@ module _ (s : Setting) (is' : IsSetting s) where
           taken = λ a i. (sent-last c h.iterator spots a (all-in (is_sent_last c h.iterator spots) sends a a7.1 i)).0;
           shows = show-one spots a6.0;
         })
+        spares
         (give-apart k place outer mask inner apart)
         (λ a i z l. (sent-last c h.iterator spots a (all-in (is_sent_last c h.iterator spots) sends a a7.1 i)).1 z l)
 
@@ -259,11 +296,12 @@ module _ (s : Setting) (is' : IsSetting s) where
         let a = both-true (are_nested c n h) (gives_apart c.declarations n inner && (messages || (home || sending))) o in
         let b = both-true (gives_apart c.declarations n inner) (messages || (home || sending)) a.1 in
         let nested = nested-are n h a.0 in
-        or-cases messages (home || sending) b.1 (message-goes nested spares b.0) (λ r. or-cases home sending r (home-goes nested b.0) (sending-goes nested b.0))
+        or-cases messages (home || sending) b.1 (message-goes nested spares b.0) (λ r. or-cases home sending r (home-goes nested spares b.0) (sending-goes nested spares b.0))
 
   loop-goes : (at : L.At) (k : Key) (place : Place) (h : Head) (test : Expr) (body : Stmt) → HasBodySpares s body → loop_goes c h.iterator k test body ≡ true → LoopGoes s at k place h test body
   loop-goes at k place h test (S.Foreach j inner_place i e b) spares o = inner-goes at k place h test j inner_place i e b spares o
-  loop-goes at k place h test body spares o = own-goes at k place h test body spares o
+  loop-goes at k place h test body spares o =
+      or-cases (own_goes c h.iterator k test body) (own_sending_goes c h.iterator k test body) o (own-goes at k place h test body spares) (own-sending-goes at k place h test body spares)
 
   -- spare registers of two statements are there for each
   spares-first : (a b : Stmt) → HasSpares c (length s.image.registers) (max (body_positions c.declarations a) (body_positions c.declarations b)) → HasBodySpares s a

@@ -3,10 +3,10 @@ use Rattle.std.specs.Prelude.{◌≡◌, ℕ, Bool, true, false, List, [], ◌�
 use Rattle.gm_value.specs.declared.operations.Op2.TheVariants as two
 use Rattle.gm_value.specs.declared.reductions.Reduce.{Reduce}
 use Rattle.gm_value.specs.declared.reductions.Reduce.TheVariants as reduce
-use Rattle.gm_ast.specs.Program.{always, Program, Binary, sequence, Combine, Declare}
+use Rattle.gm_ast.specs.Program.{always, Expr, Program, Binary, sequence, Assign, Combine, Declare}
 use Rattle.gm_lowering.specs.Layouts.{layout}
 use Rattle.gm_lowering.proofs.Samples.{at, key, neighbours, reduces, property, variable, to_property, int, sum, weigh, hops, total, scalar}
-use Rattle.gm_lowering.proofs.MoreSamples.{home, random, picks, folds, bounds, caps, pairs}
+use Rattle.gm_lowering.proofs.MoreSamples.{home, random, picks, folds, bounds, caps, pairs, tops, gifts}
 use Rattle.gm_lowering_master.specs.Follows.{is_followed}
 use Rattle.gm_lowering_master.specs.Whole.{has_result}
 use Rattle.gm_lowering_master.specs.Plain.{loop_goes, is_plain}
@@ -69,6 +69,13 @@ caps_facts = refl
 pairs_facts : facts pairs ≡ true ∷ true ∷ []
 pairs_facts = refl
 
+-- likewise where the outer node evaluates it, and where it sends along its edges
+tops_facts : facts tops ≡ true ∷ true ∷ []
+tops_facts = refl
+
+gifts_facts : facts gifts ≡ true ∷ true ∷ []
+gifts_facts = refl
+
 -- but by Min and Max alone
 abbrev caps_by : Reduce → Bool
 caps_by r =
@@ -81,9 +88,35 @@ least_values = refl
 totals : caps_by reduce.Sum ≡ false
 totals = refl
 
--- what is sent through a node variable is not plain
-random_facts : facts random ≡ true ∷ false ∷ []
+abbrev tops_by : Reduce → Bool
+tops_by r =
+    loop_goes (layout tops) 9 (key 2) always (neighbours 3 10 9 always (
+    Declare (key 4) 12 (Some (property 9 1)) ∷ reduces 5 (at 1 6) r (scalar 12) (int 8) ∷ reduces 6 (at 1 7) reduce.Sum (to_property 9 3) (variable 12) ∷ []))
+
+greatest_at_home : tops_by reduce.Max ≡ true
+greatest_at_home = refl
+
+totals_at_home : tops_by reduce.Sum ≡ false
+totals_at_home = refl
+
+-- what is sent through a node variable is plain
+random_facts : facts random ≡ true ∷ true ∷ []
 random_facts = refl
+
+-- but where nothing that may fault comes behind its total
+abbrev behind : Expr → Bool
+behind e =
+    loop_goes (layout random) 9 (key 2) always (sequence (
+    Declare (key 3) 11 (Some (property 9 7))
+    ∷ Combine (key 4) (total 4 (at 1 4)) reduce.Sum (to_property 11 3 ∷ []) (property 9 1 ∷ [])
+    ∷ Assign (key 5) (to_property 9 4) e
+    ∷ []))
+
+nothing_behind : behind (property 9 1) ≡ true
+nothing_behind = refl
+
+sum_behind : behind (Binary two.Add (at 1 5) (property 9 1) (int 1)) ≡ false
+sum_behind = refl
 
 -- the filter of a loop that sends may fault, where its number is below that of the totals
 abbrev goes : ℕ → Bool

@@ -152,4 +152,4 @@ module _ (p : Program) where
     apart (FlagOf d) (FlagOf i) e h same = ap FlagOf (let z : d ≡ i = omega (arith, same) in z)
 
 pub layouts-are-settings : LayoutsAreSettings
-layouts-are-settings p g bound graph = record { cells = cells-apart p; rows = rows-apart p; declarations = refl; firsts = registers-begin p; graph = graph; types = refl; below = (let z : node_count g ≤ node_count g = omega arith in z) }
+layouts-are-settings p g bound graph = record { cells = cells-apart p; rows = rows-apart p; declarations = refl; firsts = registers-begin p; graph = graph; types = refl; below = (let z : node_count g ≤ node_count g = omega arith in z); limit = (let z : node_count g ≤ node_count g = omega arith in z) }

@@ -62,7 +62,7 @@ pub record Setting : Type 0 where
   pub returns : Bool
   pub depth : ℕ
 
--- a setting in which things lie apart and registers begin with the first values of their locals, on a graph whose nodes are below the limit; values are judged by the types of the declarations
+-- a setting in which things lie apart and registers begin with the first values of their locals, on a graph whose nodes are those below the limit; values are judged by the types of the declarations
 pub record IsSetting (s : Setting) : Type 0 where
   pub cells : AreCells s.frame.layout s.returns s.depth (length s.image.globals)
   pub rows : IsApart s.frame.layout (length s.image.registers) (length s.image.fields)
@@ -71,6 +71,7 @@ pub record IsSetting (s : Setting) : Type 0 where
   pub graph : IsGraph s.run.graph
   pub types : s.table.declarations ≡ s.frame.layout.declarations
   pub below : node_count s.run.graph ≤ s.table.limit
+  pub limit : s.table.limit ≤ node_count s.run.graph
 
 -- globals and nodes show a store, and the graph its edge properties
 pub record Between (s : Setting) (globals : List Value) (nodes : Nodes) (r : Store) : Type 0 where

@@ -11,7 +11,7 @@ use Rattle.gm_ast.specs.Program.{Expr, Stmt, Foreach}
 use Rattle.gm_semantics.specs.Faults.{somes}
 use Rattle.gm_semantics.specs.Iterations.{Loop}
 use Rattle.gm_semantics.specs.Levels.{no_levels, nodes}
-use Rattle.gm_semantics.specs.Loops.{iteration}
+use Rattle.gm_semantics.specs.Loops.{iteration, own_left}
 use Rattle.gm_semantics.specs.Statements.{State, variable_at, loop_of}
 use Rattle.gm_lowering.specs.Layouts.{Layout, is_register, body_positions}
 use Rattle.gm_lowering.specs.Plans.{carried, is_here, Away, aways}
@@ -20,7 +20,7 @@ use Rattle.gm_lowering.specs.Blocks.{reads_scalar}
 use Rattle.gm_lowering.specs.Sites.{is_body, is_local}
 use Rattle.gm_lowering.specs.OwnLoops.{own_finds, own_sets, own_gives, are_any, HasSpares}
 use Rattle.gm_lowering.specs.Phases.{GivesApart, given_in, own_spots}
-use Rattle.gm_lowering.specs.MessageLoops.{receiver_finds, sets_nothing, receiver_gives, message_gives}
+use Rattle.gm_lowering.specs.MessageLoops.{receiver_finds, sets_nothing, inner_gives}
 use Rattle.gm_lowering.specs.Receiving.{inner_spots}
 use Rattle.gm_lowering.specs.TwoSupersteps.{is_readable}
 use Rattle.gm_lowering.specs.HomeTurns.{home_finds}
@@ -28,6 +28,7 @@ use Rattle.gm_lowering.specs.HomeSteps.{home_turns, given_inside}
 use Rattle.gm_lowering.specs.HomeLoops.{home_spots}
 use Rattle.gm_lowering.specs.Shown.{ShowOne}
 use Rattle.gm_lowering.specs.Lowered as L
+use Rattle.gm_lowering.specs.OwnSends.{sending_gives}
 use Rattle.gm_lowering.specs.TakingSteps.{IsTaken}
 use Rattle.gm_lowering.specs.SenderLoops.{TotalsLast}
 use Rattle.gm_lowering_master.specs.Cells.{Setting, IsSetting}
@@ -61,6 +62,31 @@ OwnLoopsGo =
     → IsSetting s → IsOwn s.frame.layout h.iterator k test body → HasBodySpares s body → GiveApart s k place h test body
     → LoopGoes s at k place h test body
 
+-- a loop of own statements that sends through node variables: it may do what one does that sends nothing, and sends by one reduction at least, whose totals are among its spots
+pub record IsOwnSending (c : Layout) (n : ℕ) (k : Key) (test : Expr) (body : Stmt) : Type 0 where
+  pub iterator : is_register (variable_at c.declarations n) ≡ false
+  pub found : own_finds c n test ≡ true
+  pub fits : is_body c (own_finds c n) (own_sets c n) (sending_gives c n (own_finds c n)) body ≡ true
+  pub sends : are_any (aways c.declarations n body) ≡ true
+  pub taken : (a : Away) → IsIn a (aways c.declarations n body) → IsTaken c (own_spots c n k test body) a
+  pub shows : ShowOne (own_spots c n k test body)
+
+-- the totals of what it sends come behind all its other faults, at each point where it begins, when nodes have set what they set
+abbrev pub OwnTotalsLast : Setting → Key → Place → Head → Expr → Stmt → Type 0
+OwnTotalsLast s k place h test body =
+    let loop = phase_loop s h.iterator body in
+    (its : List ℕ) (state : State) → IsPoint s its (Foreach k place h test body) state
+    → let turns = map (iteration loop k test body state.store) (nodes loop.graph) in
+    TotalsLast (somes (map (λ it. it.fault) turns)) (own_left state.store (nodes loop.graph) turns) (given_in loop k test body state.store)
+
+-- the two supersteps of such a loop are the loop, where there are spare registers for its tuples
+abbrev pub OwnSendingLoopsGo : Type 0
+OwnSendingLoopsGo =
+    (s : Setting) (at : L.At) (k : Key) (place : Place) (h : Head) (test : Expr) (body : Stmt)
+    → IsSetting s → IsOwnSending s.frame.layout h.iterator k test body → HasBodySpares s body → GiveApart s k place h test body
+    → OwnTotalsLast s k place h test body
+    → LoopGoes s at k place h test body
+
 -- two iterators that are no locals, of a loop over nodes and of one over the neighbours of its node
 pub record AreNested (c : Layout) (n : ℕ) (h : Head) : Type 0 where
   pub outer : is_register (variable_at c.declarations n) ≡ false
@@ -77,7 +103,7 @@ pub record IsMessage (c : Layout) (n : ℕ) (k : Key) (mask : Expr) (j : Key) (h
   pub quiet : spots_in mask k ≡ []
   pub readable : list_all (is_readable c) (carried n test body) ≡ true
   pub found : receiver_finds c n h.iterator (carried n test body) test ≡ true
-  pub fits : is_body c (receiver_finds c n h.iterator (carried n test body)) sets_nothing (message_gives c h.iterator (receiver_finds c n h.iterator (carried n test body))) body ≡ true
+  pub fits : is_body c (receiver_finds c n h.iterator (carried n test body)) sets_nothing (inner_gives c h.iterator (receiver_finds c n h.iterator (carried n test body))) body ≡ true
   pub shows : ShowOne (spots_in mask k ++ inner_spots c n h.iterator j test body)
 
 -- the two supersteps of such a loop are the loop, where there are spare registers for its tuples
@@ -88,14 +114,14 @@ MessageLoopsGo =
     IsSetting s → IsMessage s.frame.layout outer.iterator k mask j h test body → HasBodySpares s body → GiveApart s k place outer mask inner
     → LoopGoes s at k place outer mask inner
 
--- a home loop: the mask is found at the node; the filter reads no locals; and filter and body are found at the node, but for the neighbour itself and the edge's values. It reduces to scalars of the procedure and to the node's own properties
+-- a home loop: the mask is found at the node; the filter reads no locals; and filter and body are found at the node, but for the neighbour itself and the edge's values. It reduces to scalars of the procedure and to the node's own properties, and at once to its locals
 pub record IsHome (c : Layout) (n : ℕ) (k : Key) (mask : Expr) (j : Key) (h : Head) (test : Expr) (body : Stmt) : Type 0 where
   pub nested : AreNested c n h
   pub here : is_here c.declarations n h test body ≡ true
   pub masked : own_finds c n mask ≡ true
   pub plain : (x : ℕ) → is_local c x ≡ true → reads_scalar x test ≡ false
   pub found : home_finds c n h.iterator test ≡ true
-  pub fits : is_body c (home_finds c n h.iterator) sets_nothing (receiver_gives c n (home_finds c n h.iterator)) body ≡ true
+  pub fits : is_body c (home_finds c n h.iterator) sets_nothing (inner_gives c n (home_finds c n h.iterator)) body ≡ true
   pub shows : ShowOne (home_spots c n h.iterator k mask j test body)
 
 -- and so do the turns at each node
@@ -105,23 +131,23 @@ GiveApartInside s k place outer mask j inner_place h test body =
     (its : List ℕ) (state : State) (m : ℕ) → IsPoint s its (Foreach k place outer mask inner) state → m < node_count s.run.graph
     → GivesApart (given_inside (home_turns (phase_loop s outer.iterator inner) h j test body state.store m))
 
--- the superstep of such a loop is the loop
+-- the superstep of such a loop is the loop, where there are spare registers for its tuples
 abbrev pub HomeLoopsGo : Type 0
 HomeLoopsGo =
     (s : Setting) (at : L.At) (k : Key) (place : Place) (outer : Head) (mask : Expr) (j : Key) (inner_place : Place) (h : Head) (test : Expr) (body : Stmt)
     → let inner = Foreach j inner_place h test body in
-    IsSetting s → IsHome s.frame.layout outer.iterator k mask j h test body → GiveApart s k place outer mask inner
+    IsSetting s → IsHome s.frame.layout outer.iterator k mask j h test body → HasBodySpares s body → GiveApart s k place outer mask inner
     → GiveApartInside s k place outer mask j inner_place h test body
     → LoopGoes s at k place outer mask inner
 
--- a loop that sends along its edges: the mask is found at the node; the filter reads no locals; and filter and body are found at the node, but for the neighbour itself and the edge's values. It reduces to scalars of the procedure and to the neighbour's properties, by one reduction at least, whose totals are among its spots
+-- a loop that sends along its edges: the mask is found at the node; the filter reads no locals; and filter and body are found at the node, but for the neighbour itself and the edge's values. It reduces to scalars of the procedure and to the neighbour's properties, by one reduction at least, whose totals are among its spots, and at once to its locals
 pub record IsSending (c : Layout) (n : ℕ) (k : Key) (mask : Expr) (j : Key) (h : Head) (test : Expr) (body : Stmt) : Type 0 where
   pub nested : AreNested c n h
   pub each : is_here c.declarations n h test body ≡ true
   pub masked : own_finds c n mask ≡ true
   pub plain : (x : ℕ) → is_local c x ≡ true → reads_scalar x test ≡ false
   pub found : home_finds c n h.iterator test ≡ true
-  pub fits : is_body c (home_finds c n h.iterator) sets_nothing (receiver_gives c h.iterator (home_finds c n h.iterator)) body ≡ true
+  pub fits : is_body c (home_finds c n h.iterator) sets_nothing (inner_gives c h.iterator (home_finds c n h.iterator)) body ≡ true
   pub sends : are_any (aways c.declarations n body) ≡ true
   pub taken : (a : Away) → IsIn a (aways c.declarations n body) → IsTaken c (home_spots c n h.iterator k mask j test body) a
   pub shows : ShowOne (home_spots c n h.iterator k mask j test body)
@@ -134,11 +160,11 @@ SentTotalsLast s k place outer mask j inner_place h test body =
     (its : List ℕ) (state : State) → IsPoint s its (Foreach k place outer mask inner) state
     → TotalsLast (somes (map (λ it. it.fault) (map (iteration loop k mask inner state.store) (nodes loop.graph)))) state.store (given_in loop k mask inner state.store)
 
--- the two supersteps of such a loop are the loop
+-- the two supersteps of such a loop are the loop, where there are spare registers for its tuples
 abbrev pub SendingLoopsGo : Type 0
 SendingLoopsGo =
     (s : Setting) (at : L.At) (k : Key) (place : Place) (outer : Head) (mask : Expr) (j : Key) (inner_place : Place) (h : Head) (test : Expr) (body : Stmt)
     → let inner = Foreach j inner_place h test body in
-    IsSetting s → IsSending s.frame.layout outer.iterator k mask j h test body → GiveApart s k place outer mask inner
+    IsSetting s → IsSending s.frame.layout outer.iterator k mask j h test body → HasBodySpares s body → GiveApart s k place outer mask inner
     → SentTotalsLast s k place outer mask j inner_place h test body
     → LoopGoes s at k place outer mask inner

@@ -8,6 +8,8 @@ use Rattle.gm_ast.specs.declared.tree.Domain.{Domain}
 use Rattle.gm_ast.specs.declared.tree.Domain.TheVariants.{OutNbrs, InNbrs}
 use Rattle.gm_ast.specs.declared.tree.Head.{Head}
 use Rattle.gm_ast.specs.declared.tree.Key.{Key}
+use Rattle.gm_ast.specs.declared.tree.Target.{Target}
+use Rattle.gm_ast.specs.declared.tree.Target.TheVariants as T
 use Rattle.gm_ast.specs.Program.{Program, Expr, Stmt, Then, Combine, Foreach, For, If, While, Do}
 use Rattle.gm_semantics.specs.Levels.{numbers_from}
 use Rattle.gm_semantics.specs.Outcomes.{mean}
@@ -21,7 +23,8 @@ use Rattle.gm_lowering.specs.Blocks.{reads_scalar}
 use Rattle.gm_lowering.specs.Sites.{is_body, is_local}
 use Rattle.gm_lowering.specs.OwnLoops.{are_any, own_finds, own_sets, own_gives, is_kept_property}
 use Rattle.gm_lowering.specs.Phases.{own_spots}
-use Rattle.gm_lowering.specs.MessageLoops.{receiver_finds, sets_nothing, receiver_gives, message_gives}
+use Rattle.gm_lowering.specs.OwnSends.{sending_gives}
+use Rattle.gm_lowering.specs.MessageLoops.{receiver_finds, sets_nothing, inner_gives}
 use Rattle.gm_lowering.specs.Receiving.{inner_spots}
 use Rattle.gm_lowering.specs.TwoSupersteps.{is_readable}
 use Rattle.gm_lowering.specs.HomeTurns.{home_finds}
@@ -62,6 +65,31 @@ own_goes c n k test body =
     && (is_body c (own_finds c n) (own_sets c n) (own_gives c n (own_finds c n)) body
     && (all_show_one (own_spots c n k test body) && gives_apart c.declarations n body)))
 
+-- whether a spot is among some, and none of them comes behind it
+abbrev pub is_same_spot : Spot → Spot → Bool
+is_same_spot a b = not (spot_lt a b) && (not (spot_lt b a) && same_place a.shown b.shown)
+
+abbrev pub is_last_among : List Spot → Spot → Bool
+is_last_among spots z = list_any (is_same_spot z) spots && list_all (λ s. not (spot_lt z s)) spots
+
+-- whether a reduction that is sent goes to properties of an iterator that have fields, and its total is the last of some spots
+abbrev pub is_sent_last : Layout → ℕ → List Spot → Away → Bool
+is_sent_last c i spots a = are_any a.targets && (list_all (is_kept_property c i) a.targets && is_last_among spots (spot_of_total a.total))
+
+-- whether a reduction through a node variable has the last of some spots
+abbrev pub is_last_through : Layout → List Spot → Away → List Target → Bool
+is_last_through c spots a (T.Property x p at ∷ ts) = is_sent_last c x spots a
+is_last_through c spots a _ = false
+
+-- whether a loop of own statements sends through node variables, and no spot comes behind the totals of what it sends
+abbrev pub own_sending_goes : Layout → ℕ → Key → Expr → Stmt → Bool
+own_sending_goes c n k test body =
+    let spots = own_spots c n k test body in
+    let sends = aways c.declarations n body in
+    not (is_register (variable_at c.declarations n)) && (own_finds c n test
+    && (is_body c (own_finds c n) (own_sets c n) (sending_gives c n (own_finds c n)) body
+    && (all_show_one spots && (gives_apart c.declarations n body && (are_any sends && list_all (λ a. is_last_through c spots a a.targets) sends)))))
+
 -- whether two iterators are nested: no locals, and the inner one is of neighbours of the outer one
 abbrev pub are_nested : Layout → ℕ → Head → Bool
 are_nested c n h =
@@ -74,25 +102,14 @@ message_goes c n k mask j h test body =
     let loads = carried n test body in
     let found = receiver_finds c n h.iterator loads in
     not (is_here c.declarations n h test body) && (own_finds c n mask && (not (are_any (spots_in mask k)) && (list_all (is_readable c) loads
-    && (found test && (is_body c found sets_nothing (message_gives c h.iterator found) body && all_show_one (spots_in mask k ++ inner_spots c n h.iterator j test body))))))
+    && (found test && (is_body c found sets_nothing (inner_gives c h.iterator found) body && all_show_one (spots_in mask k ++ inner_spots c n h.iterator j test body))))))
 
 -- whether it goes at the outer node
 abbrev pub home_goes : Layout → ℕ → Key → Expr → Key → Head → Expr → Stmt → Bool
 home_goes c n k mask j h test body =
     let found = home_finds c n h.iterator in
     is_here c.declarations n h test body && (own_finds c n mask && (reads_no_local c test
-    && (found test && (is_body c found sets_nothing (receiver_gives c n found) body && all_show_one (home_spots c n h.iterator k mask j test body)))))
-
--- whether a spot is among some, and none of them comes behind it
-abbrev pub is_same_spot : Spot → Spot → Bool
-is_same_spot a b = not (spot_lt a b) && (not (spot_lt b a) && same_place a.shown b.shown)
-
-abbrev pub is_last_among : List Spot → Spot → Bool
-is_last_among spots z = list_any (is_same_spot z) spots && list_all (λ s. not (spot_lt z s)) spots
-
--- whether a reduction that is sent goes to properties of an iterator that have fields, and its total is the last of some spots
-abbrev pub is_sent_last : Layout → ℕ → List Spot → Away → Bool
-is_sent_last c i spots a = are_any a.targets && (list_all (is_kept_property c i) a.targets && is_last_among spots (spot_of_total a.total))
+    && (found test && (is_body c found sets_nothing (inner_gives c n found) body && all_show_one (home_spots c n h.iterator k mask j test body)))))
 
 -- whether a loop sends along its edges, and no spot comes behind the totals of what it sends
 abbrev pub sending_goes : Layout → ℕ → Key → Expr → Key → Head → Expr → Stmt → Bool
@@ -101,7 +118,7 @@ sending_goes c n k mask j h test body =
     let spots = home_spots c n h.iterator k mask j test body in
     let sends = aways c.declarations n body in
     is_here c.declarations n h test body && (own_finds c n mask && (reads_no_local c test
-    && (found test && (is_body c found sets_nothing (receiver_gives c h.iterator found) body
+    && (found test && (is_body c found sets_nothing (inner_gives c h.iterator found) body
     && (all_show_one spots && (are_any sends && list_all (is_sent_last c h.iterator spots) sends))))))
 
 -- whether a loop over nodes is plain
@@ -109,7 +126,7 @@ abbrev pub loop_goes : Layout → ℕ → Key → Expr → Stmt → Bool
 loop_goes c n k mask (Foreach j place h test body) =
     are_nested c n h && (gives_apart c.declarations n (Foreach j place h test body)
     && (message_goes c n k mask j h test body || (home_goes c n k mask j h test body || sending_goes c n k mask j h test body)))
-loop_goes c n k test body = own_goes c n k test body
+loop_goes c n k test body = own_goes c n k test body || own_sending_goes c n k test body
 
 -- whether all loops of a sequential phase are, and it does no reduction at once
 abbrev pub is_plain : Layout → Stmt → Bool

@@ -1,7 +1,7 @@
 //! Laws of the master list, as contracts of calls that do nothing.
 
 ghost use Rattle.gm_lowering_master.specs.Follows.{StatementsAreFollowed};
-ghost use Rattle.gm_lowering_master.specs.Going.{HomeLoopsGo, MessageLoopsGo, OwnLoopsGo, SendingLoopsGo};
+ghost use Rattle.gm_lowering_master.specs.Going.{HomeLoopsGo, MessageLoopsGo, OwnLoopsGo, OwnSendingLoopsGo, SendingLoopsGo};
 ghost use Rattle.gm_lowering_master.specs.Plain.{PlainLoopsGo, PlainProgramsRun};
 ghost use Rattle.gm_lowering_master.specs.Runs.{LinesLead};
 ghost use Rattle.gm_lowering_master.specs.Whole.{FirstMomentsShow, LayoutsAreSettings, RunsAreFollowed};
@@ -41,23 +41,24 @@ pub fn runs_are_followed()
     ensures { RunsAreFollowed }
 {}
 
-/// The supersteps of an own loop, of a home loop, of a message loop and of one that sends along its edges are the loop, at
-/// each point of a run where it begins: with the store that it leaves, or with its fault at the place that the fault shows.
-/// The loop finds what it reads where its kind has it, spots of one fault show one place, and what the loop gives to one slot
-/// is by one reduction. Of what is sent along edges the totals come behind all other faults.
+/// The supersteps of an own loop, of a home loop, of a message loop and of one that sends along its edges or through node
+/// variables are the loop, at each point of a run where it begins: with the store that it leaves, or with its fault at the
+/// place that the fault shows. The loop finds what it reads where its kind has it, spots of one fault show one place, and what
+/// the loop gives to one slot is by one reduction. Of what is sent the totals come behind all other faults.
 pub fn loops_go()
     ensures own { OwnLoopsGo }
     ensures message { MessageLoopsGo }
     ensures home { HomeLoopsGo }
     ensures sending { SendingLoopsGo }
+    ensures through { OwnSendingLoopsGo }
 {}
 
 /// The machine on the image of a program of plain loops has the program's outcome, with its turns, or its fault and place, or
 /// the cut: on every graph with the edge columns that the image declares, for all arguments and every bound. A loop is plain
-/// where a test of its text says so: it is of own statements that reduce to scalars of the procedure, and at once to
-/// properties of their node and to locals, of values or tuples, or is one inner loop along edges that reduces to scalars of
-/// the procedure and to properties of one node, that at which it is evaluated, or its neighbour, where no other fault comes
-/// behind the totals of what it sends; one that receivers of messages evaluate may reduce to its locals at once.
+/// where a test of its text says so: it is of own statements that reduce to scalars of the procedure, at once to properties
+/// of their node and to locals, of values or tuples, and through node variables; or it is one inner loop along edges that
+/// reduces to scalars of the procedure and to properties of one node, that at which it is evaluated or its neighbour, and at
+/// once to its locals, by Min or Max. No other fault comes behind the totals of what it sends.
 pub fn plain_programs_run()
     ensures loops { PlainLoopsGo }
     ensures runs { PlainProgramsRun }

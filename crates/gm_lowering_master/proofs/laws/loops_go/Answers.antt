@@ -1,5 +1,5 @@
 -- Loops of each kind go.
-use Rattle.gm_lowering_master.proofs.Going.{own-loops-go, message-loops-go, home-loops-go, sending-loops-go}
+use Rattle.gm_lowering_master.proofs.Going.{own-loops-go, message-loops-go, home-loops-go, sending-loops-go, own-sending-loops-go}
 use Rattle.gm_lowering_master.proofs.laws.loops_go.Goals as goal
 
 pub returns-clause-own : goal.returns-clause-own
@@ -13,3 +13,6 @@ returns-clause-home c = home-loops-go
 
 pub returns-clause-sending : goal.returns-clause-sending
 returns-clause-sending c = sending-loops-go
+
+pub returns-clause-through : goal.returns-clause-through
+returns-clause-through c = own-sending-loops-go
