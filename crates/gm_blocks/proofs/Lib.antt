@@ -1,0 +1,4 @@
+pub mod Items
+pub mod Loops
+pub mod Taken
+pub mod ZeroLines

@@ -1,0 +1,3 @@
+pub mod Firsts
+pub mod Takings
+pub mod LoopBlocks
