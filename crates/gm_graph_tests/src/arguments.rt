@@ -1,11 +1,13 @@
 //! Words NAME=VALUE and the values that they give.
-ghost use Rattle.std.specs.Prelude.{◌≡◌, IfOk};
+ghost use Rattle.std.specs.Prelude.{IfOk};
 ghost use Rattle.gm_words.specs.Jobs.{AllAssign};
 
+use crate::compare::{same, same_found, sides_at};
+use crate::graph_texts::graph_of_edges;
 use gm_base::{Items, NoMemory, Text};
-use gm_graph::{Graph, NodeNumbers, RawGraph, Shape, Walks, build};
+use gm_graph::Graph;
 use gm_value::{VType, Value};
-use gm_words::{ArgFault, Input, Job, bind, read_words};
+use gm_words::{Input, Job, bind, read_words};
 use std::alloc::{AllocError, Global};
 use std::process::Abort;
 use std::test::Fail;
@@ -76,27 +78,7 @@ v=9223372036854775808 => argument BadValue v
 v=18446744073709551623 => argument BadValue v";
 
 fn small_graph(alloc: Global) -> Result<Graph, NoMemory> {
-    let shape = Shape {
-        nodes: Items::new(Vec::new(alloc)),
-        edges: Items::new(Vec::new(alloc)),
-        walks: Walks::BothWays,
-    };
-    let from = NodeNumbers::from_slice(alloc, &[0, 9223372036854775807])?;
-    let to = NodeNumbers::from_slice(alloc, &[7, 7])?;
-    let extra = NodeNumbers::new(alloc);
-    let edge_columns = Items::new(Vec::new(alloc));
-    let node_columns = Items::new(Vec::new(alloc));
-    build(
-        alloc,
-        RawGraph {
-            shape,
-            from,
-            to,
-            edge_columns,
-            extra,
-            node_columns,
-        },
-    )
+    graph_of_edges(alloc, &[0, 9223372036854775807], &[7, 7], &[])
 }
 
 fn input(alloc: Global, name: &str, vtype: VType) -> Result<Input, AllocError> {
@@ -106,45 +88,78 @@ fn input(alloc: Global, name: &str, vtype: VType) -> Result<Input, AllocError> {
     })
 }
 
-fn four_inputs(alloc: Global) -> Result<Vec<Input>, AllocError> {
-    let mut inputs = Vec::new(alloc);
-    inputs.push(input(alloc, "n", VType::I32)?)?;
-    inputs.push(input(alloc, "l", VType::I64)?)?;
-    inputs.push(input(alloc, "b", VType::Flag)?)?;
-    inputs.push(input(alloc, "v", VType::Node)?)?;
+// Inputs and one more.
+fn with_input(
+    alloc: Global,
+    inputs: Vec<Input>,
+    name: &str,
+    vtype: VType,
+) -> Result<Vec<Input>, AllocError> {
+    let mut inputs = inputs;
+    inputs.push(input(alloc, name, vtype)?)?;
     Ok(inputs)
+}
+
+fn four_inputs(alloc: Global) -> Result<Vec<Input>, AllocError> {
+    let inputs = with_input(alloc, Vec::new(alloc), "n", VType::I32)?;
+    let inputs = with_input(alloc, inputs, "l", VType::I64)?;
+    let inputs = with_input(alloc, inputs, "b", VType::Flag)?;
+    with_input(alloc, inputs, "v", VType::Node)
+}
+
+fn node_text(alloc: Global, node: Option<u32>) -> Result<String, AllocError> {
+    match node {
+        None => String::from_str(alloc, "NIL"),
+        Some(k) => format!(in alloc; "@{k}"),
+    }
+}
+
+fn number_text(alloc: Global, number: i64) -> Result<String, AllocError> {
+    format!(in alloc; "{number}")
+}
+
+fn flag_text(alloc: Global, flag: bool) -> Result<String, AllocError> {
+    format!(in alloc; "{flag}")
 }
 
 fn value_text(alloc: Global, value: Value) -> Result<String, AllocError> {
     match value {
-        Value::I32(n) => format!(in alloc; "{n}"),
-        Value::I64(n) => format!(in alloc; "{n}"),
-        Value::Flag(b) => format!(in alloc; "{b}"),
-        Value::At(None) => String::from_str(alloc, "NIL"),
-        Value::At(Some(k)) => format!(in alloc; "@{k}"),
+        Value::I32(n) => number_text(alloc, i64::from(n)),
+        Value::I64(n) => number_text(alloc, n),
+        Value::Flag(b) => flag_text(alloc, b),
+        Value::At(node) => node_text(alloc, node),
     }
+}
+
+// Writes a value, behind a space where it is not the first.
+fn put_value(alloc: Global, text: &mut String, value: Value) -> Result<(), AllocError> {
+    if !text.is_empty() {
+        text.push_str(" ")?;
+    }
+    text.push_str(value_text(alloc, value)?.as_str())
 }
 
 fn values_text(alloc: Global, values: &[Value]) -> Result<String, AllocError> {
     let mut text = String::new(alloc);
     for value in values {
-        if !text.is_empty() {
-            text.push_str(" ")?;
-        }
-        text.push_str(value_text(alloc, *value)?.as_str())?;
+        put_value(alloc, &mut text, *value)?;
     }
     Ok(text)
+}
+
+// Adds the words of a line.
+fn put_words(alloc: Global, words: &mut Vec<String>, line: &str) -> Result<(), AllocError> {
+    for word in line.split(' ') {
+        words.push(String::from_str(alloc, word)?)?;
+    }
+    Ok(())
 }
 
 // The words `run a b` and those of a line.
 fn words_of(alloc: Global, line: &str) -> Result<Vec<String>, AllocError> {
     let mut words = Vec::new(alloc);
-    for word in ["run", "a", "b"] {
-        words.push(String::from_str(alloc, word)?)?;
-    }
-    for word in line.split(' ') {
-        words.push(String::from_str(alloc, word)?)?;
-    }
+    put_words(alloc, &mut words, "run a b")?;
+    put_words(alloc, &mut words, line)?;
     Ok(words)
 }
 
@@ -163,38 +178,64 @@ fn bound(
     }
 }
 
+// The words that assign after `run a b`.
+fn args_of(alloc: Global, line: &str) -> Result<Items<Text>, Fail>
+    ensures { IfOk result AllAssign }
+{
+    let words = words_of(alloc, line)?;
+    match read_words(alloc, words.as_slice())? {
+        Job::Run { args, .. } => Ok(args),
+        _ => Err(Fail::from("no run")),
+    }
+}
+
 // What the words give after `run a b`.
 fn answer(alloc: Global, inputs: &[Input], graph: &Graph, line: &str) -> Result<String, Fail> {
-    let words = words_of(alloc, line)?;
-    let Job::Run { args, .. } = read_words(alloc, words.as_slice())? else {
-        return Err("no run")?;
-    };
+    let args = args_of(alloc, line)?;
     Ok(bound(alloc, inputs, graph, args.as_slice())?)
 }
 
-// Compares what a line of words gives.
+// Compares what the words of a row give.
 fn check(
     rt: &(impl Abort + AllocGlobal),
     inputs: &[Input],
     graph: &Graph,
-    words: &str,
-    want: &str,
+    row: &str,
 ) -> Result<(), Fail> {
-    let found = answer(rt.alloc(), inputs, graph, words)?;
-    assert!(rt; found.as_str() == want, "{words} => {found}");
+    let (line, values) = sides_at(row, " => ")?;
+    let found = answer(rt.alloc(), inputs, graph, line)?;
+    same_found(rt, line, found.as_str(), values);
+    Ok(())
+}
+
+// Compares what the words of so many rows give.
+fn check_all(
+    rt: &(impl Abort + AllocGlobal),
+    inputs: &[Input],
+    graph: &Graph,
+    count: usize,
+) -> Result<(), Fail> {
+    let mut read = 0usize;
+    for row in ROWS.lines() {
+        check(rt, inputs, graph, row)?;
+        read = read.saturating_add(1);
+    }
+    same(rt, 0, read, count);
     Ok(())
 }
 
 #[test]
 fn arguments(rt: HostRuntime) -> Result<(), Fail> {
-    let alloc = rt.alloc();
-    let inputs = four_inputs(alloc)?;
-    let graph = small_graph(alloc)?;
-    for row in ROWS.lines() {
-        let (words, values) = row.split_once(" => ").ok_or("no row")?;
-        check(&rt, inputs.as_slice(), &graph, words, values)?;
-    }
-    let none = bind(alloc, inputs.as_slice(), &[], &graph);
-    assert!(rt; matches!(none, Err(ArgFault::Missing(_))));
+    let inputs = four_inputs(rt.alloc())?;
+    let graph = small_graph(rt.alloc())?;
+    check_all(&rt, inputs.as_slice(), &graph, 61)
+}
+
+#[test]
+fn no_words_give_no_value(rt: HostRuntime) -> Result<(), Fail> {
+    let inputs = four_inputs(rt.alloc())?;
+    let graph = small_graph(rt.alloc())?;
+    let found = bound(rt.alloc(), inputs.as_slice(), &graph, &[])?;
+    same_found(&rt, "no words", found.as_str(), "argument Missing n");
     Ok(())
 }

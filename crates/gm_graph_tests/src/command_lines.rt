@@ -1,5 +1,6 @@
 //! Words as a command line gives them.
-use gm_base::{Items, Text};
+use crate::compare::{same, same_found, sides_at};
+use gm_base::Text;
 use gm_partition::Owner;
 use gm_words::{Format, Job, Options, WordsStop, read_words};
 use std::alloc::{AllocError, Global};
@@ -220,29 +221,76 @@ demo 5 --format mtx => usage
 demo 5 --image => usage
 demo 5 --observe => usage";
 
-fn options_text(alloc: Global, options: Options) -> Result<String, AllocError> {
-    let workers = options.workers;
-    let turns = options.turns;
-    let format = match options.format {
-        Format::Edges => "",
-        Format::Mtx => " mtx",
-    };
-    match options.owner {
-        Owner::Mod => format!(in alloc; "{workers} mod {turns}{format}"),
-        Owner::Block => format!(in alloc; "{workers} block {turns}{format}"),
-        Owner::Spread(shift) => format!(in alloc; "{workers} spread:{shift} {turns}{format}"),
+// How nodes are dealt out.
+fn owner_text(alloc: Global, owner: Owner) -> Result<String, AllocError> {
+    match owner {
+        Owner::Mod => String::from_str(alloc, "mod"),
+        Owner::Block => String::from_str(alloc, "block"),
+        Owner::Spread(shift) => format!(in alloc; "spread:{shift}"),
     }
 }
 
-fn args_text(alloc: Global, args: &Items<Text>) -> Result<String, AllocError> {
+// The word of a format.
+fn format_word(format: Format) -> &'static str {
+    match format {
+        Format::Edges => "",
+        Format::Mtx => " mtx",
+    }
+}
+
+// The word of an option, where it is given.
+fn given_word(given: bool, word: &'static str) -> &'static str {
+    if given { word } else { "" }
+}
+
+// The options behind a command.
+fn options_text(alloc: Global, options: Options, image: bool) -> Result<String, AllocError> {
+    let owner = owner_text(alloc, options.owner)?;
+    let format = format_word(options.format);
+    let image = given_word(image, " image");
+    let observe = given_word(options.observe, " observe");
+    let (workers, turns) = (options.workers, options.turns);
+    format!(in alloc; "{workers} {owner} {turns}{format}{image}{observe}")
+}
+
+// Writes a word, behind a space where it is not the first.
+fn put_word(text: &mut String, word: &str) -> Result<(), AllocError> {
+    if !text.is_empty() {
+        text.push_str(" ")?;
+    }
+    text.push_str(word)
+}
+
+fn args_text(alloc: Global, args: &[Text]) -> Result<String, AllocError> {
     let mut text = String::new(alloc);
-    for arg in args.as_slice() {
-        if !text.is_empty() {
-            text.push_str(" ")?;
-        }
-        text.push_str(arg.as_str())?;
+    for arg in args {
+        put_word(&mut text, arg.as_str())?;
     }
     Ok(text)
+}
+
+// A command with a program or an image, a graph, the words that assign and the options.
+fn run_text(
+    alloc: Global,
+    command: &str,
+    names: (&str, &str),
+    args: &[Text],
+    options: Options,
+    image: bool,
+) -> Result<String, AllocError> {
+    let args = args_text(alloc, args)?;
+    let how = options_text(alloc, options, image)?;
+    let (first, second) = names;
+    format!(in alloc; "{command} {first} {second} [{args}] {how}")
+}
+
+fn demo_text(alloc: Global, n: u32, options: Options) -> Result<String, AllocError> {
+    let how = options_text(alloc, options, false)?;
+    format!(in alloc; "demo {n} {how}")
+}
+
+fn named_text(alloc: Global, command: &str, name: &str) -> Result<String, AllocError> {
+    format!(in alloc; "{command} {name}")
 }
 
 fn job_text(alloc: Global, job: &Job) -> Result<String, AllocError> {
@@ -253,40 +301,30 @@ fn job_text(alloc: Global, job: &Job) -> Result<String, AllocError> {
             args,
             options,
             image,
-        } => {
-            let (prog, graph) = (prog.as_str(), graph.as_str());
-            let args = args_text(alloc, args)?;
-            let how = options_text(alloc, *options)?;
-            let image = if *image { " image" } else { "" };
-            let observe = if options.observe { " observe" } else { "" };
-            format!(in alloc; "run {prog} {graph} [{args}] {how}{image}{observe}")
-        }
-        Job::Check { prog } => {
-            let prog = prog.as_str();
-            format!(in alloc; "check {prog}")
-        }
-        Job::Compile { prog } => {
-            let prog = prog.as_str();
-            format!(in alloc; "compile {prog}")
-        }
+        } => run_text(
+            alloc,
+            "run",
+            (prog.as_str(), graph.as_str()),
+            args.as_slice(),
+            *options,
+            *image,
+        ),
+        Job::Check { prog } => named_text(alloc, "check", prog.as_str()),
+        Job::Compile { prog } => named_text(alloc, "compile", prog.as_str()),
         Job::Exec {
             image,
             graph,
             args,
             options,
-        } => {
-            let (image, graph) = (image.as_str(), graph.as_str());
-            let args = args_text(alloc, args)?;
-            let how = options_text(alloc, *options)?;
-            let observe = if options.observe { " observe" } else { "" };
-            format!(in alloc; "exec {image} {graph} [{args}] {how}{observe}")
-        }
-        Job::Demo { n, options } => {
-            let n = *n;
-            let how = options_text(alloc, *options)?;
-            let observe = if options.observe { " observe" } else { "" };
-            format!(in alloc; "demo {n} {how}{observe}")
-        }
+        } => run_text(
+            alloc,
+            "exec",
+            (image.as_str(), graph.as_str()),
+            args.as_slice(),
+            *options,
+            false,
+        ),
+        Job::Demo { n, options } => demo_text(alloc, *n, *options),
     }
 }
 
@@ -306,22 +344,34 @@ fn words_of(alloc: Global, line: &str) -> Result<Vec<String>, AllocError> {
     Ok(words)
 }
 
-// Compares what a line of words asks for.
-fn check(rt: &(impl Abort + AllocGlobal), words: &str, job: &str) -> Result<(), Fail> {
-    let parts = words_of(rt.alloc(), words)?;
-    let found = answer_text(rt.alloc(), parts.as_slice())?;
-    assert!(rt; found.as_str() == job, "{words} => {found}");
+// What a line of words asks for.
+fn line_text(alloc: Global, line: &str) -> Result<String, AllocError> {
+    let words = words_of(alloc, line)?;
+    answer_text(alloc, words.as_slice())
+}
+
+// Compares what the words of a row ask for.
+fn check(rt: &(impl Abort + AllocGlobal), row: &str) -> Result<(), Fail> {
+    let (line, job) = sides_at(row, " => ")?;
+    let found = line_text(rt.alloc(), line)?;
+    same_found(rt, line, found.as_str(), job);
+    Ok(())
+}
+
+#[test]
+fn no_words_ask_for_nothing(rt: HostRuntime) -> Result<(), Fail> {
+    let found = answer_text(rt.alloc(), &[])?;
+    same_found(&rt, "no words", found.as_str(), "usage");
     Ok(())
 }
 
 #[test]
 fn jobs(rt: HostRuntime) -> Result<(), Fail> {
-    let alloc = rt.alloc();
-    let nothing: Vec<String> = Vec::new(alloc);
-    assert!(rt; matches!(read_words(alloc, nothing.as_slice()), Err(WordsStop::Usage)));
+    let mut read = 0usize;
     for row in ROWS.lines() {
-        let (words, job) = row.split_once(" => ").ok_or("no row")?;
-        check(&rt, words, job)?;
+        check(&rt, row)?;
+        read = read.saturating_add(1);
     }
+    same(&rt, 0, read, 210);
     Ok(())
 }

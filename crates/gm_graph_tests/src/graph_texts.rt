@@ -1,11 +1,14 @@
 //! Graphs as texts, for tables of what comes of a text.
 
-ghost use Rattle.std.specs.Prelude.{IfOk};
+ghost use Rattle.std.specs.Prelude.{◌≡◌, [], IfOk};
+ghost use Rattle.gm_graph.specs.Builds.{IsBuildable};
 ghost use Rattle.gm_loader.specs.GraphText.{HasColumns};
+ghost use Rattle.gm_loader.specs.Rows.{plain};
 ghost use Rattle.gm_model.specs.Graphs.{HasNode, HasStep, out_steps};
 
-use gm_base::Items;
-use gm_graph::{Graph, Shape, Walks};
+use gm_base::{Items, NoMemory};
+use gm_columns::Column;
+use gm_graph::{Graph, NodeNumbers, RawGraph, Shape, Walks, build};
 use gm_loader::Limits;
 use gm_value::{VType, Value};
 use std::alloc::{AllocError, Global};
@@ -17,6 +20,79 @@ pub(crate) const AMPLE: Limits = Limits {
     edges: 100,
     bytes: 1000,
 };
+
+/// The graph of some edges and further nodes, with columns.
+pub(crate) fn graph_of(
+    alloc: Global,
+    shape: Shape,
+    from: &[u64],
+    to: &[u64],
+    edge_columns: Items<Column>,
+    extra: &[u64],
+    node_columns: Items<Column>,
+) -> Result<Graph, NoMemory>
+    requires { IsBuildable (record {
+      shape = shape;
+      from = from.now;
+      to = to.now;
+      edge_columns = edge_columns;
+      extra = extra.now;
+      node_columns = node_columns;
+    }) }
+{
+    let from = NodeNumbers::from_slice(alloc, from)?;
+    let to = NodeNumbers::from_slice(alloc, to)?;
+    let extra = NodeNumbers::from_slice(alloc, extra)?;
+    build(
+        alloc,
+        RawGraph {
+            shape,
+            from,
+            to,
+            edge_columns,
+            extra,
+            node_columns,
+        },
+    )
+}
+
+// No columns.
+fn no_columns(alloc: Global) -> Shape
+    ensures { result ≡ plain }
+{
+    Shape {
+        nodes: Items::new(Vec::new(alloc)),
+        edges: Items::new(Vec::new(alloc)),
+        walks: Walks::BothWays,
+    }
+}
+
+/// The graph of some edges and further nodes, without columns.
+pub(crate) fn graph_of_edges(
+    alloc: Global,
+    from: &[u64],
+    to: &[u64],
+    extra: &[u64],
+) -> Result<Graph, NoMemory>
+    requires { IsBuildable (record {
+      shape = plain;
+      from = from.now;
+      to = to.now;
+      edge_columns = [];
+      extra = extra.now;
+      node_columns = [];
+    }) }
+{
+    graph_of(
+        alloc,
+        no_columns(alloc),
+        from,
+        to,
+        Items::new(Vec::new(alloc)),
+        extra,
+        Items::new(Vec::new(alloc)),
+    )
+}
 
 // The type that a letter stands for.
 fn type_of(letter: u8) -> VType {

@@ -1,54 +1,22 @@
 //! Listings of small runs, with ample memory.
 
-ghost use Rattle.std.specs.Prelude.{IfOk};
-ghost use Rattle.gm_graph.specs.Builds.{IsBuildable};
 ghost use Rattle.gm_columns.specs.Columns.{CanHold};
 
 use crate::compare::{same, same_bytes};
+use crate::graph_texts::graph_of_edges;
 use gm_base::{Items, NoMemory, Place, Status};
 use gm_columns::{Column, Values};
-use gm_graph::{Graph, NodeNumbers, RawGraph, Shape, Walks, build};
+use gm_graph::Graph;
 use gm_listing::{Ending, Outputs, listing, status_of};
 use gm_model::Outcome;
 use gm_value::{FaultKind, VType, Value};
-use std::alloc::Global;
+use std::alloc::{AllocError, Global};
 use std::process::Abort;
 use std::test::Fail;
 
 // The line `70 3` and the node of the greatest number.
-fn far_lines(alloc: Global) -> Result<RawGraph, NoMemory>
-    ensures { IfOk result IsBuildable }
-{
-    Ok(RawGraph {
-        shape: Shape {
-            nodes: Items::new(Vec::new(alloc)),
-            edges: Items::new(Vec::new(alloc)),
-            walks: Walks::BothWays,
-        },
-        from: NodeNumbers::from_slice(alloc, &[70])?,
-        to: NodeNumbers::from_slice(alloc, &[3])?,
-        edge_columns: Items::new(Vec::new(alloc)),
-        extra: NodeNumbers::from_slice(alloc, &[9_223_372_036_854_775_807])?,
-        node_columns: Items::new(Vec::new(alloc)),
-    })
-}
-
-// No line.
-fn no_line(alloc: Global) -> Result<RawGraph, NoMemory>
-    ensures { IfOk result IsBuildable }
-{
-    Ok(RawGraph {
-        shape: Shape {
-            nodes: Items::new(Vec::new(alloc)),
-            edges: Items::new(Vec::new(alloc)),
-            walks: Walks::BothWays,
-        },
-        from: NodeNumbers::new(alloc),
-        to: NodeNumbers::new(alloc),
-        edge_columns: Items::new(Vec::new(alloc)),
-        extra: NodeNumbers::new(alloc),
-        node_columns: Items::new(Vec::new(alloc)),
-    })
+fn far_graph(alloc: Global) -> Result<Graph, NoMemory> {
+    graph_of_edges(alloc, &[70], &[3], &[9_223_372_036_854_775_807])
 }
 
 // The values of three nodes.
@@ -70,38 +38,64 @@ fn three_values(
     Ok(Values::new(column))
 }
 
-// A property of each type.
-fn properties(alloc: Global) -> Result<Vec<Values>, NoMemory> {
-    let mut nodes = Vec::new(alloc);
-    nodes.push(three_values(
+// Properties and one more. (They are handed over: what a caller still holds is dropped at each of its `?`, and proved so.)
+fn with(properties: Vec<Values>, values: Values) -> Result<Vec<Values>, NoMemory> {
+    let mut properties = properties;
+    properties.push(values)?;
+    Ok(properties)
+}
+
+fn int_property(alloc: Global) -> Result<Values, NoMemory> {
+    three_values(
         alloc,
         VType::I32,
         Value::I32(i32::MIN),
         Value::I32(0),
         Value::I32(i32::MAX),
-    )?)?;
-    nodes.push(three_values(
+    )
+}
+
+fn long_property(alloc: Global) -> Result<Values, NoMemory> {
+    three_values(
         alloc,
         VType::I64,
         Value::I64(i64::MAX),
         Value::I64(i64::MIN),
         Value::I64(-10),
-    )?)?;
-    nodes.push(three_values(
+    )
+}
+
+fn flag_property(alloc: Global) -> Result<Values, NoMemory> {
+    three_values(
         alloc,
         VType::Flag,
         Value::Flag(true),
         Value::Flag(false),
         Value::Flag(true),
-    )?)?;
-    nodes.push(three_values(
+    )
+}
+
+fn node_property(alloc: Global) -> Result<Values, NoMemory> {
+    three_values(
         alloc,
         VType::Node,
         Value::At(Some(2)),
         Value::At(None),
         Value::At(Some(0)),
-    )?)?;
-    Ok(nodes)
+    )
+}
+
+// A property of each type.
+fn properties(alloc: Global) -> Result<Vec<Values>, NoMemory> {
+    let properties = with(Vec::new(alloc), int_property(alloc)?)?;
+    let properties = with(properties, long_property(alloc)?)?;
+    let properties = with(properties, flag_property(alloc)?)?;
+    with(properties, node_property(alloc)?)
+}
+
+// A property of a graph without nodes.
+fn no_values(alloc: Global) -> Values {
+    Values::new(Column::new(alloc, VType::I64))
 }
 
 // A run that is done.
@@ -114,19 +108,30 @@ fn done(scalars: Vec<Value>, returned: Option<Value>, nodes: Vec<Values>, turns:
     }
 }
 
-// The listing is this text.
-fn assert_listing(
-    rt: &impl Abort,
-    alloc: Global,
-    outputs: &Outputs,
+// Compares what is listed of an outcome on a graph.
+fn compare_on(
+    rt: &(impl Abort + AllocGlobal),
     graph: &Graph,
+    outputs: &Outputs,
     outcome: &Outcome,
     ending: Ending,
-    expected: &[u8],
-) -> Result<(), NoMemory> {
-    let text = listing(alloc, outputs, graph, outcome, ending)?;
-    same_bytes(rt, 0, text.as_slice(), expected);
+    want: &str,
+) -> Result<(), Fail> {
+    let text = listing(rt.alloc(), outputs, graph, outcome, ending)?;
+    same_bytes(rt, 0, text.as_slice(), want.as_bytes());
     Ok(())
+}
+
+// The same on the graph of two lines.
+fn compare(
+    rt: &(impl Abort + AllocGlobal),
+    outputs: &Outputs,
+    outcome: &Outcome,
+    ending: Ending,
+    want: &str,
+) -> Result<(), Fail> {
+    let graph = far_graph(rt.alloc())?;
+    compare_on(rt, &graph, outputs, outcome, ending, want)
 }
 
 const NO_NAMES: Outputs<'static> = Outputs {
@@ -134,196 +139,220 @@ const NO_NAMES: Outputs<'static> = Outputs {
     properties: &[],
 };
 
-#[test]
-fn scalars_result_nodes_and_turns(rt: HostRuntime) -> Result<(), Fail> {
-    let alloc = rt.alloc();
-    let graph = build(alloc, far_lines(alloc)?)?;
-    let scalars = vec![in alloc;
+// How many supersteps an image took, and how many messages there were.
+const COUNTS: Ending = Ending::Counts {
+    supersteps: 12,
+    messages: u64::MAX,
+};
+
+// What is listed of scalars, a result, and the properties of each type.
+const ALL_LISTED: &str = "\
+n = -5
+far_away = 12345678901
+both = False
+root = 70
+gone = NIL
+return = True
+node least far flag next
+3 -2147483648 9223372036854775807 True 9223372036854775807
+70 0 -9223372036854775808 False NIL
+9223372036854775807 2147483647 -10 True 3
+turns 1000000
+";
+
+// A scalar of each type, and a node that is none.
+fn scalars(alloc: Global) -> Result<Vec<Value>, Fail> {
+    Ok(vec![in alloc;
         Value::I32(-5),
         Value::I64(12_345_678_901),
         Value::Flag(false),
         Value::At(Some(1)),
         Value::At(None),
-    ]?;
-    let outcome = done(
-        scalars,
-        Some(Value::Flag(true)),
-        properties(alloc)?,
-        1_000_000,
-    );
+    ]?)
+}
+
+// These scalars, a result and these properties.
+fn all_done(alloc: Global) -> Result<Outcome, Fail> {
+    let scalars = scalars(alloc)?;
+    let properties = properties(alloc)?;
+    Ok(done(scalars, Some(Value::Flag(true)), properties, 1_000_000))
+}
+
+#[test]
+fn scalars_result_nodes_and_turns(rt: HostRuntime) -> Result<(), Fail> {
+    let outcome = all_done(rt.alloc())?;
     let outputs = Outputs {
         scalars: &[b"n", b"far_away", b"both", b"root", b"gone"],
         properties: &[b"least", b"far", b"flag", b"next"],
     };
-    assert_listing(
-        &rt,
-        alloc,
-        &outputs,
-        &graph,
-        &outcome,
-        Ending::Turns,
-        b"n = -5\nfar_away = 12345678901\nboth = False\nroot = 70\ngone = NIL\nreturn = True\nnode least far flag next\n3 -2147483648 9223372036854775807 True 9223372036854775807\n70 0 -9223372036854775808 False NIL\n9223372036854775807 2147483647 -10 True 3\nturns 1000000\n",
-    )?;
     same(&rt, 1, status_of(&outcome), Status::Done);
-    Ok(())
+    compare(&rt, &outputs, &outcome, Ending::Turns, ALL_LISTED)
+}
+
+// Compares what is listed of a result.
+fn compare_result(
+    rt: &(impl Abort + AllocGlobal),
+    returned: Option<Value>,
+    ending: Ending,
+    want: &str,
+) -> Result<(), Fail> {
+    let outcome = done(Vec::new(rt.alloc()), returned, Vec::new(rt.alloc()), 7);
+    compare(rt, &NO_NAMES, &outcome, ending, want)
+}
+
+#[test]
+fn no_result_and_last_lines(rt: HostRuntime) -> Result<(), Fail> {
+    compare_result(&rt, None, Ending::Turns, "turns 7\n")?;
+    compare_result(
+        &rt,
+        None,
+        COUNTS,
+        "supersteps 12 messages 18446744073709551615 turns 7\n",
+    )
+}
+
+// Compares what is listed of a result before the turns.
+fn compare_value(rt: &(impl Abort + AllocGlobal), returned: Value, want: &str) -> Result<(), Fail> {
+    compare_result(rt, Some(returned), Ending::Turns, want)
 }
 
 #[test]
 fn results_and_last_lines(rt: HostRuntime) -> Result<(), Fail> {
-    let alloc = rt.alloc();
-    let graph = build(alloc, far_lines(alloc)?)?;
-    let counts = Ending::Counts {
-        supersteps: 12,
-        messages: u64::MAX,
-    };
-    for (returned, ending, expected) in [
-        (None, Ending::Turns, b"turns 7\n".as_slice()),
-        (
-            None,
-            counts,
-            b"supersteps 12 messages 18446744073709551615 turns 7\n".as_slice(),
-        ),
-        (
-            Some(Value::I32(0)),
-            Ending::Turns,
-            b"return = 0\nturns 7\n".as_slice(),
-        ),
-        (
-            Some(Value::I64(i64::MIN)),
-            Ending::Turns,
-            b"return = -9223372036854775808\nturns 7\n".as_slice(),
-        ),
-        (
-            Some(Value::Flag(false)),
-            Ending::Turns,
-            b"return = False\nturns 7\n".as_slice(),
-        ),
-        (
-            Some(Value::At(Some(0))),
-            Ending::Turns,
-            b"return = 3\nturns 7\n".as_slice(),
-        ),
-        (
-            Some(Value::At(None)),
-            Ending::Turns,
-            b"return = NIL\nturns 7\n".as_slice(),
-        ),
-    ] {
-        let outcome = done(Vec::new(alloc), returned, Vec::new(alloc), 7);
-        assert_listing(&rt, alloc, &NO_NAMES, &graph, &outcome, ending, expected)?;
-    }
-    Ok(())
+    compare_value(&rt, Value::I32(0), "return = 0\nturns 7\n")?;
+    compare_value(
+        &rt,
+        Value::I64(i64::MIN),
+        "return = -9223372036854775808\nturns 7\n",
+    )?;
+    compare_value(&rt, Value::Flag(false), "return = False\nturns 7\n")?;
+    compare_value(&rt, Value::At(Some(0)), "return = 3\nturns 7\n")?;
+    compare_value(&rt, Value::At(None), "return = NIL\nturns 7\n")
 }
 
-#[test]
-fn faults_and_cuts_are_one_line(rt: HostRuntime) -> Result<(), Fail> {
-    let alloc = rt.alloc();
-    let graph = build(alloc, far_lines(alloc)?)?;
+// Compares the status of an outcome, and the line that is all that is listed of it, where there are names.
+fn compare_line(
+    rt: &(impl Abort + AllocGlobal),
+    outcome: &Outcome,
+    ending: Ending,
+    status: Status,
+    want: &str,
+) -> Result<(), Fail> {
     let outputs = Outputs {
         scalars: &[b"n"],
         properties: &[b"far"],
     };
-    for (kind, expected) in [
-        (
-            FaultKind::DivideByZero,
-            b"fault DivideByZero at 12:305\n".as_slice(),
-        ),
-        (FaultKind::NilNode, b"fault NilNode at 12:305\n".as_slice()),
-        (
-            FaultKind::Overflow,
-            b"fault Overflow at 12:305\n".as_slice(),
-        ),
-    ] {
-        let outcome = Outcome::Fault {
-            kind,
-            place: Place { line: 12, col: 305 },
-        };
-        assert_listing(
-            &rt,
-            alloc,
-            &outputs,
-            &graph,
-            &outcome,
-            Ending::Turns,
-            expected,
-        )?;
-        same(&rt, 1, status_of(&outcome), Status::Fault);
-    }
+    same(rt, 1, status_of(outcome), status);
+    compare(rt, &outputs, outcome, ending, want)
+}
+
+// Compares what is listed of a fault.
+fn compare_fault(rt: &(impl Abort + AllocGlobal), kind: FaultKind, want: &str) -> Result<(), Fail> {
+    let outcome = Outcome::Fault {
+        kind,
+        place: Place { line: 12, col: 305 },
+    };
+    compare_line(rt, &outcome, Ending::Turns, Status::Fault, want)
+}
+
+#[test]
+fn faults_are_one_line(rt: HostRuntime) -> Result<(), Fail> {
+    compare_fault(
+        &rt,
+        FaultKind::DivideByZero,
+        "fault DivideByZero at 12:305\n",
+    )?;
+    compare_fault(&rt, FaultKind::NilNode, "fault NilNode at 12:305\n")?;
+    compare_fault(&rt, FaultKind::Overflow, "fault Overflow at 12:305\n")
+}
+
+#[test]
+fn cuts_are_one_line(rt: HostRuntime) -> Result<(), Fail> {
     let cut = Outcome::Cut { turns: 1_000_000 };
     let counts = Ending::Counts {
         supersteps: 1,
         messages: 2,
     };
-    assert_listing(
-        &rt,
-        alloc,
-        &outputs,
-        &graph,
-        &cut,
-        counts,
-        b"cut after 1000000 turns\n",
-    )?;
-    same(&rt, 1, status_of(&cut), Status::Cut);
-    Ok(())
+    compare_line(&rt, &cut, counts, Status::Cut, "cut after 1000000 turns\n")
+}
+
+// One property of a graph without nodes.
+fn one_property(alloc: Global) -> Result<Outcome, NoMemory> {
+    let properties = with(Vec::new(alloc), no_values(alloc))?;
+    Ok(done(Vec::new(alloc), None, properties, 1))
 }
 
 #[test]
 fn a_graph_without_nodes_has_no_line_for_one(rt: HostRuntime) -> Result<(), Fail> {
-    let alloc = rt.alloc();
-    let graph = build(alloc, no_line(alloc)?)?;
-    let mut nodes = Vec::new(alloc);
-    nodes.push(Values::new(Column::new(alloc, VType::I64)))?;
-    let outcome = done(Vec::new(alloc), None, nodes, 1);
+    let outcome = one_property(rt.alloc())?;
+    let graph = graph_of_edges(rt.alloc(), &[], &[], &[])?;
     let outputs = Outputs {
         scalars: &[],
         properties: &[b"far"],
     };
-    assert_listing(
+    compare_on(
         &rt,
-        alloc,
-        &outputs,
         &graph,
+        &outputs,
         &outcome,
         Ending::Turns,
-        b"node far\nturns 1\n",
-    )?;
-    Ok(())
+        "node far\nturns 1\n",
+    )
+}
+
+// Three scalars, of which one is no node of the graph, and five properties, of which one has no values.
+fn unpaired(alloc: Global) -> Result<Outcome, Fail> {
+    let scalars = vec![in alloc; Value::I32(1), Value::I32(2), Value::At(Some(3))]?;
+    let properties = with(properties(alloc)?, no_values(alloc))?;
+    Ok(done(scalars, None, properties, 0))
+}
+
+// Compares what is listed of these under some names.
+fn compare_unpaired(
+    rt: &(impl Abort + AllocGlobal),
+    names: &Outputs,
+    want: &str,
+) -> Result<(), Fail> {
+    let outcome = unpaired(rt.alloc())?;
+    compare(rt, names, &outcome, Ending::Turns, want)
+}
+
+// What is listed under fewer names.
+const FEWER_NAMES: &str = "\
+a = 1
+node p
+3 -2147483648
+70 0
+9223372036854775807 2147483647
+turns 0
+";
+
+// What is listed under more names.
+const MORE_NAMES: &str = "\
+a = 1
+b = 2
+c = 0
+node p q r s t
+3 -2147483648 9223372036854775807 True 9223372036854775807
+70 0 -9223372036854775808 False NIL
+9223372036854775807 2147483647 -10 True 3
+turns 0
+";
+
+#[test]
+fn what_has_no_name_is_left_out(rt: HostRuntime) -> Result<(), Fail> {
+    compare_unpaired(&rt, &NO_NAMES, "turns 0\n")?;
+    let fewer = Outputs {
+        scalars: &[b"a"],
+        properties: &[b"p"],
+    };
+    compare_unpaired(&rt, &fewer, FEWER_NAMES)
 }
 
 #[test]
 fn what_has_no_partner_is_left_out(rt: HostRuntime) -> Result<(), Fail> {
-    let alloc = rt.alloc();
-    let graph = build(alloc, far_lines(alloc)?)?;
-    let scalars = vec![in alloc; Value::I32(1), Value::I32(2), Value::At(Some(3))]?;
-    let mut nodes = properties(alloc)?;
-    nodes.push(Values::new(Column::new(alloc, VType::I64)))?;
-    let outcome = done(scalars, None, nodes, 0);
-    for (names, expected) in [
-        (NO_NAMES, b"turns 0\n".as_slice()),
-        (
-            Outputs {
-                scalars: &[b"a"],
-                properties: &[b"p"],
-            },
-            b"a = 1\nnode p\n3 -2147483648\n70 0\n9223372036854775807 2147483647\nturns 0\n".as_slice(),
-        ),
-        (
-            Outputs {
-                scalars: &[b"a", b"b", b"c", b"d"],
-                properties: &[b"p", b"q", b"r", b"s", b"t", b"u"],
-            },
-            b"a = 1\nb = 2\nc = 0\nnode p q r s t\n3 -2147483648 9223372036854775807 True 9223372036854775807\n70 0 -9223372036854775808 False NIL\n9223372036854775807 2147483647 -10 True 3\nturns 0\n".as_slice(),
-        ),
-    ] {
-        assert_listing(
-            &rt,
-            alloc,
-            &names,
-            &graph,
-            &outcome,
-            Ending::Turns,
-            expected,
-        )?;
-    }
-    Ok(())
+    let more = Outputs {
+        scalars: &[b"a", b"b", b"c", b"d"],
+        properties: &[b"p", b"q", b"r", b"s", b"t", b"u"],
+    };
+    compare_unpaired(&rt, &more, MORE_NAMES)
 }

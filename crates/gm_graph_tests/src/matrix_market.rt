@@ -3,10 +3,11 @@
 ghost use Rattle.std.specs.Prelude.{◌≤◌, IfOk};
 ghost use Rattle.gm_loader.specs.GraphText.{HasColumns};
 
-use crate::compare::{same, same_text};
+use crate::compare::{same, same_found, same_text, sides};
+use crate::edge_lists::parsed;
 use crate::graph_texts::{AMPLE, listing, shape_of};
 use gm_graph::Graph;
-use gm_loader::{GraphFault, Limits, parse_graph};
+use gm_loader::Limits;
 use gm_mtx::{MtxFault, consume_mtx};
 use std::alloc::{AllocError, Global};
 use std::process::Abort;
@@ -34,39 +35,42 @@ fn outcome(
     }
 }
 
-// The same of an edge list.
-fn edge_outcome(
-    alloc: Global,
-    answer: Result<Graph, GraphFault>,
-    nodes: u32,
-    edges: u32,
-) -> Result<String, AllocError>
-    requires { IfOk answer (HasColumns nodes edges) }
-{
-    match answer {
-        Ok(graph) => listing(alloc, &graph, 0, nodes, edges),
-        Err(fault) => format!(in alloc; "{fault:?}"),
-    }
-}
-
-// What comes of a text, with columns of the types of some letters.
+// What comes of a text, with columns of the types of some letters: the numbers of nodes less a first one.
 fn comes_of(
-    rt: &(impl Abort + AllocGlobal),
+    alloc: Global,
     letters: (&str, &str),
+    first: u64,
     limits: &Limits,
     text: &[u8],
 ) -> Result<String, Fail>
     requires few_nodes { limits.now.nodes ≤ 2147483647 }
     requires few_edges { limits.now.edges ≤ 2147483647 }
 {
-    let shape = shape_of(rt.alloc(), letters)?;
+    let shape = shape_of(alloc, letters)?;
     let nodes = shape.nodes.len();
     let edges = shape.edges.len();
-    assert!(rt; nodes < 100 && edges < 100);
-    let bytes = Vec::from_slice(rt.alloc(), text)?;
-    let answer = consume_mtx(rt.alloc(), bytes, &shape, limits);
-    let found = outcome(rt.alloc(), answer, 0, nodes as u32, edges as u32)?;
-    Ok(found)
+    if nodes >= 100 || edges >= 100 {
+        return Err(Fail::from("too many letters"));
+    }
+    let bytes = Vec::from_slice(alloc, text)?;
+    let answer = consume_mtx(alloc, bytes, &shape, limits);
+    Ok(outcome(alloc, answer, first, nodes as u32, edges as u32)?)
+}
+
+// Compares what comes of a text.
+fn compare_case(
+    rt: &(impl Abort + AllocGlobal),
+    letters: (&str, &str),
+    limits: &Limits,
+    case: &str,
+) -> Result<(), Fail>
+    requires few_nodes { limits.now.nodes ≤ 2147483647 }
+    requires few_edges { limits.now.edges ≤ 2147483647 }
+{
+    let (text, want) = sides(case)?;
+    let found = comes_of(rt.alloc(), letters, 0, limits, text.as_bytes())?;
+    same_found(rt, case, found.as_str(), want);
+    Ok(())
 }
 
 // Reads texts and compares what comes of each.
@@ -74,485 +78,484 @@ fn compare(
     rt: &(impl Abort + AllocGlobal),
     letters: (&str, &str),
     limits: &Limits,
-    cases: &[(&str, &str)],
+    cases: &str,
+    count: usize,
 ) -> Result<(), Fail>
     requires few_nodes { limits.now.nodes ≤ 2147483647 }
     requires few_edges { limits.now.edges ≤ 2147483647 }
 {
-    for (row, (text, want)) in cases.iter().enumerate() {
-        let found = comes_of(rt, letters, limits, text.as_bytes())?;
-        same_text(rt, row, found.as_str(), want);
+    let mut read = 0usize;
+    for case in cases.split('~') {
+        if !case.is_empty() {
+            compare_case(rt, letters, limits, case)?;
+            read = read.saturating_add(1);
+        }
     }
+    same(rt, 0, read, count);
     Ok(())
 }
+
+// Headers, each text between `~` and a backtick, and what comes of it.
+const HEADERS: &str = "\
+~`BadHeader(1)
+~
+`BadHeader(1)
+~% a comment
+%%MatrixMarket matrix coordinate integer general
+1 1 0
+`BadHeader(1)
+~%%MatrixMarket
+1 1 0
+`BadHeader(1)
+~%%MatrixMarket matrix coordinate integer
+1 1 0
+`BadHeader(1)
+~%%MatrixMarket matrix coordinate integer general x
+1 1 0
+`BadHeader(1)
+~%MatrixMarket matrix coordinate integer general
+1 1 0
+`BadHeader(1)
+~%%MatrixMarkets matrix array real symmetric
+1 1 0
+`BadHeader(1)
+~%%MatrixMarket matrix coordinate real general
+1 1 0
+`Unsupported(1)
+~%%MatrixMarket matrix coordinate complex general
+1 1 0
+`Unsupported(1)
+~%%MatrixMarket matrix array integer general
+1 1
+`Unsupported(1)
+~%%MatrixMarket vector coordinate integer general
+1 1 0
+`Unsupported(1)
+~%%MatrixMarket matrix coordinate integer symmetric
+1 1 0
+`Unsupported(1)
+~%%MatrixMarket matrix coordinate pattern skew-symmetric
+1 1 0
+`Unsupported(1)
+~%%MatrixMarket matrix coordinate integer hermitian
+x`Unsupported(1)
+~%%MatrixMarket matrix coordinate integer general
+2 2 0
+`1;2;
+~ %%matrixmarket\tMATRIX  Coordinate PATTERN General \r
+2 1 0\r
+`1;2;
+~%%MATRIXMARKET matrix coordinate InTeGeR gENERAL
+0 0 0`
+";
 
 #[test]
 fn headers_are_judged(rt: HostRuntime) -> Result<(), Fail> {
-    compare(
-        &rt,
-        ("", ""),
-        &AMPLE,
-        &[
-            ("", "BadHeader(1)"),
-            ("\n", "BadHeader(1)"),
-            (
-                "% a comment\n%%MatrixMarket matrix coordinate integer general\n1 1 0\n",
-                "BadHeader(1)",
-            ),
-            ("%%MatrixMarket\n1 1 0\n", "BadHeader(1)"),
-            (
-                "%%MatrixMarket matrix coordinate integer\n1 1 0\n",
-                "BadHeader(1)",
-            ),
-            (
-                "%%MatrixMarket matrix coordinate integer general x\n1 1 0\n",
-                "BadHeader(1)",
-            ),
-            (
-                "%MatrixMarket matrix coordinate integer general\n1 1 0\n",
-                "BadHeader(1)",
-            ),
-            (
-                "%%MatrixMarkets matrix array real symmetric\n1 1 0\n",
-                "BadHeader(1)",
-            ),
-            (
-                "%%MatrixMarket matrix coordinate real general\n1 1 0\n",
-                "Unsupported(1)",
-            ),
-            (
-                "%%MatrixMarket matrix coordinate complex general\n1 1 0\n",
-                "Unsupported(1)",
-            ),
-            (
-                "%%MatrixMarket matrix array integer general\n1 1\n",
-                "Unsupported(1)",
-            ),
-            (
-                "%%MatrixMarket vector coordinate integer general\n1 1 0\n",
-                "Unsupported(1)",
-            ),
-            (
-                "%%MatrixMarket matrix coordinate integer symmetric\n1 1 0\n",
-                "Unsupported(1)",
-            ),
-            (
-                "%%MatrixMarket matrix coordinate pattern skew-symmetric\n1 1 0\n",
-                "Unsupported(1)",
-            ),
-            (
-                "%%MatrixMarket matrix coordinate integer hermitian\nx",
-                "Unsupported(1)",
-            ),
-            (
-                "%%MatrixMarket matrix coordinate integer general\n2 2 0\n",
-                "1;2;",
-            ),
-            (
-                " %%matrixmarket\tMATRIX  Coordinate PATTERN General \r\n2 1 0\r\n",
-                "1;2;",
-            ),
-            (
-                "%%MATRIXMARKET matrix coordinate InTeGeR gENERAL\n0 0 0",
-                "",
-            ),
-        ],
-    )?;
+    compare(&rt, ("", ""), &AMPLE, HEADERS, 18)?;
     Ok(())
 }
+
+// Sizes.
+const SIZES: &str = "\
+~%%MatrixMarket matrix coordinate pattern general`BadLine(2)
+~%%MatrixMarket matrix coordinate pattern general
+`BadLine(2)
+~%%MatrixMarket matrix coordinate pattern general
+%
+ \t
+%% 1 1 1`BadLine(5)
+~%%MatrixMarket matrix coordinate pattern general
+1 1
+`BadLine(2)
+~%%MatrixMarket matrix coordinate pattern general
+1
+`BadLine(2)
+~%%MatrixMarket matrix coordinate pattern general
+1 x 99999999999999999999
+`BadLine(2)
+~%%MatrixMarket matrix coordinate pattern general
+9223372036854775808 x 1
+`OutOfRange(2)
+~%%MatrixMarket matrix coordinate pattern general
+1 1 9223372036854775808
+`OutOfRange(2)
+~%%MatrixMarket matrix coordinate pattern general
+1 1 9223372036854775807
+`TooManyEdges(2)
+~%%MatrixMarket matrix coordinate pattern general
+9223372036854775807 1 0
+`TooManyNodes(2)
+~%%MatrixMarket matrix coordinate pattern general
+101 101 101
+`TooManyNodes(2)
+~%%MatrixMarket matrix coordinate pattern general
+1 100 101
+1 1
+`TooManyEdges(2)
+~%%MatrixMarket matrix coordinate pattern general
+-1 1 0
+`BadLine(2)
+~%%MatrixMarket matrix coordinate pattern general
+# 1 0
+`BadLine(2)
+~%%MatrixMarket matrix coordinate pattern general
+
+% x
+03 2 000 surplus
+%y
+
+`1;2;3;
+~%%MatrixMarket matrix coordinate pattern general
+2 3 0`1;2;3;
+";
+
+// Sizes at tight limits.
+const SIZES_WITHIN_LIMITS: &str = "\
+~%%MatrixMarket matrix coordinate pattern general
+2 2 2
+1 2
+2 1
+`TooLong
+~%%MatrixMarket matrix coordinate pattern general
+2 2 0
+     `1;2;
+~%%MatrixMarket matrix coordinate pattern general
+2 2 0
+      `TooLong
+~%%MatrixMarket matrix coordinate pattern general
+2 2 1
+1 2`1 0>2;2;
+~%%MatrixMarket matrix coordinate pattern general
+3 2 3
+`TooManyNodes(2)
+~%%MatrixMarket matrix coordinate pattern general
+2 2 3
+`TooManyEdges(2)
+~%%MatrixMarket matrix coordinate pattern general
+2 2 2
+`CountDiffers(3)
+~x                                                            `TooLong
+";
 
 #[test]
 fn sizes_are_judged(rt: HostRuntime) -> Result<(), Fail> {
-    compare(
-        &rt,
-        ("", ""),
-        &AMPLE,
-        &[
-            (
-                "%%MatrixMarket matrix coordinate pattern general",
-                "BadLine(2)",
-            ),
-            (
-                "%%MatrixMarket matrix coordinate pattern general\n",
-                "BadLine(2)",
-            ),
-            (
-                "%%MatrixMarket matrix coordinate pattern general\n%\n \t\n%% 1 1 1",
-                "BadLine(5)",
-            ),
-            (
-                "%%MatrixMarket matrix coordinate pattern general\n1 1\n",
-                "BadLine(2)",
-            ),
-            (
-                "%%MatrixMarket matrix coordinate pattern general\n1\n",
-                "BadLine(2)",
-            ),
-            (
-                "%%MatrixMarket matrix coordinate pattern general\n1 x 99999999999999999999\n",
-                "BadLine(2)",
-            ),
-            (
-                "%%MatrixMarket matrix coordinate pattern general\n9223372036854775808 x 1\n",
-                "OutOfRange(2)",
-            ),
-            (
-                "%%MatrixMarket matrix coordinate pattern general\n1 1 9223372036854775808\n",
-                "OutOfRange(2)",
-            ),
-            (
-                "%%MatrixMarket matrix coordinate pattern general\n1 1 9223372036854775807\n",
-                "TooManyEdges(2)",
-            ),
-            (
-                "%%MatrixMarket matrix coordinate pattern general\n9223372036854775807 1 0\n",
-                "TooManyNodes(2)",
-            ),
-            (
-                "%%MatrixMarket matrix coordinate pattern general\n101 101 101\n",
-                "TooManyNodes(2)",
-            ),
-            (
-                "%%MatrixMarket matrix coordinate pattern general\n1 100 101\n1 1\n",
-                "TooManyEdges(2)",
-            ),
-            (
-                "%%MatrixMarket matrix coordinate pattern general\n-1 1 0\n",
-                "BadLine(2)",
-            ),
-            (
-                "%%MatrixMarket matrix coordinate pattern general\n# 1 0\n",
-                "BadLine(2)",
-            ),
-            (
-                "%%MatrixMarket matrix coordinate pattern general\n\n% x\n03 2 000 surplus\n%y\n\n",
-                "1;2;3;",
-            ),
-            (
-                "%%MatrixMarket matrix coordinate pattern general\n2 3 0",
-                "1;2;3;",
-            ),
-        ],
-    )?;
-    compare(
-        &rt,
-        ("", ""),
-        &TIGHT,
-        &[
-            (
-                "%%MatrixMarket matrix coordinate pattern general\n2 2 2\n1 2\n2 1\n",
-                "TooLong",
-            ),
-            (
-                "%%MatrixMarket matrix coordinate pattern general\n2 2 0\n     ",
-                "1;2;",
-            ),
-            (
-                "%%MatrixMarket matrix coordinate pattern general\n2 2 0\n      ",
-                "TooLong",
-            ),
-            (
-                "%%MatrixMarket matrix coordinate pattern general\n2 2 1\n1 2",
-                "1 0>2;2;",
-            ),
-            (
-                "%%MatrixMarket matrix coordinate pattern general\n3 2 3\n",
-                "TooManyNodes(2)",
-            ),
-            (
-                "%%MatrixMarket matrix coordinate pattern general\n2 2 3\n",
-                "TooManyEdges(2)",
-            ),
-            (
-                "%%MatrixMarket matrix coordinate pattern general\n2 2 2\n",
-                "CountDiffers(3)",
-            ),
-            (
-                "x                                                            ",
-                "TooLong",
-            ),
-        ],
-    )?;
+    compare(&rt, ("", ""), &AMPLE, SIZES, 16)?;
+    compare(&rt, ("", ""), &TIGHT, SIZES_WITHIN_LIMITS, 8)?;
     Ok(())
 }
+
+// Entries.
+const ENTRIES: &str = "\
+~%%MatrixMarket matrix coordinate pattern general
+2 3 3
+1 3
+2 1
+1 3
+`1 0>3 2>3;2 1>1;3;
+~%%MatrixMarket matrix coordinate pattern general\r
+% c\r
+2 3 2\r
+\r
+1 3\r
+ % 2 2\r
+2 2\r
+`1 0>3;2 1>2;3;
+~%%MatrixMarket matrix coordinate integer general
+1 1 2
+1 1 x
+1 1
+`1 0>1 1>1;
+~%%MatrixMarket matrix coordinate pattern general
+2 3 1
+0 1
+`OutOfRange(3)
+~%%MatrixMarket matrix coordinate pattern general
+2 3 1
+1 0
+`OutOfRange(3)
+~%%MatrixMarket matrix coordinate pattern general
+2 3 1
+3 1
+`OutOfRange(3)
+~%%MatrixMarket matrix coordinate pattern general
+2 3 1
+1 4
+`OutOfRange(3)
+~%%MatrixMarket matrix coordinate pattern general
+3 2 1
+1 3
+`OutOfRange(3)
+~%%MatrixMarket matrix coordinate pattern general
+2 3 1
+1
+`BadLine(3)
+~%%MatrixMarket matrix coordinate pattern general
+2 3 1
+1 b
+`BadLine(3)
+~%%MatrixMarket matrix coordinate pattern general
+2 3 1
+a 9
+`BadLine(3)
+~%%MatrixMarket matrix coordinate pattern general
+2 3 1
+9 a
+`OutOfRange(3)
+~%%MatrixMarket matrix coordinate pattern general
+2 3 1
+99999999999999999999 1
+`OutOfRange(3)
+~%%MatrixMarket matrix coordinate pattern general
+2 3 1
+1 1
+% c
+2 2
+`CountDiffers(5)
+~%%MatrixMarket matrix coordinate pattern general
+2 3 1
+1 1
+2 x
+`BadLine(4)
+~%%MatrixMarket matrix coordinate pattern general
+2 3 2
+1 1
+%
+`CountDiffers(5)
+~%%MatrixMarket matrix coordinate pattern general
+2 3 0
+1 1`CountDiffers(3)
+~%%MatrixMarket matrix coordinate pattern general
+0 0 1
+1 1`OutOfRange(3)
+";
 
 #[test]
 fn entries_are_judged(rt: HostRuntime) -> Result<(), Fail> {
-    compare(
-        &rt,
-        ("", ""),
-        &AMPLE,
-        &[
-            (
-                "%%MatrixMarket matrix coordinate pattern general\n2 3 3\n1 3\n2 1\n1 3\n",
-                "1 0>3 2>3;2 1>1;3;",
-            ),
-            (
-                "%%MatrixMarket matrix coordinate pattern general\r\n% c\r\n2 3 2\r\n\r\n1 3\r\n % 2 2\r\n2 2\r\n",
-                "1 0>3;2 1>2;3;",
-            ),
-            (
-                "%%MatrixMarket matrix coordinate integer general\n1 1 2\n1 1 x\n1 1\n",
-                "1 0>1 1>1;",
-            ),
-            (
-                "%%MatrixMarket matrix coordinate pattern general\n2 3 1\n0 1\n",
-                "OutOfRange(3)",
-            ),
-            (
-                "%%MatrixMarket matrix coordinate pattern general\n2 3 1\n1 0\n",
-                "OutOfRange(3)",
-            ),
-            (
-                "%%MatrixMarket matrix coordinate pattern general\n2 3 1\n3 1\n",
-                "OutOfRange(3)",
-            ),
-            (
-                "%%MatrixMarket matrix coordinate pattern general\n2 3 1\n1 4\n",
-                "OutOfRange(3)",
-            ),
-            (
-                "%%MatrixMarket matrix coordinate pattern general\n3 2 1\n1 3\n",
-                "OutOfRange(3)",
-            ),
-            (
-                "%%MatrixMarket matrix coordinate pattern general\n2 3 1\n1\n",
-                "BadLine(3)",
-            ),
-            (
-                "%%MatrixMarket matrix coordinate pattern general\n2 3 1\n1 b\n",
-                "BadLine(3)",
-            ),
-            (
-                "%%MatrixMarket matrix coordinate pattern general\n2 3 1\na 9\n",
-                "BadLine(3)",
-            ),
-            (
-                "%%MatrixMarket matrix coordinate pattern general\n2 3 1\n9 a\n",
-                "OutOfRange(3)",
-            ),
-            (
-                "%%MatrixMarket matrix coordinate pattern general\n2 3 1\n99999999999999999999 1\n",
-                "OutOfRange(3)",
-            ),
-            (
-                "%%MatrixMarket matrix coordinate pattern general\n2 3 1\n1 1\n% c\n2 2\n",
-                "CountDiffers(5)",
-            ),
-            (
-                "%%MatrixMarket matrix coordinate pattern general\n2 3 1\n1 1\n2 x\n",
-                "BadLine(4)",
-            ),
-            (
-                "%%MatrixMarket matrix coordinate pattern general\n2 3 2\n1 1\n%\n",
-                "CountDiffers(5)",
-            ),
-            (
-                "%%MatrixMarket matrix coordinate pattern general\n2 3 0\n1 1",
-                "CountDiffers(3)",
-            ),
-            (
-                "%%MatrixMarket matrix coordinate pattern general\n0 0 1\n1 1",
-                "OutOfRange(3)",
-            ),
-        ],
-    )?;
+    compare(&rt, ("", ""), &AMPLE, ENTRIES, 18)?;
     Ok(())
 }
+
+// Entries with an Int.
+const EDGE_INTS: &str = "\
+~%%MatrixMarket matrix coordinate integer general
+% demo
+3 3 3
+1 2 4
+1 3 1
+3 2 2
+`1 0>2/4 1>3/1;2;3 2>2/2;
+~%%MatrixMarket matrix coordinate integer general
+% demo
+3 3 4
+1 2 4
+1 3 1
+3 2 2
+`CountDiffers(7)
+~%%MatrixMarket matrix coordinate integer general
+1 1 1
+1 1
+`MissingColumn(3)
+~%%MatrixMarket matrix coordinate integer general
+1 1 1
+1 1 4.5
+`BadLine(3)
+~%%MatrixMarket matrix coordinate integer general
+1 1 1
+1 1 2147483648
+`OutOfRange(3)
+~%%MatrixMarket matrix coordinate integer general
+1 1 1
+1 1 -2147483648 x
+`1 0>1/-2147483648;
+~%%MatrixMarket matrix coordinate integer general
+1 1 1
+1 2 x
+`OutOfRange(3)
+~%%MatrixMarket matrix coordinate integer general
+1 1 0
+1 1 1
+`CountDiffers(3)
+~%%MatrixMarket matrix coordinate integer general
+1 1 0
+1 1 x
+`BadLine(3)
+~%%MatrixMarket matrix coordinate pattern general
+1 1 1
+1 1 7
+`MissingColumn(3)
+~%%MatrixMarket matrix coordinate pattern general
+1 1 1
+1 2 7
+`OutOfRange(3)
+~%%MatrixMarket matrix coordinate pattern general
+2 2 0
+`1;2;
+";
+
+// Entries with a Bool, and nodes with values.
+const EDGE_FLAGS: &str = "\
+~%%MatrixMarket matrix coordinate integer general
+2 2 2
+1 2 1
+2 1 0
+`1:0:0 0>2/true;2:0:0 1>1/false;
+~%%MatrixMarket matrix coordinate integer general
+2 2 1
+1 2 2
+`BadLine(3)
+";
+
+// Entries for two columns.
+const EDGE_PAIRS: &str = "\
+~%%MatrixMarket matrix coordinate integer general
+2 2 1
+1 2 3 4
+`MissingColumn(3)
+~%%MatrixMarket matrix coordinate integer general
+2 2 1
+1 2 x 4
+`BadLine(3)
+~%%MatrixMarket matrix coordinate integer general
+2 2 0
+`1;2;
+";
 
 #[test]
 fn values_are_judged(rt: HostRuntime) -> Result<(), Fail> {
-    compare(
-        &rt,
-        ("", "i"),
-        &AMPLE,
-        &[
-            (
-                "%%MatrixMarket matrix coordinate integer general\n% demo\n3 3 3\n1 2 4\n1 3 1\n3 2 2\n",
-                "1 0>2/4 1>3/1;2;3 2>2/2;",
-            ),
-            (
-                "%%MatrixMarket matrix coordinate integer general\n% demo\n3 3 4\n1 2 4\n1 3 1\n3 2 2\n",
-                "CountDiffers(7)",
-            ),
-            (
-                "%%MatrixMarket matrix coordinate integer general\n1 1 1\n1 1\n",
-                "MissingColumn(3)",
-            ),
-            (
-                "%%MatrixMarket matrix coordinate integer general\n1 1 1\n1 1 4.5\n",
-                "BadLine(3)",
-            ),
-            (
-                "%%MatrixMarket matrix coordinate integer general\n1 1 1\n1 1 2147483648\n",
-                "OutOfRange(3)",
-            ),
-            (
-                "%%MatrixMarket matrix coordinate integer general\n1 1 1\n1 1 -2147483648 x\n",
-                "1 0>1/-2147483648;",
-            ),
-            (
-                "%%MatrixMarket matrix coordinate integer general\n1 1 1\n1 2 x\n",
-                "OutOfRange(3)",
-            ),
-            (
-                "%%MatrixMarket matrix coordinate integer general\n1 1 0\n1 1 1\n",
-                "CountDiffers(3)",
-            ),
-            (
-                "%%MatrixMarket matrix coordinate integer general\n1 1 0\n1 1 x\n",
-                "BadLine(3)",
-            ),
-            (
-                "%%MatrixMarket matrix coordinate pattern general\n1 1 1\n1 1 7\n",
-                "MissingColumn(3)",
-            ),
-            (
-                "%%MatrixMarket matrix coordinate pattern general\n1 1 1\n1 2 7\n",
-                "OutOfRange(3)",
-            ),
-            (
-                "%%MatrixMarket matrix coordinate pattern general\n2 2 0\n",
-                "1;2;",
-            ),
-        ],
-    )?;
-    compare(
-        &rt,
-        ("li", "b"),
-        &AMPLE,
-        &[
-            (
-                "%%MatrixMarket matrix coordinate integer general\n2 2 2\n1 2 1\n2 1 0\n",
-                "1:0:0 0>2/true;2:0:0 1>1/false;",
-            ),
-            (
-                "%%MatrixMarket matrix coordinate integer general\n2 2 1\n1 2 2\n",
-                "BadLine(3)",
-            ),
-        ],
-    )?;
-    compare(
-        &rt,
-        ("", "il"),
-        &AMPLE,
-        &[
-            (
-                "%%MatrixMarket matrix coordinate integer general\n2 2 1\n1 2 3 4\n",
-                "MissingColumn(3)",
-            ),
-            (
-                "%%MatrixMarket matrix coordinate integer general\n2 2 1\n1 2 x 4\n",
-                "BadLine(3)",
-            ),
-            (
-                "%%MatrixMarket matrix coordinate integer general\n2 2 0\n",
-                "1;2;",
-            ),
-        ],
-    )?;
+    compare(&rt, ("", "i"), &AMPLE, EDGE_INTS, 12)?;
+    compare(&rt, ("li", "b"), &AMPLE, EDGE_FLAGS, 2)?;
+    compare(&rt, ("", "il"), &AMPLE, EDGE_PAIRS, 3)?;
     Ok(())
 }
 
-// What is wanted of a prefix of a length: the answer of the last row that begins at or before it.
-fn wanted<'a>(answers: &[(usize, &'a str)], length: usize) -> &'a str {
-    let mut answer = "";
-    for (first, from_there) in answers {
-        if *first <= length {
-            answer = *from_there;
+// A number of a row.
+fn number_of(text: &str) -> Result<usize, Fail> {
+    match text.parse::<usize>() {
+        Ok(number) => Ok(number),
+        Err(_) => Err(Fail::from("a row without its number")),
+    }
+}
+
+// The answer of a row, if a length is not beyond it.
+fn answer_of(row: &str, length: usize) -> Result<Option<&str>, Fail> {
+    let (last, answer) = sides(row)?;
+    if length <= number_of(last)? {
+        Ok(Some(answer))
+    } else {
+        Ok(None)
+    }
+}
+
+// The greatest length of a prefix with an answer, and the answer, in their order.
+const ANSWERS: &str = "\
+41`BadHeader(1)
+47`Unsupported(1)
+49`BadLine(2)
+57`BadLine(3)
+59`CountDiffers(4)
+61`BadLine(4)
+63`MissingColumn(4)
+66`CountDiffers(5)
+67`CountDiffers(6)
+69`BadLine(6)
+71`MissingColumn(6)
+72`BadLine(6)
+74`1 0>2/40;2;3 1>1/-7;
+";
+
+// What is wanted of a prefix of a length.
+fn wanted(length: usize) -> Result<&'static str, Fail> {
+    for row in ANSWERS.lines() {
+        if let Some(answer) = answer_of(row, length)? {
+            return Ok(answer);
         }
     }
-    answer
+    Err(Fail::from("no such prefix"))
 }
 
-// Each prefix of one file: the length from which on an answer holds, and the answer.
+const FILE: &str =
+    "%%MatrixMarket matrix coordinate integer general\n% c\n3 2 2\n1 2 40\n\n3 1 -7\n";
+
+// Compares what comes of a prefix.
+fn compare_prefix(rt: &(impl Abort + AllocGlobal), length: usize) -> Result<(), Fail> {
+    let prefix = FILE.as_bytes().get(..length).unwrap_or(&[]);
+    let found = comes_of(rt.alloc(), ("", "i"), 0, &AMPLE, prefix)?;
+    same_text(rt, length, found.as_str(), wanted(length)?);
+    Ok(())
+}
+
+// Each prefix of one file.
 #[test]
 fn prefixes_are_judged(rt: HostRuntime) -> Result<(), Fail> {
-    let text = "%%MatrixMarket matrix coordinate integer general\n% c\n3 2 2\n1 2 40\n\n3 1 -7\n";
-    let answers = [
-        (0, "BadHeader(1)"),
-        (42, "Unsupported(1)"),
-        (48, "BadLine(2)"),
-        (50, "BadLine(3)"),
-        (58, "CountDiffers(4)"),
-        (60, "BadLine(4)"),
-        (62, "MissingColumn(4)"),
-        (64, "CountDiffers(5)"),
-        (67, "CountDiffers(6)"),
-        (68, "BadLine(6)"),
-        (70, "MissingColumn(6)"),
-        (72, "BadLine(6)"),
-        (73, "1 0>2/40;2;3 1>1/-7;"),
-    ];
-    let bytes = text.as_bytes();
-    same(&rt, 0, bytes.len(), 74);
-    for length in 0..bytes.len() + 1 {
-        let found = comes_of(&rt, ("", "i"), &AMPLE, &bytes[..length])?;
-        same_text(&rt, length, found.as_str(), wanted(&answers, length));
+    same(&rt, 0, FILE.len(), 74);
+    for length in 0..75 {
+        compare_prefix(&rt, length)?;
     }
     Ok(())
 }
 
-// The same graph as an edge list and as a Matrix Market text, whose numbers begin with 1.
+// A graph as an edge list.
+const EDGES: &str = "# a graph\n0 1 4\n0 2 1\n2 1 -2\n2 1 -2\n1 1 0\nv 3 0\n";
+
+// The same graph as a Matrix Market text, whose numbers begin with 1.
+const MATRIX: &str =
+    "%%MatrixMarket matrix coordinate integer general\n% a graph\n4 3 5\n1 2 4\n1 3 1\n3 2 -2\n3 2 -2\n2 2 0\n";
+
 #[test]
 fn edge_lists_give_the_same(rt: HostRuntime) -> Result<(), Fail> {
-    let alloc = rt.alloc();
-    let shape = shape_of(alloc, ("i", "l"))?;
-    let edges = "# a graph\n0 1 4\n0 2 1\n2 1 -2\n2 1 -2\n1 1 0\nv 3 0\n";
-    let matrix =
-        "%%MatrixMarket matrix coordinate integer general\n% a graph\n4 3 5\n1 2 4\n1 3 1\n3 2 -2\n3 2 -2\n2 2 0\n";
-    let node_columns = shape.nodes.len();
-    let edge_columns = shape.edges.len();
-    assert!(rt; node_columns < 100 && edge_columns < 100);
-    let listed = parse_graph(alloc, edges.as_bytes(), &shape, &AMPLE);
-    let listed = edge_outcome(alloc, listed, node_columns as u32, edge_columns as u32)?;
-    let bytes = Vec::from_slice(alloc, matrix.as_bytes())?;
-    let matrixed = consume_mtx(alloc, bytes, &shape, &AMPLE);
-    let matrixed = outcome(alloc, matrixed, 1, node_columns as u32, edge_columns as u32)?;
-    same_text(
-        &rt,
-        0,
-        listed.as_str(),
-        "0:0 0>1/4 1>2/1;1:0 4>1/0;2:0 2>1/-2 3>1/-2;3:0;",
-    );
-    same_text(&rt, 1, matrixed.as_str(), listed.as_str());
+    let want = "0:0 0>1/4 1>2/1;1:0 4>1/0;2:0 2>1/-2 3>1/-2;3:0;";
+    let listed = parsed(rt.alloc(), ("i", "l"), &AMPLE, EDGES.as_bytes())?;
+    same_text(&rt, 0, listed.as_str(), want);
+    let matrixed = comes_of(rt.alloc(), ("i", "l"), 1, &AMPLE, MATRIX.as_bytes())?;
+    same_text(&rt, 1, matrixed.as_str(), want);
     Ok(())
 }
 
-// What a fault says.
-fn said_of(alloc: Global, fault: MtxFault) -> Result<String, AllocError> {
-    format!(in alloc; "{fault}")
+// Compares what a fault says.
+fn says(rt: &(impl Abort + AllocGlobal), fault: MtxFault, want: &str) -> Result<(), Fail> {
+    let text = format!(in rt.alloc(); "{fault}")?;
+    same_text(rt, 0, text.as_str(), want);
+    Ok(())
 }
 
 #[test]
 fn faults_say_what_and_where(rt: HostRuntime) -> Result<(), Fail> {
-    let said = [
-        (MtxFault::BadHeader(1), "no Matrix Market header in line 1"),
-        (
-            MtxFault::Unsupported(1),
-            "a kind of matrix that is not read in line 1",
-        ),
-        (MtxFault::BadLine(3), "bad line 3"),
-        (MtxFault::MissingColumn(4), "a value is missing in line 4"),
-        (
-            MtxFault::OutOfRange(5),
-            "a number is out of range in line 5",
-        ),
-        (
-            MtxFault::CountDiffers(6),
-            "another number of entries at line 6",
-        ),
-        (MtxFault::TooManyNodes(2), "too many nodes in line 2"),
-        (
-            MtxFault::TooManyEdges(18_446_744_073_709_551_615),
-            "too many edges in line 18446744073709551615",
-        ),
-        (MtxFault::TooLong, "too long"),
-        (MtxFault::NoMemory, "out of memory"),
-    ];
-    for (row, (fault, want)) in said.iter().enumerate() {
-        let text = said_of(rt.alloc(), *fault)?;
-        same_text(&rt, row, text.as_str(), want);
-    }
-    Ok(())
+    says(
+        &rt,
+        MtxFault::BadHeader(1),
+        "no Matrix Market header in line 1",
+    )?;
+    says(
+        &rt,
+        MtxFault::Unsupported(1),
+        "a kind of matrix that is not read in line 1",
+    )?;
+    says(&rt, MtxFault::BadLine(3), "bad line 3")?;
+    says(
+        &rt,
+        MtxFault::MissingColumn(4),
+        "a value is missing in line 4",
+    )?;
+    says(
+        &rt,
+        MtxFault::OutOfRange(5),
+        "a number is out of range in line 5",
+    )
+}
+
+#[test]
+fn faults_of_counts_say_what_and_where(rt: HostRuntime) -> Result<(), Fail> {
+    says(
+        &rt,
+        MtxFault::CountDiffers(6),
+        "another number of entries at line 6",
+    )?;
+    says(&rt, MtxFault::TooManyNodes(2), "too many nodes in line 2")?;
+    says(
+        &rt,
+        MtxFault::TooManyEdges(18_446_744_073_709_551_615),
+        "too many edges in line 18446744073709551615",
+    )?;
+    says(&rt, MtxFault::TooLong, "too long")?;
+    says(&rt, MtxFault::NoMemory, "out of memory")
 }

@@ -19,26 +19,29 @@ fn check(
 
 #[test]
 fn owners(rt: HostRuntime) {
-    // The owner, the workers, the nodes, the node, and the worker.
-    let rows = [
-        (Owner::Mod, 1, 1, 0, 0),
-        (Owner::Mod, 3, 10, 7, 1),
-        (Owner::Mod, 64, 4000000, 3999999, 63),
-        (Owner::Mod, 64, 4294967295, 4294967294, 62),
-        (Owner::Block, 1, 1, 0, 0),
-        (Owner::Block, 3, 10, 3, 0),
-        (Owner::Block, 3, 10, 4, 1),
-        (Owner::Block, 3, 10, 9, 2),
-        (Owner::Block, 64, 1, 0, 0),
-        (Owner::Block, 64, 65, 64, 32),
-        (Owner::Block, 64, 4294967295, 4294967294, 63),
-        (Owner::Spread(0), 2, 10, 0, 0),
-        (Owner::Spread(0), 64, 10, 1, 55),
-        (Owner::Spread(65536), 2, 10, 0, 1),
-        (Owner::Spread(4294967295), 64, 10, 0, 63),
-        (Owner::Spread(4294967295), 64, 4294967295, 4294967294, 17),
-    ];
-    for (row, (owner, workers, nodes, node, worker)) in rows.iter().enumerate() {
-        check(&rt, row, *owner, *workers, *nodes, *node, *worker);
-    }
+    // The row, the owner, the workers, the nodes, the node, and the worker.
+    check(&rt, 0, Owner::Mod, 1, 1, 0, 0);
+    check(&rt, 1, Owner::Mod, 3, 10, 7, 1);
+    check(&rt, 2, Owner::Mod, 64, 4000000, 3999999, 63);
+    check(&rt, 3, Owner::Mod, 64, 4294967295, 4294967294, 62);
+    check(&rt, 4, Owner::Block, 1, 1, 0, 0);
+    check(&rt, 5, Owner::Block, 3, 10, 3, 0);
+    check(&rt, 6, Owner::Block, 3, 10, 4, 1);
+    check(&rt, 7, Owner::Block, 3, 10, 9, 2);
+    check(&rt, 8, Owner::Block, 64, 1, 0, 0);
+    check(&rt, 9, Owner::Block, 64, 65, 64, 32);
+    check(&rt, 10, Owner::Block, 64, 4294967295, 4294967294, 63);
+    check(&rt, 11, Owner::Spread(0), 2, 10, 0, 0);
+    check(&rt, 12, Owner::Spread(0), 64, 10, 1, 55);
+    check(&rt, 13, Owner::Spread(65536), 2, 10, 0, 1);
+    check(&rt, 14, Owner::Spread(4294967295), 64, 10, 0, 63);
+    check(
+        &rt,
+        15,
+        Owner::Spread(4294967295),
+        64,
+        4294967295,
+        4294967294,
+        17,
+    );
 }
