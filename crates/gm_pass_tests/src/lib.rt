@@ -12,6 +12,8 @@ mod conditions;
 #[cfg(test)]
 mod deferred;
 #[cfg(test)]
+mod dissecting;
+#[cfg(test)]
 mod example_texts;
 #[cfg(test)]
 mod flips;
@@ -53,6 +55,8 @@ mod rows;
 mod runs;
 #[cfg(test)]
 mod search_faults;
+#[cfg(test)]
+mod slices;
 #[cfg(test)]
 mod sources;
 #[cfg(test)]

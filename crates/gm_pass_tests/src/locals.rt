@@ -4,8 +4,8 @@ use crate::passes::KEEPING;
 use crate::runs::{Frame, all_run_same};
 use std::test::Fail;
 
-// Bodies with locals that are set before a part that is cut, and some that are read or reduced behind it.
-const BODIES: [&str; 18] = [
+/// Bodies with locals that are set before a part that is cut, and some that are read or reduced behind it.
+pub const BODIES: [&str; 18] = [
     "Foreach (n: G.Nodes) { Int m = n.OutDegree(); Foreach (t: n.Nbrs) { t.b += m; } n.a = m + 1; }",
     "Foreach (n: G.Nodes) { Int m; Foreach (t: n.Nbrs) { m += 1; } n.a = m; Foreach (t: n.InNbrs) { t.b += m; } }",
     "Do { Foreach (n: G.Nodes) { Int m; Bool o; m = m + n.a + 1; Foreach (t: n.Nbrs)(!o) { t.b += m; } o = True; n.a = m; n.f = o; } x = x + 1; } While (x < 3);",

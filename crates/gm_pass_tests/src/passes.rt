@@ -13,12 +13,20 @@ use gm_desugaring::desugar::desugar;
 use gm_desugaring::phases::desugar_phases;
 use gm_dissect::all_deferred::deferred_out;
 use gm_dissect::conditions::save_conditions;
+use gm_dissecting::apart::statements_apart;
+use gm_dissecting::dissect::dissect;
 use gm_flip::flip::flip;
 use gm_hoisting::hoisting::inner_folds_out;
 use gm_locals::locals::locals_out;
 use gm_picks::picks::picks_out;
+use gm_prepare::declared::declare_locals;
+use gm_prepare::filters::save_filters;
+use gm_prepare::iterators::place_iterators;
+use gm_prepare::nodes::read_nodes;
+use gm_prepare::numbers::save_conditions_apart;
 use gm_reductions::accesses::accesses_out;
 use gm_reductions::folds::folds_out;
+use gm_slices::slices::slice_inner_loops;
 use std::alloc::Global;
 
 /// A pass, or several in one call.
@@ -40,7 +48,15 @@ pub enum Pass {
     SaveConditions,
     LocalsOut,
     CutBodies,
+    SliceInnerLoops,
     Flip,
+    PlaceIterators,
+    DeclareLocals,
+    SaveFilters,
+    SaveConditionsApart,
+    ReadNodes,
+    StatementsApart,
+    Dissect,
 }
 
 // What a pass, or several in one call, makes of a program.
@@ -69,7 +85,22 @@ fn after_more(alloc: Global, pass: Pass, program: Work) -> Result<Work, NoMemory
         Pass::SaveConditions => save_conditions(alloc, program),
         Pass::LocalsOut => locals_out(alloc, program),
         Pass::CutBodies => cut_bodies(alloc, program),
+        Pass::SliceInnerLoops => slice_inner_loops(alloc, program),
         Pass::Flip => flip(alloc, program),
+        _ => after_cutting(alloc, pass, program),
+    }
+}
+
+// The same of the other passes that cut bodies, and of all in one call.
+fn after_cutting(alloc: Global, pass: Pass, program: Work) -> Result<Work, NoMemory> {
+    match pass {
+        Pass::PlaceIterators => place_iterators(alloc, program),
+        Pass::DeclareLocals => declare_locals(alloc, program),
+        Pass::SaveFilters => save_filters(alloc, program),
+        Pass::SaveConditionsApart => save_conditions_apart(alloc, program),
+        Pass::ReadNodes => read_nodes(alloc, program),
+        Pass::StatementsApart => statements_apart(alloc, program),
+        Pass::Dissect => dissect(alloc, program),
         _ => Ok(program),
     }
 }
@@ -133,3 +164,27 @@ pub const PIECES: [Pass; 2] = [Pass::DeferredOut, Pass::CutBodies];
 
 /// Bodies in pieces, then loops that pull turned round.
 pub const FLIPPED: [Pass; 2] = [Pass::CutBodies, Pass::Flip];
+
+/// Inner loops in slices.
+pub const SLICES: [Pass; 2] = [Pass::CutBodies, Pass::SliceInnerLoops];
+
+/// Inner loops in slices, then loops that pull turned round.
+pub const SLICES_FLIPPED: [Pass; 3] = [Pass::CutBodies, Pass::SliceInnerLoops, Pass::Flip];
+
+/// All passes that cut bodies, one after another, then loops that pull turned round.
+pub const DISSECTING: [Pass; 11] = [
+    Pass::PlaceIterators,
+    Pass::DeclareLocals,
+    Pass::DeferredOut,
+    Pass::SaveFilters,
+    Pass::SaveConditionsApart,
+    Pass::ReadNodes,
+    Pass::LocalsOut,
+    Pass::CutBodies,
+    Pass::StatementsApart,
+    Pass::SliceInnerLoops,
+    Pass::Flip,
+];
+
+/// The same in one call, then loops that pull turned round.
+pub const DISSECTED: [Pass; 2] = [Pass::Dissect, Pass::Flip];

@@ -6,8 +6,8 @@ use std::test::Fail;
 
 const NO_INPUT: &str = "run - - nil=NIL";
 
-// Bodies that may be cut.
-const CUT: [&str; 17] = [
+/// Bodies that may be cut.
+pub const CUT: [&str; 17] = [
     "Foreach (n: G.Nodes) { n.a = 1; n.b = n.a; Foreach (t: n.Nbrs) { t.c += n.b; } n.a = 2; }",
     "Foreach (n: G.Nodes) { n.f = n.OutDegree() > 1; } Foreach (n: G.Nodes) { If (n.f) { Foreach (t: n.Nbrs) { t.b += 1; } } Else { n.c = 2; } }",
     "Foreach (n: G.Nodes)(n.a < 2) { Foreach (t: n.Nbrs) { t.b += 1; } Foreach (t: n.InNbrs) { t.c max= 4; } }",
@@ -32,8 +32,8 @@ fn bodies_in_pieces_run_the_same(rt: HostRuntime) -> Result<(), Fail> {
     all_run_same(&rt, rt.alloc(), Frame::Cut, &CUT, &PIECES)
 }
 
-// Bodies of which a piece changes the condition or the filter, which the next piece asks again: they may not be cut so.
-const CHANGED: [&str; 3] = [
+/// Bodies of which a piece changes the condition or the filter, which the next piece asks again: they may not be cut so.
+pub const CHANGED: [&str; 3] = [
     "Foreach (n: G.Nodes) { If (n.a == 0) { n.a = 1; Foreach (t: n.Nbrs) { t.b += 1; } } }",
     "Foreach (n: G.Nodes)(n.a == 0) { n.a = 1; Foreach (t: n.Nbrs) { t.b += 1; } }",
     "Foreach (n: G.Nodes) { If (n.a == 0) { Foreach (t: n.Nbrs) { t.b += 1; } n.a = 1; } Else { n.c = 2; } }",
