@@ -105,12 +105,22 @@ method_part group at EdgeCount b = refused_unless (is Graph b.variable) T7 at (p
 method_part group at ToEdge b = refused T7 at
 method_part group at Unknown b = refused T7 at
 
+-- whether a kind is this type of numbers already
+abbrev pub is_already : VType → Kind → Bool
+is_already I32 (Of I32) = true
+is_already I64 (Of I64) = true
+is_already _ _ = false
+
 -- a number as one of another type
+abbrev pub changed_part : VType → Place → Part → Part
+changed_part I32 at p = part_of (Of I32) (P.Unary Op1.ToI32 at p.core)
+changed_part I64 at p = part_of (Of I64) (P.Unary Op1.ToI64 at p.core)
+changed_part Flag at p = p
+changed_part Node at p = p
+
+-- a number as one of a type; a number of that type stays as it is
 abbrev pub cast_part : VType → Place → Part → Part
-cast_part I32 at p = part_of (Of I32) (P.Unary Op1.ToI32 at p.core)
-cast_part I64 at p = part_of (Of I64) (P.Unary Op1.ToI64 at p.core)
-cast_part Flag at p = p
-cast_part Node at p = p
+cast_part t at p = if is_already t p.kind then p else changed_part t at p
 
 -- an operator before its operand
 abbrev pub prefix_part : Place → Prefix → Part → Answer Part

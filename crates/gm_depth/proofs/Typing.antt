@@ -29,7 +29,7 @@ use Rattle.gm_ast.specs.Program.{Expr}
 use Rattle.gm_ast.specs.Judged.{Judged, Answer, ok_of, refused, refused_unless, then_answer}
 use Rattle.gm_ast.specs.Names.{Env, is, later, inside, used, both, iterated, keyed, counted}
 use Rattle.gm_ast.specs.Kinds.{Part, part_of, narrowed, as_int, as_long, int_of, taken, joint, settled, settled_as, is_empty, is_number, is_flag, accepts, fitted}
-use Rattle.gm_ast.specs.Typing.{typed, condition, start_of, ranged, head_with, named_as, member_part, method_part, query_of, stands_for_node, cast_part, prefix_part, paired_after, paired, large_of, compares_any, is_arithmetic, is_value, compared_as, operation, operation_by, infix_part, choice_by, choice_part, fold_numbers, reducer_at, folded, of_numbers_as, of_numbers, of_conditions, reduction_part, reduction_rule}
+use Rattle.gm_ast.specs.Typing.{typed, condition, start_of, ranged, head_with, named_as, member_part, method_part, query_of, stands_for_node, is_already, changed_part, cast_part, prefix_part, paired_after, paired, large_of, compares_any, is_arithmetic, is_value, compared_as, operation, operation_by, infix_part, choice_by, choice_part, fold_numbers, reducer_at, folded, of_numbers_as, of_numbers, of_conditions, reduction_part, reduction_rule}
 use Rattle.gm_depth.specs.Depths.{depth}
 use Rattle.gm_depth.specs.Trees.{tree_depth}
 use Rattle.gm_depth.proofs.Parts.{IfPart, anything, if-weaker, if-by, if-both, if-good, if-then, if-else}
@@ -104,11 +104,18 @@ paired-more at k a b = after-more (depth a.core) (depth b.core) (taken k at a) (
 
 -- ---- operators
 
+changed-low : (n : ℕ) (t : VType) (at : Place) (p : Part) → LowPart n p → LowPart (suc n) (changed_part t at p)
+changed-low n I32 at p h = omega arith
+changed-low n I64 at p h = omega arith
+changed-low n Flag at p h = omega arith
+changed-low n Node at p h = omega arith
+
 cast-low : (n : ℕ) (t : VType) (at : Place) (p : Part) → LowPart n p → LowPart (suc n) (cast_part t at p)
-cast-low n I32 at p h = omega arith
-cast-low n I64 at p h = omega arith
-cast-low n Flag at p h = omega arith
-cast-low n Node at p h = omega arith
+cast-low n t at p h = by (is_already t p.kind)
+  where
+    by : (same : Bool) → LowPart (suc n) (if same then p else changed_part t at p)
+    by true = omega arith
+    by false = changed-low n t at p h
 
 prefix-low : (n : ℕ) (at : Place) (op : Prefix) (p : Part) → LowPart n p → IfPart (LowPart (suc n)) (ok_of (prefix_part at op p))
 prefix-low n at Prefixes.Minus p h = if-good (LowPart (suc n)) (is_number p.kind) T8 at (record p { core = P.Unary Op1.Neg at p.core }) (omega arith)

@@ -29,7 +29,7 @@ use Rattle.gm_ast.specs.Program.{Expr}
 use Rattle.gm_ast.specs.Judged.{Judged, Answer, judge, ok_of, refused, refused_unless, then_answer}
 use Rattle.gm_ast.specs.Names.{Env, is, used, both, later}
 use Rattle.gm_ast.specs.Kinds.{Part, part_of, narrowed, as_int, as_long, int_of, taken, joint, settled, settled_as, is_empty, is_number, is_flag, accepts, fitted}
-use Rattle.gm_ast.specs.Typing.{typed, condition, start_of, named_as, named_part, member_part, method_part, query_of, stands_for_node, cast_part, prefix_part, paired, paired_after, large_of, compares_any, is_arithmetic, is_value, compared_as, operation, operation_by, infix_part, choice_by, choice_part}
+use Rattle.gm_ast.specs.Typing.{typed, condition, start_of, named_as, named_part, member_part, method_part, query_of, stands_for_node, is_already, changed_part, cast_part, prefix_part, paired, paired_after, large_of, compares_any, is_arithmetic, is_value, compared_as, operation, operation_by, infix_part, choice_by, choice_part}
 use Rattle.gm_ready.proofs.Judging.{IfPart, if-by, if-both, if-good, if-then, if-else}
 
 pub anything : {A : Type 0} (o : Option A) → IfPart (λ a. Unit {0}) o
@@ -140,11 +140,18 @@ module _ (Q : Expr → Type 0) (kept : IsKept Q) where
 
   -- ---- operators
 
+  changed-kept : (t : VType) (at : Place) (p : Part) → KeptPart p → KeptPart (changed_part t at p)
+  changed-kept I32 at p h = kept.unary Ops.ToI32 at p.core h
+  changed-kept I64 at p h = kept.unary Ops.ToI64 at p.core h
+  changed-kept Flag at p h = h
+  changed-kept Node at p h = h
+
   cast-kept : (t : VType) (at : Place) (p : Part) → KeptPart p → KeptPart (cast_part t at p)
-  cast-kept I32 at p h = kept.unary Ops.ToI32 at p.core h
-  cast-kept I64 at p h = kept.unary Ops.ToI64 at p.core h
-  cast-kept Flag at p h = h
-  cast-kept Node at p h = h
+  cast-kept t at p h = by (is_already t p.kind)
+    where
+      by : (same : Bool) → KeptPart (if same then p else changed_part t at p)
+      by true = h
+      by false = changed-kept t at p h
 
   prefix-kept : (at : Place) (op : Prefix) (p : Part) → KeptPart p → IfKeptPart (prefix_part at op p)
   prefix-kept at Prefixes.Minus p h = if-good KeptPart (is_number p.kind) T8 at _ (λ _. kept.unary Ops.Neg at p.core h)

@@ -34,7 +34,7 @@ use Rattle.gm_ast.specs.Program.{Expr}
 use Rattle.gm_ast.specs.Judged.{Judged, Answer, judge, ok_of, refused, refused_unless, then_answer}
 use Rattle.gm_ast.specs.Names.{Env, is, used, both, iterated, inside, keyed, counted, later, declared_as, an_iterator}
 use Rattle.gm_ast.specs.Kinds.{Part, part_of, narrow, narrowed, as_int, as_long, int_of, taken, joint, settled, settled_as, is_empty, is_number, is_flag, accepts, fitted}
-use Rattle.gm_ast.specs.Typing.{typed, condition, start_of, ranged, named_as, named_part, member_part, method_part, query_of, stands_for_node, cast_part, prefix_part, paired, paired_after, large_of, compares_any, is_arithmetic, is_value, compared_as, operation, operation_by, infix_part, choice_by, choice_part, folded, of_numbers_as, of_conditions, reduction_part, reduction_rule, reducer_at, fold_numbers, head_with}
+use Rattle.gm_ast.specs.Typing.{typed, condition, start_of, ranged, named_as, named_part, member_part, method_part, query_of, stands_for_node, is_already, changed_part, cast_part, prefix_part, paired, paired_after, large_of, compares_any, is_arithmetic, is_value, compared_as, operation, operation_by, infix_part, choice_by, choice_part, folded, of_numbers_as, of_conditions, reduction_part, reduction_rule, reducer_at, fold_numbers, head_with}
 use Rattle.gm_forms.proofs.Named.{both-true}
 use Rattle.gm_ready.specs.Spelled.{constants_fit}
 use Rattle.gm_ready.proofs.Judging.{IfPart, if-by, if-both, if-good, if-then, if-else}
@@ -170,11 +170,18 @@ method-fits group at Queries.Unknown b = tt
 
 -- ---- operators
 
+changed-fits : (t : VType) (at : Place) (p : Part) → FitPart p → FitPart (changed_part t at p)
+changed-fits I32 at p h = h
+changed-fits I64 at p h = h
+changed-fits Flag at p h = h
+changed-fits Node at p h = h
+
 cast-fits : (t : VType) (at : Place) (p : Part) → FitPart p → FitPart (cast_part t at p)
-cast-fits I32 at p h = h
-cast-fits I64 at p h = h
-cast-fits Flag at p h = h
-cast-fits Node at p h = h
+cast-fits t at p h = by (is_already t p.kind)
+  where
+    by : (same : Bool) → FitPart (if same then p else changed_part t at p)
+    by true = h
+    by false = changed-fits t at p h
 
 prefix-fits : (at : Place) (op : Prefix) (p : Part) → FitPart p → IfFitPart (prefix_part at op p)
 prefix-fits at Prefixes.Minus p h = if-good FitPart (is_number p.kind) T8 at _ (λ _. h)

@@ -30,7 +30,7 @@ use Rattle.gm_ast.specs.Program.{Expr}
 use Rattle.gm_ast.specs.Judged.{Judged, Answer, judge, ok_of, refused, refused_unless, then_answer}
 use Rattle.gm_ast.specs.Names.{Env, is, used, both, later}
 use Rattle.gm_ast.specs.Kinds.{Part, part_of, narrowed, as_int, as_long, int_of, taken, flexible_beside, joint_type, joint, is_number_type, settled, settled_as, is_empty, is_number, is_flag, accepts, fitted}
-use Rattle.gm_ast.specs.Typing.{typed, condition, start_of, named_as, named_part, member_part, method_part, query_of, stands_for_node, cast_part, prefix_part, paired, paired_after, large_of, compares_any, is_arithmetic, is_value, compared_as, operation, operation_by, infix_part, choice_by, choice_part}
+use Rattle.gm_ast.specs.Typing.{typed, condition, start_of, named_as, named_part, member_part, method_part, query_of, stands_for_node, is_already, changed_part, cast_part, prefix_part, paired, paired_after, large_of, compares_any, is_arithmetic, is_value, compared_as, operation, operation_by, infix_part, choice_by, choice_part}
 use Rattle.gm_ready.proofs.Judging.{IfPart, if-by, if-both, if-good, if-then, if-else}
 use Rattle.gm_order.proofs.Parts.{anything}
 use Rattle.gm_forms.specs.Order.{can_fail1, can_fail2}
@@ -257,11 +257,18 @@ module _ (Q : List Place → Expr → Type 0) (kept : IsKept Q) where
 
   -- ---- operators
 
+  changed-kept : (ps : List Place) (t : VType) (at : Place) (p : Part) → Among ps at → Followed ps at → KeptPart ps p → KeptPart ps (changed_part t at p)
+  changed-kept ps I32 at p here f h = kept.unary ps Op1.ToI32 at p.core here (λ _. f) h
+  changed-kept ps I64 at p here f h = kept.unary ps Op1.ToI64 at p.core here (λ _. f) h
+  changed-kept ps Flag at p here f h = h
+  changed-kept ps Node at p here f h = h
+
   cast-kept : (ps : List Place) (t : VType) (at : Place) (p : Part) → Among ps at → Followed ps at → KeptPart ps p → KeptPart ps (cast_part t at p)
-  cast-kept ps I32 at p here f h = kept.unary ps Op1.ToI32 at p.core here (λ _. f) h
-  cast-kept ps I64 at p here f h = kept.unary ps Op1.ToI64 at p.core here (λ _. f) h
-  cast-kept ps Flag at p here f h = h
-  cast-kept ps Node at p here f h = h
+  cast-kept ps t at p here f h = by (is_already t p.kind)
+    where
+      by : (same : Bool) → KeptPart ps (if same then p else changed_part t at p)
+      by true = h
+      by false = changed-kept ps t at p here f h
 
   prefix-kept : (ps : List Place) (at : Place) (op : Prefix) (p : Part) → Among ps at → (is_number p.kind ≡ true → Followed ps at) → KeptPart ps p → IfKeptPart ps (prefix_part at op p)
   prefix-kept ps at Prefixes.Minus p here f h = if-good (KeptPart ps) (is_number p.kind) T8 at _ (λ g. kept.unary ps Op1.Neg at p.core here (λ _. f g) h)

@@ -35,10 +35,10 @@ use Rattle.gm_ast.specs.Judged.{Judged, Answer, ok_of, refused, refused_unless, 
 use Rattle.gm_ast.specs.Names.{Env, is, is_node, sort_eq, an_iterator, used, both, iterated, keyed, counted}
 use Rattle.gm_ast.specs.Kinds.{Part, part_of, narrowed, as_int, as_long, int_of, taken, joint, settled, settled_as, is_empty, is_number, is_flag, accepts, fitted}
 use Rattle.gm_ast.specs.Typing as Typing
-use Rattle.gm_ast.specs.Typing.{typed, condition, start_of, ranged, range_rule, domain_of, head_with, named_as, member_part, method_part, query_of, stands_for_node, cast_part, prefix_part, paired, paired_after, with_first, large_of, compares_any, is_arithmetic, is_value, compared_as, operation, operation_by, infix_part, choice_by, choice_part, folded, of_numbers_as, of_numbers, of_conditions, reduction_part, reduction_rule, reducer_at, fold_numbers}
+use Rattle.gm_ast.specs.Typing.{typed, condition, start_of, ranged, range_rule, domain_of, head_with, named_as, member_part, method_part, query_of, stands_for_node, is_already, changed_part, cast_part, prefix_part, paired, paired_after, large_of, compares_any, is_arithmetic, is_value, compared_as, operation, operation_by, infix_part, choice_by, choice_part, folded, of_numbers_as, of_conditions, reduction_part, reduction_rule, reducer_at, fold_numbers}
 use Rattle.gm_forms.proofs.Named.{both-true}
 use Rattle.gm_forms.specs.Uses as Uses
-use Rattle.gm_forms.specs.Uses.{Role, Use, use_as, owner_role, uses_of_head, uses_in}
+use Rattle.gm_forms.specs.Uses.{use_as, owner_role, uses_of_head, uses_in}
 use Rattle.gm_ready.proofs.Tables.{Binds, Suit, join, suit-as}
 use Rattle.gm_ready.proofs.Judging.{IfPart, if-good, if-then, if-else, Good, gives-judge, good-both, good-used, IsIterator, good-iterated, good-keyed, good-counted}
 
@@ -189,11 +189,18 @@ module _ (ds : List Declaration) where
   is_number-value (Kinds.Of t) h = refl
   is_number-value Kinds.Edge h = h
 
+  changed-named : (t : VType) (at : Place) (p : Part) → IsNamedPart p → is_value p.kind ≡ true → IsNamedPart (changed_part t at p)
+  changed-named I32 at p h v = λ _. h v
+  changed-named I64 at p h v = λ _. h v
+  changed-named Flag at p h v = h
+  changed-named Node at p h v = h
+
   cast-named : (t : VType) (at : Place) (p : Part) → IsNamedPart p → is_value p.kind ≡ true → IsNamedPart (cast_part t at p)
-  cast-named I32 at p h v = λ _. h v
-  cast-named I64 at p h v = λ _. h v
-  cast-named Flag at p h v = h
-  cast-named Node at p h v = h
+  cast-named t at p h v = by (is_already t p.kind)
+    where
+      by : (same : Bool) → IsNamedPart (if same then p else changed_part t at p)
+      by true = h
+      by false = changed-named t at p h v
 
   settled-value : (k : Kind) (p : Part) → p.kind ≡ k → is_value p.kind ≡ true → is_value (settled_as k p).kind ≡ true
   settled-value Kinds.Flexible p e v = by (is_empty p.large)

@@ -31,7 +31,7 @@ use Rattle.gm_ast.specs.Loops.{declared_at, is_property}
 use Rattle.gm_ast.specs.Names.{Env, is, sort_eq, used, both, iterated, keyed, counted}
 use Rattle.gm_ast.specs.Kinds.{Part, part_of, narrowed, as_int, as_long, int_of, taken, joint, settled, settled_as, is_empty, is_number, is_flag, accepts, fitted}
 use Rattle.gm_ast.specs.Typing as Typing
-use Rattle.gm_ast.specs.Typing.{typed, condition, start_of, ranged, range_rule, domain_of, head_with, named_as, member_part, method_part, query_of, stands_for_node, cast_part, prefix_part, paired, paired_after, large_of, compares_any, is_arithmetic, is_value, compared_as, operation, operation_by, infix_part, choice_by, choice_part, folded, of_numbers_as, of_numbers, of_conditions, reduction_part, reduction_rule, reducer_at, fold_numbers}
+use Rattle.gm_ast.specs.Typing.{typed, condition, start_of, ranged, head_with, named_as, member_part, method_part, query_of, stands_for_node, is_already, changed_part, cast_part, prefix_part, paired, paired_after, large_of, compares_any, is_arithmetic, is_value, compared_as, operation, operation_by, infix_part, choice_by, choice_part, folded, of_numbers_as, of_conditions, reduction_part, reduction_rule, reducer_at, fold_numbers}
 use Rattle.gm_forms.proofs.Named.{both-true}
 use Rattle.gm_ready.proofs.Judging.{IfPart, if-good, if-then, if-else, gives-judge}
 use Rattle.gm_ready.proofs.Placing.{IsIteratorAt, NoProperty, PlacedIn, IsBound, At, at-both, at-used, at-iterated, at-keyed, at-counted}
@@ -132,11 +132,18 @@ module _ (ds : List Declaration) where
     method-placed group at Queries.ToEdge b = tt
     method-placed group at Queries.Unknown b = tt
 
+    changed-placed : (t : VType) (at : Place) (p : Part) → PlacedPart p → PlacedPart (changed_part t at p)
+    changed-placed I32 at p h = h
+    changed-placed I64 at p h = h
+    changed-placed Flag at p h = h
+    changed-placed Node at p h = h
+
     cast-placed : (t : VType) (at : Place) (p : Part) → PlacedPart p → PlacedPart (cast_part t at p)
-    cast-placed I32 at p h = h
-    cast-placed I64 at p h = h
-    cast-placed Flag at p h = h
-    cast-placed Node at p h = h
+    cast-placed t at p h = by (is_already t p.kind)
+      where
+        by : (same : Bool) → PlacedPart (if same then p else changed_part t at p)
+        by true = h
+        by false = changed-placed t at p h
 
     prefix-placed : (at : Place) (op : Prefix) (p : Part) → PlacedPart p → IfPartPlaced (prefix_part at op p)
     prefix-placed at Prefixes.Minus p h = if-good PlacedPart (is_number p.kind) T8 at _ (λ _. h)

@@ -12,7 +12,7 @@ use Rattle.gm_value.specs.declared.operations.Op1.{Op1}
 use Rattle.gm_value.specs.declared.operations.Op1.TheVariants.{ToI64, ToI32, Neg, Not}
 use Rattle.gm_value.specs.declared.operations.Op2.{Op2}
 use Rattle.gm_value.specs.declared.operations.Op2.TheVariants as Ops
-use Rattle.gm_value.specs.Operations.{same_type, fits1, fits2, type1, type2, is_numeric}
+use Rattle.gm_value.specs.Operations.{same_type, fits2, type1, type2, is_numeric}
 use Rattle.gm_value.specs.Reductions.{reduces}
 use Rattle.gm_ast.specs.declared.tree.Declaration.{Declaration}
 use Rattle.gm_ast.specs.declared.tree.Head.{Head}
@@ -38,10 +38,10 @@ use Rattle.gm_ast.specs.Judged.{Judged, Answer, ok_of, refused, refused_unless, 
 use Rattle.gm_ast.specs.Names.{Env, is, is_node, is_node_type, sort_eq, used, both, iterated, keyed, counted}
 use Rattle.gm_ast.specs.Kinds.{Part, part_of, narrowed, as_int, as_long, int_of, taken, joint, settled, settled_as, default_of, is_empty, is_number, is_number_type, is_flag, is_flag_type, accepts, fitted}
 use Rattle.gm_ast.specs.Typing as Typing
-use Rattle.gm_ast.specs.Typing.{typed, condition, start_of, ranged, range_rule, domain_of, head_with, named_as, member_part, method_part, query_of, stands_for_node, cast_part, prefix_part, paired, paired_after, with_first, large_of, compares_any, is_arithmetic, is_value, compared_as, operation, operation_by, infix_part, choice_by, choice_part, fold_of, folded, of_numbers_as, of_numbers, of_conditions, reduction_part, reduction_rule, reducer_at, fold_numbers}
+use Rattle.gm_ast.specs.Typing.{typed, condition, start_of, ranged, range_rule, domain_of, head_with, named_as, member_part, method_part, query_of, stands_for_node, is_already, changed_part, cast_part, prefix_part, paired, paired_after, large_of, compares_any, is_arithmetic, is_value, compared_as, operation, operation_by, infix_part, choice_by, choice_part, fold_of, folded, of_numbers_as, of_conditions, reduction_part, reduction_rule, reducer_at, fold_numbers}
 use Rattle.gm_semantics.specs.Expressions.{reduce_of}
 use Rattle.gm_forms.proofs.Named.{both-true}
-use Rattle.gm_forms.specs.Typing.{type_at, type_if, by_one, is_type, takes, type_in}
+use Rattle.gm_forms.specs.Typing.{type_at, type_if, by_one, is_type, takes, takes1, type_in}
 use Rattle.gm_ready.specs.Spelled.{constants_fit}
 use Rattle.gm_ready.proofs.Tables.{iterates_nodes, Binds, variable-is}
 use Rattle.gm_ready.proofs.Judging.{IfPart, if-good, if-then, if-else, Good, gives-judge, good-both, good-used, IsIterator, good-iterated, good-keyed, good-counted}
@@ -171,7 +171,7 @@ module _ (ds : List Declaration) where
 
   as_long-typed : (at : Place) (k : Kind) (e : Expr) → accepts I64 k ≡ true → HasKind k e → IsOf I64 (as_long at k e)
   as_long-typed at Kinds.Flexible e a h = h.0
-  as_long-typed at (Kinds.Of I32) e a h = λ fit. ap (λ o. by_one o (λ t. type_if (fits1 ToI64 t) (type1 ToI64 t))) (h fit)
+  as_long-typed at (Kinds.Of I32) e a h = λ fit. ap (λ o. by_one o (λ t. type_if (takes1 ToI64 t) (type1 ToI64 t))) (h fit)
   as_long-typed at (Kinds.Of I64) e a h = h
   as_long-typed at (Kinds.Of Flag) e a h = absurd (both_ways false refl a)
   as_long-typed at (Kinds.Of Node) e a h = absurd (both_ways false refl a)
@@ -303,8 +303,8 @@ module _ (ds : List Declaration) where
   -- ---- operators
 
   -- an operator before an operand of a type that it takes
-  unary-typed : (op : Op1) (at : Place) (e : Expr) (t u : VType) → fits1 op t ≡ true → type1 op t ≡ u → IsOf t e → IsOf u (P.Unary op at e)
-  unary-typed op at e t u f is h = λ fit. ap (λ o. by_one o (λ t. type_if (fits1 op t) (type1 op t))) (h fit) ∙ typed-if (fits1 op t) (type1 op t) f ∙ ap Some is
+  unary-typed : (op : Op1) (at : Place) (e : Expr) (t u : VType) → takes1 op t ≡ true → type1 op t ≡ u → IsOf t e → IsOf u (P.Unary op at e)
+  unary-typed op at e t u f is h = λ fit. ap (λ o. by_one o (λ t. type_if (takes1 op t) (type1 op t))) (h fit) ∙ typed-if (takes1 op t) (type1 op t) f ∙ ap Some is
 
   minus-typed : (at : Place) (k : Kind) (e : Expr) → is_number k ≡ true → HasKind k e → HasKind k (P.Unary Neg at e)
   minus-typed at Kinds.Flexible e n h = (unary-typed Neg at e I64 I64 refl refl h.0, unary-typed Neg at (narrowed e) I32 I32 refl refl h.1)
@@ -318,23 +318,24 @@ module _ (ds : List Declaration) where
       subst (λ u. IsOf u (P.Unary Not at e)) (sym same) (unary-typed Not at e Flag Flag refl refl (subst (λ u. IsOf u e) same h))
   not-typed at Kinds.Edge e n h = tt
 
-  -- a number of a type, as one of another
-  cast-number : (t : VType) (at : Place) (u : VType) (e : Expr) → is_number_type u ≡ true → IsOf u e → IsTypedPart (cast_part t at (part_of (Kinds.Of u) e))
-  cast-number I32 at u e n h = unary-typed ToI32 at e u I32 (numeric-number u n) refl h
-  cast-number I64 at u e n h = unary-typed ToI64 at e u I64 (numeric-number u n) refl h
-  cast-number Flag at u e n h = h
-  cast-number Node at u e n h = h
+  -- a number of a type, as one of a type
+  cast-number : (t u : VType) (at : Place) (p : Part) → p.kind ≡ Kinds.Of u → is_number_type u ≡ true → IsOf u p.core → IsTypedPart (if is_already t (Kinds.Of u) then p else changed_part t at p)
+  cast-number I32 I32 at p e n h = subst (λ k. HasKind k p.core) (sym e) h
+  cast-number I32 I64 at p e n h = unary-typed ToI32 at p.core I64 I32 refl refl h
+  cast-number I64 I32 at p e n h = unary-typed ToI64 at p.core I32 I64 refl refl h
+  cast-number I64 I64 at p e n h = subst (λ k. HasKind k p.core) (sym e) h
+  cast-number Flag u at p e n h = subst (λ k. HasKind k p.core) (sym e) h
+  cast-number Node u at p e n h = subst (λ k. HasKind k p.core) (sym e) h
+  cast-number t Flag at p e n h = absurd (both_ways false refl n)
+  cast-number t Node at p e n h = absurd (both_ways false refl n)
 
   cast-typed : (t : VType) (at : Place) (k : Kind) (p : Part) → p.kind ≡ k → is_number k ≡ true → HasKind k p.core → IsTypedPart (cast_part t at (settled_as k p))
   cast-typed t at Kinds.Flexible p e n h = by (is_empty p.large)
     where
       by : (none : Bool) → IsTypedPart (cast_part t at (if none then part_of (Kinds.Of I32) (narrowed p.core) else part_of (Kinds.Of I64) p.core))
-      by true = cast-number t at I32 (narrowed p.core) refl h.1
-      by false = cast-number t at I64 p.core refl h.0
-  cast-typed I32 at (Kinds.Of u) p e n h = unary-typed ToI32 at p.core u I32 (numeric-number u n) refl h
-  cast-typed I64 at (Kinds.Of u) p e n h = unary-typed ToI64 at p.core u I64 (numeric-number u n) refl h
-  cast-typed Flag at (Kinds.Of u) p e n h = subst (λ k. HasKind k p.core) (sym e) h
-  cast-typed Node at (Kinds.Of u) p e n h = subst (λ k. HasKind k p.core) (sym e) h
+      by true = cast-number t I32 at (part_of (Kinds.Of I32) (narrowed p.core)) refl refl h.1
+      by false = cast-number t I64 at (part_of (Kinds.Of I64) p.core) refl refl h.0
+  cast-typed t at (Kinds.Of u) p e n h = subst (λ k. IsTypedPart (if is_already t k then p else changed_part t at p)) (sym e) (cast-number t u at p e n h)
   cast-typed t at Kinds.Edge p e n h = absurd (both_ways false refl n)
 
   prefix-typed : (at : Place) (op : Prefix) (p : Part) → IsTypedPart p → IfPartTyped (prefix_part at op p)

@@ -10,8 +10,8 @@ pub fn typed_programs_are_named()
 {}
 
 /// In a program whose types break no rule every expression has the type that it must have there: conditions are Bools, a
-/// value has the type of its target, a reduction fits what it reduces. That constants are in the ranges of their types,
-/// and that only Min and Max have several targets, typing does not say.
+/// value has the type of its target, a cast is from the other type of numbers, a reduction fits what it reduces. That
+/// constants are in the ranges of their types, and that only Min and Max have several targets, typing does not say.
 pub fn typed_programs_have_types()
     ensures { TypedHasTypes }
 {}

@@ -11,6 +11,8 @@ use Rattle.gm_value.specs.declared.values.Value.{Value}
 use Rattle.gm_value.specs.declared.values.Value.TheVariants.{I32, I64, Flag, At}
 use Rattle.gm_value.specs.declared.faults.FaultKind.{FaultKind}
 use Rattle.gm_value.specs.Numbers.{type_of, number_of, value_at, fits}
+use Rattle.gm_value.specs.declared.operations.Op1.{Op1}
+use Rattle.gm_value.specs.declared.operations.Op1.TheVariants.{Neg, Not, ToI32, ToI64}
 use Rattle.gm_value.specs.Operations.{is_true, fits1, fits2, type1, type2, result1, result2}
 use Rattle.gm_value.specs.Reductions.{unit_of, close, reduces}
 use Rattle.gm_value.proofs.NumberLaws.{type_of-value_at}
@@ -29,7 +31,7 @@ use Rattle.gm_semantics.specs.declared.faults.Fault.{Fault}
 use Rattle.gm_semantics.specs.Faults.{least, then_with, oks, errs, joined, of_total}
 use Rattle.gm_semantics.specs.Expressions.{View, Answer, Evaluated, located, node_of, at_node, degree_of, steps_in, entered, reduce_of, members_of, element, closed, reduction, settled, plain, early, node_read, two_of, both, either, choice, evaluated, value, evaluated_all}
 use Rattle.gm_semantics.specs.Statements.{variable_at}
-use Rattle.gm_forms.specs.Typing.{type_at, type_if, by_one, is_type, takes, type_in, has_type, target_type, all_have_types}
+use Rattle.gm_forms.specs.Typing.{type_at, type_if, by_one, is_type, takes, type_in, has_type, target_type, all_have_types, takes1}
 use Rattle.gm_forms.specs.Uses.{Use, Owner, NodeValue, EdgeName, EdgeValue, use_as, suits, has_role, uses_of_head, uses_in, uses_in_all}
 use Rattle.gm_forms.proofs.Named.{both-true, all-append}
 use Rattle.gm_typed_stores.specs.Values.{NodeBelow, IsValue, AreValues, Each}
@@ -54,6 +56,19 @@ Parted o f u = (t : VType) × (o ≡ Some t) × (f t ≡ Some u)
 one-some : (o : Option VType) (f : VType → Option VType) (u : VType) → by_one o f ≡ Some u → Parted o f u
 one-some None f u h = absurd (none-some u h)
 one-some (Some t) f u h = (t, refl, h)
+
+-- an operation that takes a type fits it
+takes-fits : (op : Op1) (t : VType) → takes1 op t ≡ true → fits1 op t ≡ true
+takes-fits Neg t h = h
+takes-fits Not t h = h
+takes-fits ToI32 V.I32 h = refl
+takes-fits ToI32 V.I64 h = refl
+takes-fits ToI32 V.Flag h = h
+takes-fits ToI32 V.Node h = h
+takes-fits ToI64 V.I32 h = refl
+takes-fits ToI64 V.I64 h = refl
+takes-fits ToI64 V.Flag h = h
+takes-fits ToI64 V.Node h = h
 
 pub is-type : (t : VType) (o : Option VType) → is_type t o ≡ true → o ≡ Some t
 is-type t None h = absurd (both_ways false refl h)
@@ -216,10 +231,10 @@ module _ (table : TypeTable) where
       read-gives t w (at_node w x at (λ n. At (Some n)))
       (at_node-gives t w x at (λ n. At (Some n)) (λ n low. subst (λ (u : VType). IsValue limit u (At (Some n))) (type-some V.Node t e) (node-value limit w.graph n h.graph low)))
   evaluated-gives (Unary op at a) its w t h e s k =
-      let q = one-some (type_in ds a) (λ t. type_if (fits1 op t) (type1 op t)) t e in
-      let i = if-some (fits1 op q.0) (type1 op q.0) t q.2 in
+      let q = one-some (type_in ds a) (λ t. type_if (takes1 op t) (type1 op t)) t e in
+      let i = if-some (takes1 op q.0) (type1 op q.0) t q.2 in
       if-then (IsValue limit q.0) (IsValue limit t) (evaluated a w).rest (λ v. located w at (result1 op v)) (evaluated-gives a its w q.0 h q.1 s k)
-      (λ v g. located-gives t w at (result1 op v) (subst (λ (u : VType). IfOk (result1 op v) (IsValue limit u)) i.1 (result1-value limit op q.0 v i.0 g)))
+      (λ v g. located-gives t w at (result1 op v) (subst (λ (u : VType). IfOk (result1 op v) (IsValue limit u)) i.1 (result1-value limit op q.0 v (takes-fits op q.0 i.0) g)))
   evaluated-gives (Binary op at a b) its w t h e s k =
       let q = one-some (type_in ds a) (λ t. by_one (type_in ds b) (λ u. type_if (fits2 op t u) (type2 op t))) t e in
       let p = one-some (type_in ds b) (λ u. type_if (fits2 op q.0 u) (type2 op q.0)) t q.2 in

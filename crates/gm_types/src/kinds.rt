@@ -2,7 +2,7 @@
 
 ghost use Rattle.std.specs.Prelude.{◌≡◌};
 ghost use Rattle.gm_ast.specs.Kinds.{is_number, is_flag, is_number_type, is_flag_type, joint, joint_type, flexible_beside};
-ghost use Rattle.gm_ast.specs.Typing.{is_arithmetic, compares_any, is_value};
+ghost use Rattle.gm_ast.specs.Typing.{is_already, is_arithmetic, compares_any, is_value};
 
 use gm_ast::kinds::Kind;
 use gm_value::{Op2, VType};
@@ -50,6 +50,16 @@ pub fn is_value(kind: Kind) -> bool
     match kind {
         Kind::Flexible | Kind::Of(_) => true,
         Kind::Edge => false,
+    }
+}
+
+// Whether a kind is this type of numbers already.
+pub fn is_already(vtype: VType, kind: Kind) -> bool
+    ensures { result ≡ is_already vtype kind }
+{
+    match (vtype, kind) {
+        (VType::I32, Kind::Of(VType::I32)) | (VType::I64, Kind::Of(VType::I64)) => true,
+        _ => false,
     }
 }
 

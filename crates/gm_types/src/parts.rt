@@ -14,7 +14,7 @@ ghost use Rattle.gm_ast.specs.declared.kinds.Kind.TheVariants as Kind;
 ghost use Rattle.gm_value.specs.declared.values.VType.TheVariants.{Flag};
 ghost use Rattle.gm_types.specs.Parts.{part_of, pair_of};
 
-use crate::kinds::{compares_any, is_arithmetic, is_flag, is_number, is_value, joint};
+use crate::kinds::{compares_any, is_already, is_arithmetic, is_flag, is_number, is_value, joint};
 use crate::narrow::narrowed;
 use crate::notes::{note, note_all};
 use gm_ast::kinds::Kind;
@@ -99,10 +99,13 @@ pub fn settled(alloc: Global, part: Part) -> Result<Part, AllocError>
     }
 }
 
-// A number as a number of another type.
+// A number as a number of a type; a number of that type stays as it is.
 fn cast(alloc: Global, vtype: VType, place: Place, part: Part) -> Result<Part, AllocError>
     ensures { IfOk result (λ r. part_of r ≡ cast_part vtype place (part_of part)) }
 {
+    if is_already(vtype, part.kind) {
+        return Ok(part);
+    }
     match vtype {
         VType::I32 => {
             let inner = Box::new(alloc, part.core)?;

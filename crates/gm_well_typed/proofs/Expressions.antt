@@ -36,7 +36,7 @@ use Rattle.gm_ast.specs.Program.{Expr}
 use Rattle.gm_ast.specs.Judged.{Judged, Answer, ok_of, refused, refused_unless, then_answer}
 use Rattle.gm_ast.specs.Names.{Env, is, is_node_type, sort_eq, an_iterator, used, both, iterated, keyed, counted}
 use Rattle.gm_ast.specs.Kinds.{Part, part_of, narrow, narrowed, as_int, as_long, int_of, taken, joint, settled, settled_as, is_empty, is_number, is_flag, accepts, fitted}
-use Rattle.gm_ast.specs.Typing.{typed, condition, start_of, ranged, range_rule, domain_of, head_with, named_part, named_as, member_part, method_part, query_of, stands_for_node, cast_part, prefix_part, paired, paired_after, large_of, compares_any, is_arithmetic, is_value, compared_as, operation, operation_by, infix_part, choice_by, choice_part, fold_numbers, reducer_at, folded, of_numbers_as, of_conditions, reduction_part, reduction_rule}
+use Rattle.gm_ast.specs.Typing.{typed, condition, start_of, ranged, range_rule, domain_of, head_with, named_part, named_as, member_part, method_part, query_of, stands_for_node, is_already, changed_part, cast_part, prefix_part, paired, paired_after, large_of, compares_any, is_arithmetic, is_value, compared_as, operation, operation_by, infix_part, choice_by, choice_part, fold_numbers, reducer_at, folded, of_numbers_as, of_conditions, reduction_part, reduction_rule}
 use Rattle.gm_ast.specs.Ways.{is_in}
 use Rattle.gm_semantics.specs.Outcomes.{is_of}
 use Rattle.gm_semantics.specs.Statements.{variable_at}
@@ -231,11 +231,18 @@ module _ (table : TypeTable) (g : ℕ) (group : Bool) where
 
   -- ---- operators
 
+  changed-tells : (t : VType) (at : Place) (p : Part) → TellsPart p → is_value p.kind ≡ true → TellsPart (changed_part t at p)
+  changed-tells I32 at p h v = λ _. h v
+  changed-tells I64 at p h v = λ _. h v
+  changed-tells Flag at p h v = h
+  changed-tells Node at p h v = h
+
   cast-tells : (t : VType) (at : Place) (p : Part) → TellsPart p → is_value p.kind ≡ true → TellsPart (cast_part t at p)
-  cast-tells I32 at p h v = λ _. h v
-  cast-tells I64 at p h v = λ _. h v
-  cast-tells Flag at p h v = h
-  cast-tells Node at p h v = h
+  cast-tells t at p h v = by (is_already t p.kind)
+    where
+      by : (same : Bool) → TellsPart (if same then p else changed_part t at p)
+      by true = h
+      by false = changed-tells t at p h v
 
   settled-value : (k : Kind) (p : Part) → is_value p.kind ≡ true → is_value (settled_as k p).kind ≡ true
   settled-value Kinds.Flexible p v = by (is_empty p.large)

@@ -7,13 +7,14 @@ use Rattle.gm_ast.specs.declared.surface.Bearer.TheVariants as Bearer
 use Rattle.gm_ast.specs.declared.surface.LoopWord.TheVariants as Loop
 use Rattle.gm_ast.specs.declared.surface.Range.TheVariants as Range
 use Rattle.gm_ast.specs.declared.surface.ReductionWord.TheVariants as Fold
+use Rattle.gm_ast.specs.declared.surface.Prefix.TheVariants.{Cast}
 use Rattle.gm_ast.specs.declared.surface.Infix.TheVariants.{Op}
-use Rattle.gm_ast.specs.Surface.{SurfaceProcedure, Plain, Property, Always, Number, Least, Named, Member, Method, Infixed, Reduction, Skip, Then, DeclareAs, Assign, Combine, Increment, Loop}
+use Rattle.gm_ast.specs.Surface.{SurfaceProcedure, Plain, Property, Always, Number, Least, Named, Member, Method, Prefixed, Infixed, Reduction, Skip, Then, DeclareAs, Assign, Combine, Increment, Loop}
 use Rattle.gm_ast.proofs.Rows.Notation.{at, name, target, head, group, procedure}
 use Rattle.gm_base.specs.declared.places.Place.{Place}
 use Rattle.gm_value.specs.declared.values.VType.{VType}
 use Rattle.gm_value.specs.declared.values.Value.TheVariants as Value
-use Rattle.gm_value.specs.declared.operations.Op1.TheVariants.{ToI64}
+use Rattle.gm_value.specs.declared.operations.Op1.TheVariants.{ToI32, ToI64}
 use Rattle.gm_ast.specs.declared.tree.Sort.{Sort}
 use Rattle.gm_ast.specs.declared.tree.Sort.TheVariants.{Graph, Iterator, Scalar, Edge, NodeProperty, EdgeProperty}
 use Rattle.gm_ast.specs.declared.tree.Declaration.{Declaration}
@@ -64,6 +65,37 @@ numbers : (elaborated numbers_text).part ≡ Some (record {
       P.Skip));
 })
 numbers = refl
+
+-- a cast to the type that a number has is the number; a flexible number is cast from the type that it takes alone:
+--   Procedure f(G: Graph, a: Int, b: Long) { a = (Int) a; b = (Long) b; a = (Int) b; b = (Long) 1; }
+abbrev pub casts_text : SurfaceProcedure
+casts_text = procedure (name (codes "f") 1 11)
+    ((group ((name (codes "G") 1 13) ∷ []) (Plain (at 1 16) Word.Graph None)) ∷ (group ((name (codes "a") 1 23) ∷ []) (Plain (at 1 26) Word.Int None)) ∷ (group ((name (codes "b") 1 31) ∷ []) (Plain (at 1 34) Word.Long None)) ∷ [])
+    []
+    None
+    (Then (Assign (target (name (codes "a") 1 42) None) (at 1 44) (Prefixed (at 1 46) (Cast VType.I32) (Named (name (codes "a") 1 52))))
+    (Then (Assign (target (name (codes "b") 1 55) None) (at 1 57) (Prefixed (at 1 59) (Cast VType.I64) (Named (name (codes "b") 1 66))))
+    (Then (Assign (target (name (codes "a") 1 69) None) (at 1 71) (Prefixed (at 1 73) (Cast VType.I32) (Named (name (codes "b") 1 79))))
+    (Then (Assign (target (name (codes "b") 1 82) None) (at 1 84) (Prefixed (at 1 86) (Cast VType.I64) (Number (at 1 93) (pos 1)))) Skip))))
+
+casts : (elaborated casts_text).part ≡ Some (record {
+  name = codes "f";
+  declarations =
+      declared (codes "G") Graph VType.Node 0 ∷
+      declared (codes "a") Scalar VType.I32 0 ∷
+      declared (codes "b") Scalar VType.I64 0 ∷ [];
+  inputs = 3;
+  outputs = 0;
+  result = None;
+  statements = 5;
+  body =
+      P.Then (P.Assign (key 1 Operator) (Target.Scalar 1 (at 1 42)) (P.Var 1 (at 1 52)))
+      (P.Then (P.Assign (key 2 Operator) (Target.Scalar 2 (at 1 55)) (P.Var 2 (at 1 66)))
+      (P.Then (P.Assign (key 3 Operator) (Target.Scalar 1 (at 1 69)) (P.Unary ToI32 (at 1 73) (P.Var 2 (at 1 79))))
+      (P.Then (P.Assign (key 4 Operator) (Target.Scalar 2 (at 1 82)) (P.Unary ToI64 (at 1 86) (P.Const (Value.I32 (pos 1)))))
+      P.Skip)));
+})
+casts = refl
 
 -- in a sequential phase the filter and the braces of a reduction have numbers of their own after that of the statement, and a name is declared before the iterators of its value:
 --   Procedure f(G: Graph, v: N_P<Int>) {
