@@ -19,7 +19,7 @@ use Rattle.gm_semantics.specs.declared.faults.Fault.{Fault}
 use Rattle.gm_semantics.specs.declared.slots.Slot.{Slot}
 use Rattle.gm_semantics.specs.declared.slots.Slot.TheVariants.{Scalar, Node}
 use Rattle.gm_semantics.specs.Stores.{has_slot}
-use Rattle.gm_semantics.specs.Contributions.{Contribution}
+use Rattle.gm_semantics.specs.Contributions.{Contribution, statement_of}
 use Rattle.gm_semantics.specs.Iterations.{Loop, AtEdge, contribution, ends_of_all}
 use Rattle.gm_semantics.specs.Laws.{IsAt}
 use Rattle.gm_semantics.proofs.ContributionLaws.{has_first}
@@ -203,6 +203,7 @@ module _ (ds : List Declaration) (loop : Loop) (depths : (y : ℕ) → loop.dept
     pub reduced : Reduced
     pub member : IsIn reduced RD
     pub reduce : reduced.reduce ≡ c.reduce
+    pub number : reduced.number ≡ statement_of c
     pub slots : ToOne reduced c.slots
     -- it ends with the outermost loop where all properties do, but for what goes to locals of the outer body, if any does; and else it goes to the iteration's own node
     pub late : sp → list_any (is_late_slot loop.depth (λ p. true)) c.slots ≡ true
@@ -302,6 +303,7 @@ module _ (ds : List Declaration) (loop : Loop) (depths : (y : ℕ) → loop.dept
           reduced = reduced_by ds n total.key.statement r (T.Scalar y at ∷ ts);
           member = i;
           reduce = refl;
+          number = refl;
           slots = inl (scalars-at node (T.Scalar y at ∷ ts) a);
           late = λ u. late-scalars (λ p. true) node (T.Scalar y at ∷ ts) a o (l u);
           own = λ u h. never (sym (scalars-late (λ p. true) pp node (T.Scalar y at ∷ ts) a) ∙ u) h;
@@ -313,6 +315,7 @@ module _ (ds : List Declaration) (loop : Loop) (depths : (y : ℕ) → loop.dept
           reduced = reduced_by ds n total.key.statement r (T.Property z q at ∷ ts);
           member = i;
           reduce = refl;
+          number = refl;
           slots = inr (record { node = node z; are = are });
           late = λ u. refl;
           own = λ u h. let home = by (nat_eq z n) refl (or-false (pp q) _ h) p in record {

@@ -28,7 +28,9 @@ pub mod Slices
 pub mod Slicing
 pub mod Parting
 pub mod Quiet
+pub mod Resumed
 pub mod Triples
+pub mod InTurn
 pub mod InnerCuts
 pub mod MaskedCuts
 pub mod Pushes

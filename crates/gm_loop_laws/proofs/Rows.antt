@@ -29,6 +29,7 @@ use Rattle.gm_loop_laws.specs.Masks.{looped, in_turn, is_stable}
 use Rattle.gm_loop_laws.specs.Pieces.{no_inner, pieces_of, may_part}
 use Rattle.gm_loop_laws.specs.Conditions.{conditions_saved}
 use Rattle.gm_loop_laws.specs.Inner.{quiet, may_cut_inner}
+use Rattle.gm_loop_laws.specs.Resumed.{resumed, may_resume}
 use Rattle.gm_loop_laws.specs.Slices.{sliced, knows_none}
 use Rattle.gm_loop_laws.specs.Deferring.{undeferred, only_defers}
 use Rattle.gm_loop_laws.specs.Localised.{moved, may_move}
@@ -291,3 +292,49 @@ cut_inner_pushed = refl
 -- what the first part gives to the second may not read
 reads_given : may_cut_inner table (m2 ∷ []) n on (here 1) (key 3) (here 3) nbrs always pulls (Combine (key 7) (total 7) Max (T.Property t m2 (here 7) ∷ []) (own q 8 ∷ [])) ≡ false
 reads_given = refl
+
+-- where both parts give to one property, the first does so under a lesser number: both loops leave what the whole leaves
+abbrev puts_first : Stmt
+puts_first = Combine (key 3) (total 3) Max (T.Property t m2 (here 7) ∷ []) (own p 8 ∷ [])
+
+abbrev puts_again : Stmt
+puts_again = Combine (key 9) (total 9) Max (T.Property t m2 (here 9) ∷ []) (Const (I32 (pos 5)) ∷ [])
+
+both_give : may_cut_inner table (m2 ∷ []) n on (here 1) (key 2) (here 3) nbrs always (Then puts_first pulls) puts_again ≡ true
+both_give = refl
+
+both_given : held m2 (in_turn (looped pushing (key 1) mask (Foreach (key 3) (here 3) nbrs always (Then puts_first pulls))) (looped pushing (key 1) mask (Foreach (key 3) (here 3) nbrs always (Then (quiet table n (Then puts_first pulls)) puts_again))) begin)
+    ≡ held m2 (looped pushing (key 1) mask (Foreach (key 3) (here 3) nbrs always (Then (Then puts_first pulls) puts_again)) begin)
+both_given = refl
+
+-- under a greater number it may not, since the totals are taken by their numbers
+gives_late : may_cut_inner table (m2 ∷ []) n on (here 1) (key 2) (here 3) nbrs always (Then puts_first pulls) (Combine (key 3) (total 2) Max (T.Property t m2 (here 9) ∷ []) (Const (I32 (pos 5)) ∷ [])) ≡ false
+gives_late = refl
+
+-- Int y = 30 / t.p; n.q += y; then t.m2 max= n.p; the second loop does not divide again, though that may fault
+abbrev divides : Stmt
+divides = Then (Declare (key 4) y (Some (Binary Div (here 4) (Const (I32 (pos 30))) (Property t p (here 4))))) (Combine (key 5) (total 5) Sum (T.Property n q (here 5) ∷ []) (Var y (here 6) ∷ []))
+
+goes_on : resumed table (n ∷ t ∷ []) n divides puts ≡ Then (Then Skip Skip) puts
+goes_on = refl
+
+may_go_on : may_resume table (m2 ∷ []) n on (here 1) (key 3) (here 3) nbrs always divides puts ≡ true
+may_go_on = refl
+
+-- what is needed is evaluated again: t.m2 max= y;
+abbrev puts_local : Stmt
+puts_local = Combine (key 7) (total 7) Max (T.Property t m2 (here 7) ∷ []) (Var y (here 8) ∷ [])
+
+divides_again : resumed table (n ∷ t ∷ []) n divides puts_local ≡ Then (Then (Declare (key 4) y (Some (Binary Div (here 4) (Const (I32 (pos 30))) (Property t p (here 4))))) Skip) puts_local
+divides_again = refl
+
+may_divide_again : may_resume table (m2 ∷ []) n on (here 1) (key 3) (here 3) nbrs always divides puts_local ≡ true
+may_divide_again = refl
+
+both_loops : held m2 (in_turn (looped pushing (key 1) mask (Foreach (key 3) (here 3) nbrs always divides)) (looped pushing (key 1) mask (Foreach (key 3) (here 3) nbrs always (resumed table (n ∷ t ∷ []) n divides puts_local))) begin)
+    ≡ Some (I32 (pos 0) ∷ I32 (pos 6) ∷ I32 (pos 5) ∷ [])
+both_loops = refl
+
+-- what sets a local that nothing reads behind it is left out: Int y = t.p; n.q += y; y = 1; t.m2 max= n.p;
+last_set : resumed table (n ∷ t ∷ []) n pulls (Then (Assign (key 6) (T.Scalar y (here 7)) (Const (I32 (pos 1)))) puts) ≡ Then (Then Skip Skip) (Then Skip puts)
+last_set = refl

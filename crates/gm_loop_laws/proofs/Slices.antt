@@ -60,18 +60,18 @@ module _ (gone : List ℕ) where
         (reads-kept c r.0, reads-kept a s.0, reads-kept b s.1)
     reads-kept (Folded f head test e) h = absurd (both_ways false refl h)
 
-    all-kept : (es : List Expr) → list_all (spares gone) es ≡ true → AllReadGood Good x z es
+    pub all-kept : (es : List Expr) → list_all (spares gone) es ≡ true → AllReadGood Good x z es
     all-kept [] h = tt
     all-kept (e ∷ es) h = let r = both-true (spares gone e) (list_all (spares gone) es) h in (reads-kept e r.0, all-kept es r.1)
 
-    off-iterator : (its : List ℕ) (y : ℕ) → is_in its x ≡ true → not (is_in its y) ≡ true → y ≢ x
+    pub off-iterator : (its : List ℕ) (y : ℕ) → is_in its x ≡ true → not (is_in its y) ≡ true → y ≢ x
     off-iterator its y here out e = both_ways (is_in its y) (not-true (is_in its y) out) (ap (is_in its) e ∙ here)
 
-    target-kept : (its : List ℕ) (t : Target) → is_in its x ≡ true → spares_target gone its t ≡ true → TargetGood Good x z t
+    pub target-kept : (its : List ℕ) (t : Target) → is_in its x ≡ true → spares_target gone its t ≡ true → TargetGood Good x z t
     target-kept its (T.Scalar y at) here h = off-iterator its y here (both-true (not (is_in its y)) (not (is_in gone y)) h).0
     target-kept its (T.Property y p at) here h = lift (Scalar y) (not-in gone y (both-true (not (is_in gone y)) (not (is_in gone p)) h).0)
 
-    held-kept : (its : List ℕ) (t : Target) → spares_target gone its t ≡ true → HeldGood Good x z t
+    pub held-kept : (its : List ℕ) (t : Target) → spares_target gone its t ≡ true → HeldGood Good x z t
     held-kept its (T.Scalar y at) h = lift (Scalar y) (not-in gone y (both-true (not (is_in its y)) (not (is_in gone y)) h).1)
     held-kept its (T.Property y p at) h = let r = both-true (not (is_in gone y)) (not (is_in gone p)) h in (lift (Scalar y) (not-in gone y r.0), λ k e. lift (Node p k) (not-in gone p r.1))
 
@@ -79,7 +79,7 @@ module _ (gone : List ℕ) where
     owner-kept its (T.Scalar y at) h = tt
     owner-kept its (T.Property y p at) h = lift (Scalar y) (not-in gone y (both-true (not (is_in gone y)) (not (is_in gone p)) h).0)
 
-    each-kept : (S : Target → Type 0) (its : List ℕ) (ts : List Target) → ((t : Target) → spares_target gone its t ≡ true → S t) → list_all (spares_target gone its) ts ≡ true → EachTarget Good x z S ts
+    pub each-kept : (S : Target → Type 0) (its : List ℕ) (ts : List Target) → ((t : Target) → spares_target gone its t ≡ true → S t) → list_all (spares_target gone its) ts ≡ true → EachTarget Good x z S ts
     each-kept S its [] f h = tt
     each-kept S its (t ∷ ts) f h = let r = both-true (spares_target gone its t) (list_all (spares_target gone its) ts) h in (f t r.0, each-kept S its ts f r.1)
 

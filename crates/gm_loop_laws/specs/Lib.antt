@@ -5,5 +5,6 @@ pub mod Inner
 pub mod Localised
 pub mod Masks
 pub mod Pieces
+pub mod Resumed
 pub mod Saved
 pub mod Slices

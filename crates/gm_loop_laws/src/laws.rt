@@ -7,6 +7,7 @@ ghost use Rattle.gm_loop_laws.specs.Inner.{InnerLoopsCut, MaskedInnerLoopsCut};
 ghost use Rattle.gm_loop_laws.specs.Localised.{LocalsMove};
 ghost use Rattle.gm_loop_laws.specs.Masks.{ConditionsPart, MasksStay};
 ghost use Rattle.gm_loop_laws.specs.Pieces.{PiecesInTurn};
+ghost use Rattle.gm_loop_laws.specs.Resumed.{InnerLoopsResume, InnerLoopsTrim, MaskedInnerLoopsResume, MaskedInnerLoopsTrim};
 ghost use Rattle.gm_loop_laws.specs.Saved.{SavingFresh};
 ghost use Rattle.gm_loop_laws.specs.Slices.{Slices};
 
@@ -63,4 +64,14 @@ pub fn bodies_can_be_sliced()
 pub fn inner_loops_can_be_cut()
     ensures saved { InnerLoopsCut }
     ensures masked { MaskedInnerLoopsCut }
+{}
+
+/// An inner loop that is a whole body is cut in two: the loop of its first part, and that of its second one, which
+/// evaluates again what it needs of the first part alone, whether the rest could fault or not, since it did not. What sets
+/// locals that nothing behind it needs, and cannot fault, is left out of the second part, as of any inner loop alone.
+pub fn inner_loops_resume()
+    ensures saved { InnerLoopsResume }
+    ensures masked { MaskedInnerLoopsResume }
+    ensures trimmed { InnerLoopsTrim }
+    ensures trimmed_masked { MaskedInnerLoopsTrim }
 {}
