@@ -21,8 +21,8 @@ use gm_base::{Items, NoMemory, Place};
 use gm_image::{Expr as Lowered, Leaf, Shape, VertexLine};
 use gm_layouts::{Layout, next, small};
 use gm_message::{Way, type_at, way_of};
-use gm_places::is_in;
 use gm_terms::{Environment, lower_all, lower_expr, lower_or_zero};
+use gm_trees::variables::is_in;
 use gm_value::{Reduce, VType, Value};
 use std::alloc::Global;
 

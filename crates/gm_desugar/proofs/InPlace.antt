@@ -10,7 +10,7 @@ use Rattle.gm_desugar.specs.Compounds.{expanded_in, expanded}
 use Rattle.gm_desugar.specs.Conditions.{set_to, asked, set_unless, asked_unless, if_hoisted, for_hoisted, while_hoisted, do_hoisted, hoisted}
 use Rattle.gm_desugar.specs.Groups.{ungrouped}
 use Rattle.gm_desugar.specs.Literals.{each_expr_in, each_expr}
-use Rattle.gm_desugar.specs.Places.{after, after_all, before}
+use Rattle.gm_trees.specs.Places.{after, after_all, before}
 use Rattle.gm_desugar.specs.Reads.{set_unless as reads_unless, told_unless, after_reads}
 
 -- statements one after another

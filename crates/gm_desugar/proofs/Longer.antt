@@ -5,7 +5,7 @@ use Rattle.std.specs.List.{list_all}
 use Rattle.gm_value.specs.declared.values.VType.{VType}
 use Rattle.gm_value.specs.declared.values.VType.TheVariants.{Flag}
 use Rattle.gm_value.specs.declared.reductions.Reduce.{Reduce}
-use Rattle.gm_value.specs.Operations.{is_numeric, fits1, fits2, type1, type2}
+use Rattle.gm_value.specs.Operations.{is_numeric, fits2, type1, type2}
 use Rattle.gm_value.specs.Reductions.{reduces}
 use Rattle.gm_ast.specs.declared.tree.Declaration.{Declaration}
 use Rattle.gm_ast.specs.declared.tree.Target.{Target}
@@ -19,7 +19,7 @@ use Rattle.gm_semantics.specs.Statements.{variable_at}
 use Rattle.gm_forms.specs.Forms.{depth_at, may, is_flat, is_inner_head, is_within}
 use Rattle.gm_forms.specs.Ready.{is_outer_expr, is_phase_expr, is_at_depth, is_inner_code, is_outer_code, is_phase_code}
 use Rattle.gm_forms.specs.Sharing.{Read, Sights, with_reads, reads_in, sights_in, sights_in_all, is_at_once, are_at_once, sights_of_target, sights_at_target, sights_by, sights_of, variables_of, written, is_owned, is_kept, variables_where, Reduced, reduced_by, reduced, inner_shares, inners_share, shares, at_level, level_reads_in, level_reads_in_all, level_reads_of, search_shares, loops_share}
-use Rattle.gm_forms.specs.Typing.{type_at, type_if, by_one, is_type, takes, type_in, has_type, may_have_type, target_type, all_have_types, keeps_tuples, fits_targets, returns_type, is_typed_in}
+use Rattle.gm_forms.specs.Typing.{type_at, type_if, by_one, is_type, takes, type_in, has_type, may_have_type, target_type, all_have_types, keeps_tuples, fits_targets, returns_type, is_typed_in, takes1}
 
 -- equal parts make equal wholes
 pub two : {A B C : Type 0} (f : A → B → C) (a a' : A) (b b' : B) → a ≡ a' → b ≡ b' → f a b ≡ f a' b'
@@ -51,7 +51,7 @@ module _ (ds es : List Declaration) (k : ℕ) (same : (x : ℕ) → x < k → va
   type-longer NodeCount b = refl
   type-longer EdgeCount b = refl
   type-longer (Live x at) b = refl
-  type-longer (Unary op at e) b = ap (λ o. by_one o (λ t. type_if (fits1 op t) (type1 op t))) (type-longer e b)
+  type-longer (Unary op at e) b = ap (λ o. by_one o (λ t. type_if (takes1 op t) (type1 op t))) (type-longer e b)
   type-longer (Binary op at l r) b = two (λ o u. by_one o (λ t. by_one u (λ v. type_if (fits2 op t v) (type2 op t)))) (type_in es l) (type_in ds l) (type_in es r) (type_in ds r) (type-longer l b.0) (type-longer r b.1)
   type-longer (Both l r) b = two (λ o u. type_if (is_type Flag o && is_type Flag u) Flag) (type_in es l) (type_in ds l) (type_in es r) (type_in ds r) (type-longer l b.0) (type-longer r b.1)
   type-longer (Either l r) b = two (λ o u. type_if (is_type Flag o && is_type Flag u) Flag) (type_in es l) (type_in ds l) (type_in es r) (type_in ds r) (type-longer l b.0) (type-longer r b.1)

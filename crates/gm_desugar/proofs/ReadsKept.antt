@@ -11,7 +11,7 @@ use Rattle.gm_value.specs.declared.operations.Op1.TheVariants.{Neg, Not, ToI32, 
 use Rattle.gm_value.specs.declared.operations.Op2.{Op2}
 use Rattle.gm_value.specs.declared.values.VType.{VType}
 use Rattle.gm_value.specs.declared.values.VType.TheVariants as V
-use Rattle.gm_value.specs.Operations.{fits1, fits2, type1, type2}
+use Rattle.gm_value.specs.Operations.{fits2, type1, type2}
 use Rattle.gm_ast.specs.declared.tree.Declaration.{Declaration}
 use Rattle.gm_ast.specs.declared.tree.Fold.{Fold}
 use Rattle.gm_ast.specs.declared.tree.Head.{Head}
@@ -27,7 +27,7 @@ use Rattle.gm_forms.specs.Forms.{depth_at, is_within, is_told}
 use Rattle.gm_forms.specs.Order.{folds_in_order, loops_in_order}
 use Rattle.gm_forms.specs.Ready.{is_phase_expr, is_phase_code}
 use Rattle.gm_forms.specs.Sharing.{loops_share}
-use Rattle.gm_forms.specs.Typing.{type_at, type_if, by_one, is_type, type_in, has_type, target_type, returns_type, is_typed_in}
+use Rattle.gm_forms.specs.Typing.{type_at, type_if, by_one, is_type, type_in, has_type, target_type, returns_type, is_typed_in, takes1}
 use Rattle.gm_forms.specs.Uses as Uses
 use Rattle.gm_forms.specs.Uses.{Role, Written, suits, use_as, has_role, uses_in, uses_of_head, uses_of_target, uses_of}
 use Rattle.gm_forms.proofs.Named.{both-true, all-append}
@@ -224,7 +224,7 @@ module _ (ds es : List Declaration) where
 
   unary-sound : (op : Op1) (at : Place) (e : Expr) → Sound (Unary op at e) → Sound e
   unary-sound op at e s =
-      let t = one-typed (type_in es e) (λ t. type_if (fits1 op t) (type1 op t)) (s.typed.0) s.typed.1 in
+      let t = one-typed (type_in es e) (λ t. type_if (takes1 op t) (type1 op t)) (s.typed.0) s.typed.1 in
       record { named = s.named; typed = (t.0, t.1); folds = s.folds; phase = s.phase; literals = (both-true (stays op e) (has_literals e) s.literals).1 }
 
   binary-sound : (op : Op2) (at : Place) (a b : Expr) → Sound (Binary op at a b) → Sound a × Sound b
@@ -330,7 +330,7 @@ module _ (ds es : List Declaration) where
         let t = told-kept e n b h (unary-sound op at e s) in
         record {
           named = t.named;
-          typed = ap (λ o. by_one o (λ t. type_if (fits1 op t) (type1 op t))) t.typed;
+          typed = ap (λ o. by_one o (λ t. type_if (takes1 op t) (type1 op t))) t.typed;
           folds = t.folds;
           phase = t.phase;
           literals = and-true (stays op d) (has_literals d) (stays-told op e n (both-true (stays op e) (has_literals e) s.literals).0) t.literals;

@@ -11,7 +11,7 @@ use Rattle.gm_value.specs.declared.values.VType.{VType}
 use Rattle.gm_value.specs.declared.values.VType.TheVariants.{Flag}
 use Rattle.gm_value.specs.declared.values.Value.{Value}
 use Rattle.gm_value.specs.Bag.{IsIn}
-use Rattle.gm_value.specs.Operations.{result1, result2, fits1, fits2, type1, type2}
+use Rattle.gm_value.specs.Operations.{result1, result2, fits2, type1, type2}
 use Rattle.gm_value.specs.Reductions.{reduces}
 use Rattle.gm_model.specs.Graphs.{Step}
 use Rattle.gm_ast.specs.declared.tree.Declaration.{Declaration}
@@ -28,7 +28,7 @@ use Rattle.gm_forms.specs.Forms.{is_flat, is_inner_head}
 use Rattle.gm_forms.specs.Order.{lie_before, can_fail1, can_fail2, fault_if, rest_in, hoisted_in, hoists_in_order, folds_in_order, fold_fault, fault_of, are_numbered, cannot_fail}
 use Rattle.gm_forms.specs.Ready.{is_outer_expr, is_phase_expr}
 use Rattle.gm_forms.specs.Sharing.{reads_in, told_in, with_reads, sights_in, level_reads_in}
-use Rattle.gm_forms.specs.Typing.{type_in, type_if, by_one, is_type, takes}
+use Rattle.gm_forms.specs.Typing.{type_in, type_if, by_one, is_type, takes, takes1}
 use Rattle.gm_forms.specs.Uses.{suits, uses_of_head, uses_in}
 use Rattle.gm_forms.proofs.Named.{both-true, all-append}
 use Rattle.gm_forms.proofs.Weaker.{and-true}
@@ -56,7 +56,7 @@ module _ (ds : List Declaration) where
   expr-unary op at e d r = record {
     same = λ w. ap (λ (x : Evaluated). one_of x (λ v. located w at (result1 op v))) (r.same w);
     named = r.named;
-    typed = λ t h. by-one (type_in ds e) (type_in ds d) (λ u. type_if (fits1 op u) (type1 op u)) t r.typed h;
+    typed = λ t h. by-one (type_in ds e) (type_in ds d) (λ u. type_if (takes1 op u) (type1 op u)) t r.typed h;
     hoisted = r.hoisted;
     rest = λ k. fewer-both (fault_if (can_fail1 op) k at) (rest_in e k) (fault_if (can_fail1 op) k at) (rest_in d k) (λ f i. i) (r.rest k);
     hoists = r.hoists;

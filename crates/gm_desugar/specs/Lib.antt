@@ -1,4 +1,3 @@
-pub mod Places
 pub mod Groups
 pub mod Compounds
 pub mod Literals

@@ -18,10 +18,10 @@ ghost use Rattle.gm_desugar.specs.Compounds as Compounds;
 ghost use Rattle.gm_desugar.specs.Compounds.{expanded, expanded_in, without_compounds};
 ghost use Rattle.gm_desugar.specs.Stages.{WithoutCompounds, WithoutGroups};
 
-use crate::places::{finish, put, with_both_boxed};
 use gm_ast::forms::Work;
 use gm_ast::tree::{Declaration, Expr, Key, Stmt, Target, TotalKey, Tree};
 use gm_base::{NoMemory, Place};
+use gm_trees::places::{finish, put, with_both_boxed};
 use gm_value::{Op2, Reduce};
 use std::alloc::{AllocError, Global};
 use std::mem;

@@ -17,14 +17,14 @@ ghost use Rattle.gm_forms.specs.Meanings.{SameMeaning};
 ghost use Rattle.gm_forms.specs.Uses.{is_named};
 ghost use Rattle.gm_desugar.specs.Conditions as Conditions;
 ghost use Rattle.gm_desugar.specs.Conditions.{hoisted, with_conditions};
-ghost use Rattle.gm_desugar.specs.Places as Places;
+ghost use Rattle.gm_trees.specs.Places as Places;
 ghost use Rattle.gm_desugar.specs.Stages.{WithConditions, WithLiterals};
 
-use crate::copies::copy;
-use crate::places::{finish, in_turn, put, put_after, put_before, taken, with_both_boxed};
 use gm_ast::forms::Work;
 use gm_ast::tree::{Declaration, Expr, Key, Sort, Stmt, Target, Tree, Variable};
 use gm_base::{Items, NoMemory, Place};
+use gm_trees::copies::copy;
+use gm_trees::places::{finish, in_turn, put, put_after, put_before, taken, with_both_boxed};
 use gm_value::{VType, Value};
 use std::alloc::{AllocError, Global};
 use std::mem;

@@ -12,10 +12,10 @@ ghost use Rattle.gm_desugar.specs.Stages.{WithoutGroups};
 ghost use Rattle.gm_forms.specs.Meanings.{SameMeaning};
 ghost use Rattle.gm_forms.specs.Ready.{Ready0};
 
-use crate::places::{finish, put, taken_value};
 use gm_ast::forms::Work;
 use gm_ast::tree::{Domain, Expr, Head, Key, Stage, Stmt, Target, Tree};
 use gm_base::{NoMemory, Place};
+use gm_trees::places::{finish, put, taken_value};
 use gm_value::Value;
 use std::alloc::{AllocError, Global};
 

@@ -19,8 +19,6 @@
 
 pub mod compounds;
 pub mod conditions;
-mod copies;
 pub mod groups;
 pub mod literals;
-pub mod places;
 pub mod reads;

@@ -11,10 +11,10 @@ ghost use Rattle.gm_desugar.specs.Literals.{at_once, each_expr, each_expr_in, wi
 ghost use Rattle.gm_desugar.specs.Stages.{WithLiterals, WithoutCompounds};
 ghost use Rattle.gm_forms.specs.Meanings.{SameMeaning};
 
-use crate::places::put;
 use gm_ast::forms::Work;
 use gm_ast::tree::{Expr, Stmt};
 use gm_base::NoMemory;
+use gm_trees::places::put;
 use gm_value::{Op1, Value, apply1};
 use std::alloc::Global;
 

@@ -14,17 +14,17 @@ ghost use Rattle.gm_forms.specs.Meanings.{SameMeaning};
 ghost use Rattle.gm_forms.specs.Typing.{type_at};
 ghost use Rattle.gm_forms.specs.Uses.{is_named};
 ghost use Rattle.gm_desugar.specs.Conditions as Conditions;
-ghost use Rattle.gm_desugar.specs.Places as Places;
+ghost use Rattle.gm_trees.specs.Places as Places;
 ghost use Rattle.gm_desugar.specs.Reads as Reads;
 ghost use Rattle.gm_desugar.specs.Reads.{apart, count_read, count_reads, with_reads_apart};
 ghost use Rattle.gm_desugar.specs.Stages.{WithConditions, WithReadsApart};
 
 use crate::conditions::{asked, fresh, is_told, set_to};
-use crate::copies::copy;
-use crate::places::{finish, put, put_after_all};
 use gm_ast::forms::Work;
 use gm_ast::tree::{Declaration, Expr, Key, Stmt, Target, Tree};
 use gm_base::NoMemory;
+use gm_trees::copies::copy;
+use gm_trees::places::{finish, put, put_after_all};
 use gm_value::VType;
 use std::alloc::{AllocError, Global};
 

@@ -9,7 +9,7 @@ use Rattle.gm_value.specs.declared.values.VType.{VType}
 use Rattle.gm_value.specs.declared.values.VType.TheVariants as V
 use Rattle.gm_value.specs.declared.reductions.Reduce.{Reduce}
 use Rattle.gm_value.specs.Numbers.{zero_of}
-use Rattle.gm_value.specs.Operations.{is_numeric, same_type, fits1, fits2, type1, type2}
+use Rattle.gm_value.specs.Operations.{is_numeric, same_type, fits2, type1, type2}
 use Rattle.gm_value.specs.Reductions.{reduces}
 use Rattle.gm_ast.specs.declared.tree.Declaration.{Declaration}
 use Rattle.gm_ast.specs.declared.tree.Key.{Key}
@@ -18,7 +18,7 @@ use Rattle.gm_ast.specs.declared.tree.Target.TheVariants as T
 use Rattle.gm_ast.specs.Ways.{is_in}
 use Rattle.gm_ast.specs.Program.{Expr, Const, Var, Property, Unary, Binary, Both, Either, Choose, Stmt, Then, Declare, Assign, Defer, Combine, Foreach, If}
 use Rattle.gm_forms.specs.Forms.{depth_at, may, is_flat, is_within, is_own, is_given, is_inner_local, is_inner_given, is_inner_head, are_reduced, is_inner_body, is_outer_body}
-use Rattle.gm_forms.specs.Typing.{type_at, type_if, by_one, is_type, type_in, has_type, target_type, all_have_types, keeps_tuples, fits_targets, is_typed_in}
+use Rattle.gm_forms.specs.Typing.{type_at, type_if, by_one, is_type, type_in, has_type, target_type, all_have_types, keeps_tuples, fits_targets, is_typed_in, takes1}
 use Rattle.gm_forms.specs.Uses.{Owner, NodeValue, Told, Written, Use, use_as, suits, uses_in, uses_in_option, uses_in_all, uses_of_head, uses_of_target, uses_of_targets, uses_of_declared, uses_of}
 use Rattle.gm_forms.proofs.Named.{both-true, all-append}
 use Rattle.gm_loop_laws.specs.Localised.{moved_in, moved_target, moved_declared, moved}
@@ -122,7 +122,7 @@ module _ (dt : List Declaration) (x q n : ℕ) (at : Place) (t : VType) where
         by : (c : Bool) → nat_eq y x ≡ c → type_in dt (cond c (Property n q p) (Var y p)) ≡ Some (type_at dt y)
         by true e = ap Some (same-at y e)
         by false e = refl
-    type-moved (Unary op p e) = ap (λ u. by_one u (λ v. type_if (fits1 op v) (type1 op v))) (type-moved e)
+    type-moved (Unary op p e) = ap (λ u. by_one u (λ v. type_if (takes1 op v) (type1 op v))) (type-moved e)
     type-moved (Binary op p a b) = two-same (λ u w. by_one u (λ v. by_one w (λ y. type_if (fits2 op v y) (type2 op v)))) (type_in dt (mi a)) (type_in dt (mi b)) (type_in dt a) (type_in dt b) (type-moved a) (type-moved b)
     type-moved (Both a b) = two-same (λ u w. type_if (is_type V.Flag u && is_type V.Flag w) V.Flag) (type_in dt (mi a)) (type_in dt (mi b)) (type_in dt a) (type_in dt b) (type-moved a) (type-moved b)
     type-moved (Either a b) = two-same (λ u w. type_if (is_type V.Flag u && is_type V.Flag w) V.Flag) (type_in dt (mi a)) (type_in dt (mi b)) (type_in dt a) (type_in dt b) (type-moved a) (type-moved b)

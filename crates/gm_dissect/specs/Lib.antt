@@ -1,4 +1,3 @@
-pub mod Places
 pub mod Loops
 pub mod Deferred
 pub mod AllDeferred

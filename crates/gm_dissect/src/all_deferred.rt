@@ -8,10 +8,10 @@ ghost use Rattle.gm_forms.specs.Ready.{Ready2};
 ghost use Rattle.gm_dissect.specs.AllDeferred.{deferred_in, deferred_of, has_no_deferred, property_in, some_defers, without_deferred, without_each};
 
 use crate::deferred::{defers, move_out};
-use crate::places::finish;
 use gm_ast::forms::Work;
 use gm_ast::tree::{Stmt, Target, Tree};
 use gm_base::NoMemory;
+use gm_trees::places::finish;
 use std::alloc::{AllocError, Global};
 
 /// Writes all deferred writes of a program as writes at once to copies of their properties. The copies stand behind the

@@ -14,12 +14,12 @@ ghost use Rattle.gm_forms.specs.Ready.{Ready2};
 ghost use Rattle.gm_dissect.specs.Conditions as Conditions;
 ghost use Rattle.gm_dissect.specs.Conditions.{flag_local, flag_locals, has_saved_conditions, holds_cut, numbers_in, numbers_of, saved_first, saved_loop, with_saved, with_saved_conditions};
 ghost use Rattle.gm_dissect.specs.Loops.{each_loop};
-ghost use Rattle.gm_dissect.specs.Places.{after};
+ghost use Rattle.gm_trees.specs.Places.{after};
 
-use crate::places::{finish, put_after};
 use gm_ast::forms::Work;
 use gm_ast::tree::{Declaration, Expr, Key, Sort, Stmt, Target, Tree, Variable};
 use gm_base::{Items, NoMemory, Place};
+use gm_trees::places::{finish, put_after};
 use gm_value::VType;
 use std::alloc::{AllocError, Global};
 use std::mem;

@@ -16,10 +16,10 @@ ghost use Rattle.gm_dissect.specs.Deferred as Deferred;
 ghost use Rattle.gm_dissect.specs.Deferred.{copied, copy_of, defers, undeferred_loop, without_deferred_to};
 ghost use Rattle.gm_dissect.specs.Loops.{each_loop};
 
-use crate::places::{finish, put, taken, taken_value};
 use gm_ast::forms::Work;
 use gm_ast::tree::{Declaration, Expr, Head, Key, Sort, Stage, Stmt, Target, Tree, Variable};
 use gm_base::{Items, NoMemory, Place};
+use gm_trees::places::{finish, put, taken, taken_value};
 use gm_value::{VType, Value};
 use std::alloc::{AllocError, Global};
 

@@ -16,4 +16,3 @@ pub mod all_deferred;
 pub mod conditions;
 pub mod deferred;
 pub mod laws;
-pub mod places;

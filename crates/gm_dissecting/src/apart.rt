@@ -19,8 +19,8 @@ ghost use Rattle.gm_parting.specs.Numbers as Numbers;
 use gm_ast::forms::Work;
 use gm_ast::tree::{Declaration, Expr, Key, Sort, Stmt, Tree, Variable};
 use gm_base::{Items, NoMemory, Place};
-use gm_dissect::places::{finish, put, taken, taken_value};
 use gm_slices::slices::goes_one_way;
+use gm_trees::places::{finish, put, taken, taken_value};
 use gm_value::{Op1, VType};
 use std::alloc::{AllocError, Global};
 

@@ -32,7 +32,7 @@ use Rattle.gm_flip.proofs.Basics.{none}
 use Rattle.gm_flip.proofs.Reductions.{one-like, adds-same, shared-out, kept-out, written-same, sights-same, like, Comes, comes, written-touched, agree-like, last-like}
 
 -- nothing is hoisted of an expression without reductions
-flat-hoists : (e : Expr) → IsFlat e → hoisted_in e ≡ []
+pub flat-hoists : (e : Expr) → IsFlat e → hoisted_in e ≡ []
 flat-hoists (Const v) f = refl
 flat-hoists (Var x at) f = refl
 flat-hoists (Property x p at) f = refl
@@ -48,7 +48,7 @@ flat-hoists (Either a b) f = ap (λ l. l ++ hoisted_in b) (flat-hoists a f.0) �
 flat-hoists (Choose c a b) f = ap (λ l. l ++ (hoisted_in a ++ hoisted_in b)) (flat-hoists c f.0) ∙ ap (λ l. l ++ hoisted_in b) (flat-hoists a f.1) ∙ flat-hoists b f.2
 flat-hoists (Folded fold h c e) f = absurd f
 
-nothing-before : (ys : List K.Fault) → lie_before [] ys ≡ true
+pub nothing-before : (ys : List K.Fault) → lie_before [] ys ≡ true
 nothing-before [] = refl
 nothing-before (y ∷ ys) = nothing-before ys
 
@@ -64,11 +64,11 @@ lie-append xs ys (z ∷ zs) h k =
     and-true (all_before (xs ++ ys) z) (lie_before (xs ++ ys) zs) (before-append xs ys z p.0 q.0) (lie-append xs ys zs p.1 q.1)
 
 -- a read of a property
-anywhere-out : (rs : List Read) (y : ℕ) → IsIn y (read_anywhere rs) → (r : Read) × IsIn r rs × (y ≡ r.property)
+pub anywhere-out : (rs : List Read) (y : ℕ) → IsIn y (read_anywhere rs) → (r : Read) × IsIn r rs × (y ≡ r.property)
 anywhere-out [] y i = absurd i
 anywhere-out (r ∷ rs) y i = ⊎_elim (λ (e : y ≡ r.property). (r, inl refl, e)) (λ j. let q = anywhere-out rs y j in (q.0, inr q.1, q.2)) i
 
-elsewhere-out : (n : ℕ) (rs : List Read) (y : ℕ) → IsIn y (read_elsewhere n rs) → IsIn y (read_anywhere rs)
+pub elsewhere-out : (n : ℕ) (rs : List Read) (y : ℕ) → IsIn y (read_elsewhere n rs) → IsIn y (read_anywhere rs)
 elsewhere-out n [] y i = absurd i
 elsewhere-out n (r ∷ rs) y i = by (nat_eq r.owner n) (elsewhere-out n rs y) i
   where
@@ -76,7 +76,7 @@ elsewhere-out n (r ∷ rs) y i = by (nat_eq r.owner n) (elsewhere-out n rs y) i
     by true f i = inr (f i)
     by false f i = ⊎_elim (λ e. inl e) (λ j. inr (f j)) i
 
-at-member : (n : ℕ) (rs : List Read) (r : Read) → IsIn r rs → nat_eq r.owner n ≡ true → IsIn r.property (read_at n rs)
+pub at-member : (n : ℕ) (rs : List Read) (r : Read) → IsIn r rs → nat_eq r.owner n ≡ true → IsIn r.property (read_at n rs)
 at-member n [] r i e = absurd i
 at-member n (q ∷ rs) r i e =
     ⊎_elim
@@ -103,11 +103,11 @@ joined-told mask test y i = by (is_always mask) i
     by false i = in-either y (told_in mask) (told_in test) i
 
 -- a test of all members
-passes-in : (f : ℕ → Bool) (xs : List ℕ) (y : ℕ) → list_all f xs ≡ true → IsIn y xs → f y ≡ true
+pub passes-in : (f : ℕ → Bool) (xs : List ℕ) (y : ℕ) → list_all f xs ≡ true → IsIn y xs → f y ≡ true
 passes-in f [] y h i = absurd i
 passes-in f (x ∷ xs) y h i = let q = both-true (f x) (list_all f xs) h in ⊎_elim (λ (e : y ≡ x). ap f e ∙ q.0) (λ r. passes-in f xs y q.1 r) i
 
-all-passes : {f : ℕ → Bool} (xs : List ℕ) → ((y : ℕ) → IsIn y xs → f y ≡ true) → list_all f xs ≡ true
+pub all-passes : {f : ℕ → Bool} (xs : List ℕ) → ((y : ℕ) → IsIn y xs → f y ≡ true) → list_all f xs ≡ true
 all-passes [] h = refl
 all-passes {f} (x ∷ xs) h = and-true (f x) (list_all f xs) (h x (inl refl)) (all-passes xs (λ y i. h y (inr i)))
 

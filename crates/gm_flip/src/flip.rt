@@ -9,11 +9,11 @@ ghost use Rattle.gm_forms.specs.Passes.{Pass};
 ghost use Rattle.gm_forms.specs.Ready.{Ready3, Ready4};
 ghost use Rattle.gm_flip.specs.Flipped as Flipped;
 
-use crate::places::{beside, both_boxed, finish, put, taken, taken_value, with_boxed};
 use crate::pulling::pulls;
 use gm_ast::forms::Work;
 use gm_ast::tree::{Domain, Expr, Head, Key, Stage, Stmt, Tree};
 use gm_base::{NoMemory, Place};
+use gm_trees::places::{beside, both_boxed, finish, put, taken, taken_value, with_boxed};
 use gm_value::Value;
 use std::alloc::{AllocError, Global};
 
@@ -69,8 +69,8 @@ fn is_true(value: Value) -> bool
     }
 }
 
-// Whether a filter is the constant that passes everything.
-fn is_always(filter: &Expr) -> bool
+/// Whether a filter is the constant that passes everything.
+pub fn is_always(filter: &Expr) -> bool
     ensures { result ≡ Flipped.is_always (expr_of filter.now) }
 {
     match filter {
@@ -103,8 +103,8 @@ fn join(alloc: Global, mask: Expr, filter: Expr) -> Result<Expr, AllocError>
     Ok(Expr::Both(mask, filter))
 }
 
-// A loop.
-fn loop_of(
+/// A loop of its parts.
+pub fn loop_of(
     alloc: Global,
     key: Key,
     place: Place,

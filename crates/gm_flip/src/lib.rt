@@ -12,5 +12,4 @@
 #![tactic(auto)]
 
 pub mod flip;
-mod places;
 mod pulling;

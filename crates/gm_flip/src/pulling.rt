@@ -1,80 +1,13 @@
 //! Which loops pull.
 
 ghost use Rattle.std.specs.Prelude.{◌≡◌, map};
-ghost use Rattle.std.specs.List.{list_all};
 ghost use Rattle.gm_ast.specs.Program.{sequence};
 ghost use Rattle.gm_ast.specs.Tree.{expr_of, stmt_of};
-ghost use Rattle.gm_ast.specs.Ways as Ways;
-ghost use Rattle.gm_forms.specs.Forms as Forms;
 ghost use Rattle.gm_flip.specs.Pulling as Pulling;
 
-use gm_ast::tree::{Domain, Expr, Head, Stmt, Target};
-
-// Whether a variable is among some.
-fn is_in(variables: &[u32], variable: u32) -> bool
-    ensures { result ≡ Ways.is_in variables.now variable }
-{
-    for other in variables {
-        if variable == *other {
-            return true;
-        }
-    }
-    false
-}
-
-// Whether an expression has no reduction, and reads properties and degrees through some iterators alone, and an edge's
-// where one is at hand.
-fn is_flat(iterators: &[u32], edge: bool, e: &Expr) -> bool
-    ensures { result ≡ Forms.is_flat iterators.now edge (expr_of e.now) }
-{
-    match e {
-        Expr::Property { owner, .. } | Expr::Degree { owner, .. } => is_in(iterators, *owner),
-        Expr::EdgeProperty { .. } => edge,
-        Expr::Unary { inner, .. } => is_flat(iterators, edge, inner),
-        Expr::Binary { left, right, .. } => {
-            is_flat(iterators, edge, left) && is_flat(iterators, edge, right)
-        }
-        Expr::Both(left, right) | Expr::Either(left, right) => {
-            is_flat(iterators, edge, left) && is_flat(iterators, edge, right)
-        }
-        Expr::Choose(test, yes, no) => {
-            is_flat(iterators, edge, test)
-                && is_flat(iterators, edge, yes)
-                && is_flat(iterators, edge, no)
-        }
-        Expr::Fold { .. } => false,
-        _ => true,
-    }
-}
-
-// Whether some expressions do so.
-fn are_flat(iterators: &[u32], edge: bool, values: &[Expr]) -> bool
-    ensures { result ≡ list_all (Forms.is_flat iterators.now edge) (map expr_of values.now) }
-{
-    for value in values {
-        if !is_flat(iterators, edge, value) {
-            return false;
-        }
-    }
-    true
-}
-
-// Whether no target is a property through an iterator.
-fn are_off(iterator: u32, targets: &[Target]) -> bool
-    ensures { result ≡ list_all (Forms.is_off iterator) targets.now }
-{
-    targets.iter().all(|target| match *target {
-        Target::Scalar { .. } => true,
-        Target::Property { owner, .. } => owner != iterator,
-    })
-}
-
-// Whether a range leads along the edges.
-fn is_along(domain: Domain) -> bool
-    ensures { result ≡ Forms.is_along domain }
-{
-    matches!(domain, Domain::OutNbrs)
-}
+use gm_ast::tree::{Expr, Head, Stmt};
+use gm_facts::reads::{are_flat, is_along, is_flat};
+use gm_facts::ways::avoids;
 
 // Whether the expressions of a block's statements do so.
 #[cycle(seeing)]
@@ -108,32 +41,6 @@ fn sees(iterators: &[u32], edge: bool, s: &Stmt) -> bool
                 && sees(iterators, edge, yes)
                 && sees(iterators, edge, no)
         }
-        _ => true,
-    }
-}
-
-// Whether no reduction of a block's statements goes to a property through an iterator.
-#[cycle(avoiding)]
-fn all_avoid(iterator: u32, stmts: &Vec<Stmt>) -> bool
-    ensures { result ≡ Forms.avoids iterator (sequence (map stmt_of stmts.now.items)) }
-{
-    for stmt in stmts {
-        if !avoids(iterator, stmt) {
-            return false;
-        }
-    }
-    true
-}
-
-// Whether no reduction of a body goes to a property through an iterator.
-#[cycle(avoiding)]
-fn avoids(iterator: u32, s: &Stmt) -> bool
-    ensures { result ≡ Forms.avoids iterator (stmt_of s.now) }
-{
-    match s {
-        Stmt::Block(stmts) => all_avoid(iterator, stmts),
-        Stmt::Reduce { targets, .. } => are_off(iterator, targets),
-        Stmt::If { yes, no, .. } => avoids(iterator, yes) && avoids(iterator, no),
         _ => true,
     }
 }

@@ -12,7 +12,7 @@ use Rattle.gm_value.specs.declared.reductions.Reduce.TheVariants as R
 use Rattle.gm_value.specs.declared.values.VType.{VType}
 use Rattle.gm_value.specs.declared.values.VType.TheVariants as V
 use Rattle.gm_value.specs.Numbers.{value_at}
-use Rattle.gm_value.specs.Operations.{is_flag, fits1, fits2, type1, type2}
+use Rattle.gm_value.specs.Operations.{is_flag, fits2, type1, type2}
 use Rattle.gm_value.specs.Reductions.{reduces}
 use Rattle.gm_ast.specs.declared.surface.ReductionWord.{ReductionWord}
 use Rattle.gm_ast.specs.declared.surface.ReductionWord.TheVariants as W
@@ -27,7 +27,7 @@ use Rattle.gm_semantics.specs.Expressions.{reduce_of}
 use Rattle.gm_semantics.specs.Statements.{variable_at}
 use Rattle.gm_forms.specs.Forms.{depth_at, is_flat, is_inner_head}
 use Rattle.gm_forms.specs.Ready.{is_outer_expr, is_inner_code, is_outer_code}
-use Rattle.gm_forms.specs.Typing.{type_at, type_if, by_one, is_type, takes, type_in, has_type, is_typed_in}
+use Rattle.gm_forms.specs.Typing.{type_at, type_if, by_one, is_type, takes, type_in, has_type, is_typed_in, takes1}
 use Rattle.gm_forms.specs.Uses.{Role, Written, Told, suits, has_role, use_as, uses_in, uses_of_head, uses_of}
 use Rattle.gm_forms.proofs.Named.{both-true, all-append}
 use Rattle.gm_forms.proofs.Weaker.{and-true}
@@ -188,7 +188,7 @@ module _ (es : List Declaration) (res : Option VType) (levels : Bool) (outer : �
 
   unary-sound : (op : Op1) (at : Place) (e : Expr) → Sound (Unary op at e) → Sound e
   unary-sound op at e s =
-      let t = one-parts (type_in es e) (λ t. type_if (fits1 op t) (type1 op t)) (s.typed.0) s.typed.1 in
+      let t = one-parts (type_in es e) (λ t. type_if (takes1 op t) (type1 op t)) (s.typed.0) s.typed.1 in
       record { named = s.named; typed = (t.0, t.1); form = s.form }
 
   binary-sound : (op : Op2) (at : Place) (a b : Expr) → Sound (Binary op at a b) → Sound a × Sound b
@@ -232,7 +232,7 @@ module _ (es : List Declaration) (res : Option VType) (levels : Bool) (outer : �
   told-so (Live x at) n h s = record { named = s.named; typed = refl }
   told-so (Unary op at e) n h s =
       let t = told-so e n h (unary-sound op at e s) in
-      record { named = t.named; typed = ap (λ o. by_one o (λ t. type_if (fits1 op t) (type1 op t))) t.typed }
+      record { named = t.named; typed = ap (λ o. by_one o (λ t. type_if (takes1 op t) (type1 op t))) t.typed }
   told-so (Binary op at a b) n h s =
       let parts = binary-sound op at a b s in
       let l = locals-two n (count_folds a) (fold_types a) (fold_types b) (length-folds a) h in

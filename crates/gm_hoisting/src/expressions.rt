@@ -9,8 +9,8 @@ use crate::folds::fold_set;
 use crate::totals::placed;
 use gm_ast::tree::{Expr, Fold, Head, Key, Stmt};
 use gm_desugar::conditions::asked;
-use gm_desugar::places::put;
 use gm_desugar::reads::take_next;
+use gm_trees::places::put;
 use std::alloc::{AllocError, Global};
 
 // Adds the loop of a reduction onto the next local, and answers the local. The filter and the value of the reduction are

@@ -17,7 +17,7 @@ use crate::totals::reduce_of;
 use gm_ast::surface::ReductionWord;
 use gm_ast::tree::{Expr, Fold, Head, Key, Stage, Stmt, Target, TotalKey};
 use gm_base::Place;
-use gm_desugar::places::{beside, taken_value, with_both_boxed};
+use gm_trees::places::{beside, taken_value, with_both_boxed};
 use gm_value::{Reduce, VType, Value, unit};
 use std::alloc::{AllocError, Global};
 

@@ -4,13 +4,13 @@
 ghost use Rattle.std.specs.Prelude.{◌≡◌, ◌++◌, true, false, [], ◌∷◌, IfOk, OnOk, map};
 ghost use Rattle.gm_ast.specs.Program as Program;
 ghost use Rattle.gm_ast.specs.Tree.{expr_of, stmt_of};
-ghost use Rattle.gm_ast.specs.Ways as Ways;
 ghost use Rattle.gm_ast.specs.declared.tree.Sort.TheVariants as Sorts;
 ghost use Rattle.gm_hoisting.specs.Hoisting as Hoisting;
 ghost use Rattle.gm_hoisting.specs.Hoisting.{has_none};
 
 use gm_ast::tree::{Declaration, Expr, Search, Sort, Stmt, Variable};
 use gm_base::Items;
+use gm_trees::variables::is_in;
 use gm_value::VType;
 use std::alloc::{AllocError, Global};
 
@@ -160,18 +160,6 @@ fn loop_added(
     fold_types(filter, &mut types)?;
     body_types(body, &mut types)?;
     add_locals(alloc, types, declarations)
-}
-
-// Whether a variable is among some.
-fn is_in(variables: &[u32], variable: u32) -> bool
-    ensures { result ≡ Ways.is_in variables.now variable }
-{
-    for other in variables {
-        if variable == *other {
-            return true;
-        }
-    }
-    false
 }
 
 // The iterator of a For and those around it.

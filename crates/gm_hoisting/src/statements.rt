@@ -8,7 +8,7 @@ ghost use Rattle.gm_hoisting.specs.Hoisting.{behind, body_out, count_body};
 
 use crate::expressions::{folds_before, values_before};
 use gm_ast::tree::{Expr, Key, Stmt};
-use gm_desugar::places::put_after_all;
+use gm_trees::places::put_after_all;
 use std::alloc::{AllocError, Global};
 
 // Puts a statement behind others, in a block, if there are any.

@@ -15,7 +15,8 @@ ghost use Rattle.gm_hoisting.specs.Hoisting.{later_of, latest_of};
 use gm_ast::surface::ReductionWord;
 use gm_ast::tree::{Expr, Fold, Head, Key, TotalKey};
 use gm_base::Place;
-use gm_value::{Op1, Op2, Reduce, Value};
+use gm_facts::faults::{can_fail1, can_fail2};
+use gm_value::{Reduce, Value};
 use std::alloc::AllocError;
 
 // The reduction that a word stands for.
@@ -40,26 +41,6 @@ fn takes_conditions(word: ReductionWord) -> bool
         ReductionWord::Sum | ReductionWord::Product | ReductionWord::Min | ReductionWord::Max =>
             false,
         ReductionWord::Count | ReductionWord::Exist | ReductionWord::All => true,
-    }
-}
-
-// Whether an operation on one value can fault.
-fn can_fail1(op: Op1) -> bool
-    ensures { result ≡ Order.can_fail1 op }
-{
-    match op {
-        Op1::Neg | Op1::ToI32 => true,
-        Op1::Not | Op1::ToI64 => false,
-    }
-}
-
-// Whether an operation on two values can fault.
-fn can_fail2(op: Op2) -> bool
-    ensures { result ≡ Order.can_fail2 op }
-{
-    match op {
-        Op2::Add | Op2::Sub | Op2::Mul | Op2::Div | Op2::Rem => true,
-        Op2::Eq | Op2::Ne | Op2::Lt | Op2::Le | Op2::Gt | Op2::Ge => false,
     }
 }
 

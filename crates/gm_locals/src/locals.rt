@@ -20,7 +20,7 @@ use crate::rewriting::{Kept, move_in, move_inner};
 use gm_ast::forms::Work;
 use gm_ast::tree::{Declaration, Expr, Head, Key, Sort, Stage, Stmt, Target, Tree, Variable};
 use gm_base::{Items, NoMemory, Place};
-use gm_dissect::places::{finish, put, taken, two};
+use gm_trees::places::{finish, in_turn, put, taken};
 use gm_value::{VType, Value};
 use std::alloc::{AllocError, Global};
 
@@ -155,7 +155,7 @@ fn set_first(
 {
     let first = setting(alloc, property, local, place, head)?;
     let second = taken(alloc, s);
-    let both = two(alloc, first, second)?;
+    let both = in_turn(alloc, first, second)?;
     put(s, both);
     Ok(())
 }

@@ -4,11 +4,11 @@ ghost use Rattle.std.specs.Prelude.{◌≡◌, ◌∷◌, [], map, option_map};
 ghost use Rattle.std.specs.List.{list_all};
 ghost use Rattle.gm_ast.specs.Program.{sequence};
 ghost use Rattle.gm_ast.specs.Tree.{expr_of, stmt_of};
-ghost use Rattle.gm_ast.specs.Ways as Ways;
 ghost use Rattle.gm_loop_laws.specs.Localised as Localised;
 ghost use Rattle.gm_locals.specs.Groups as Groups;
 
 use gm_ast::tree::{Expr, Stmt, Target};
+use gm_trees::variables::is_in;
 
 // Whether an expression without reductions reads a variable at most by its name: nothing is read through it.
 pub(crate) fn names_plainly(variable: u32, e: &Expr) -> bool
@@ -88,18 +88,6 @@ fn is_it(variable: u32, target: Target) -> bool
         } => other == variable,
         Target::Property { .. } => false,
     }
-}
-
-// Whether a variable is among some.
-pub(crate) fn is_in(variables: &[u32], variable: u32) -> bool
-    ensures { result ≡ Ways.is_in variables.now variable }
-{
-    for other in variables {
-        if variable == *other {
-            return true;
-        }
-    }
-    false
 }
 
 // Whether a target is one of some scalars.

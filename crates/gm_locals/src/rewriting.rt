@@ -7,7 +7,7 @@ ghost use Rattle.gm_locals.specs.AllMoved as AllMoved;
 
 use gm_ast::tree::{Declaration, Expr, Key, Stmt, Target};
 use gm_base::Place;
-use gm_dissect::places::{put, put_value};
+use gm_trees::places::put;
 use gm_value::{VType, Value};
 use std::mem;
 
@@ -58,7 +58,7 @@ pub(crate) fn move_in(kept: Kept, locals: &[u32], e: &mut Expr)
     match e {
         Expr::Var { variable, place } => {
             let read = read_from(kept, locals, *variable, *place);
-            put_value(e, read);
+            put(e, read);
         }
         Expr::Unary { inner, .. } => move_in(kept, locals, inner),
         Expr::Binary { left, right, .. } => {

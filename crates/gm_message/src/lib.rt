@@ -5,7 +5,6 @@
 //! `plan_messages` goes over the tree once, and gives the plan that `gm_lowering` defines (`Plans`).
 #![tactic(auto)]
 
-mod flat;
 mod inner;
 mod loads;
 mod plans;

@@ -8,7 +8,6 @@ ghost use Rattle.std.specs.Prelude.{◌≡◌, ◌+◌, ◌++◌, true, [], ◌�
 ghost use Rattle.gm_ast.specs.Program as Program;
 ghost use Rattle.gm_ast.specs.Program.{sequence};
 ghost use Rattle.gm_ast.specs.Tree.{expr_of, program_of, stmt_of};
-ghost use Rattle.gm_ast.specs.Ways as Ways;
 ghost use Rattle.gm_forms.specs.Meanings.{SameMeaning};
 ghost use Rattle.gm_forms.specs.Uses.{is_named};
 ghost use Rattle.gm_forms.specs.Typing.{type_at};
@@ -24,8 +23,9 @@ use gm_ast::forms::Work;
 use gm_ast::tree::{Declaration, Expr, Key, Stmt, Target, TotalKey, Tree};
 use gm_base::{NoMemory, Place};
 use gm_desugar::conditions::{asked, set_to};
-use gm_desugar::places::put;
 use gm_desugar::reads::{add_fresh, reads_set, take_next, tell, type_of, types_read};
+use gm_trees::places::put;
+use gm_trees::variables::is_in;
 use gm_value::{Reduce, VType};
 use std::alloc::{AllocError, Global};
 use std::mem;
@@ -64,18 +64,6 @@ fn pick_tree(alloc: Global, tree: &mut Tree) -> Result<(), NoMemory>
     let mut next = first;
     pick_onto(alloc, &mut next, &[], &mut tree.body)?;
     Ok(())
-}
-
-// Whether a variable is among some.
-fn is_in(variables: &[u32], variable: u32) -> bool
-    ensures { result ≡ Ways.is_in variables.now variable }
-{
-    for other in variables {
-        if variable == *other {
-            return true;
-        }
-    }
-    false
 }
 
 // The iterator of a For and those around it.

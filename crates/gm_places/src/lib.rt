@@ -11,7 +11,6 @@ mod spreads;
 
 pub use segments::Places;
 pub use spots::{
-    Spot, add_spots_in, add_spots_in_all, add_spots_in_option, can_fail1, can_fail2, spot_at,
-    spot_of_total,
+    Spot, add_spots_in, add_spots_in_all, add_spots_in_option, spot_at, spot_of_total,
 };
-pub use spreads::{BodySite, add_spots_of, is_in};
+pub use spreads::{BodySite, add_spots_of};

@@ -4,13 +4,12 @@ ghost use Rattle.std.specs.Prelude.{◌≡◌, ◌++◌, OnOk, map, option_map};
 ghost use Rattle.gm_base.specs.Places as Texts;
 ghost use Rattle.gm_ast.specs.Keys as Keys;
 ghost use Rattle.gm_ast.specs.Tree.{expr_of};
-ghost use Rattle.gm_forms.specs.Order as Order;
 ghost use Rattle.gm_lowering.specs.Places as Places;
 ghost use Rattle.gm_places.specs.Spots.{as_spot, spots_if};
 
 use gm_ast::tree::{Expr, Key, Stage, TotalKey};
 use gm_base::{NoMemory, Place};
-use gm_value::{Op1, Op2};
+use gm_facts::faults::{can_fail1, can_fail2};
 
 /// Where something may fault: where it stands in the order of faults, and the place that its fault shows.
 #[derive(Clone, Copy, Debug)]
@@ -72,26 +71,6 @@ pub(crate) fn spot_lt(a: Spot, b: Spot) -> bool
     a.key.statement < b.key.statement
         || (a.key.statement == b.key.statement
             && (first < second || (first == second && place_lt(a.place, b.place))))
-}
-
-/// Whether an operation on one value can fault.
-pub fn can_fail1(op: Op1) -> bool
-    ensures { result ≡ Order.can_fail1 op }
-{
-    match op {
-        Op1::Neg | Op1::ToI32 => true,
-        Op1::Not | Op1::ToI64 => false,
-    }
-}
-
-/// Whether an operation on two values can fault.
-pub fn can_fail2(op: Op2) -> bool
-    ensures { result ≡ Order.can_fail2 op }
-{
-    match op {
-        Op2::Add | Op2::Sub | Op2::Mul | Op2::Div | Op2::Rem => true,
-        _ => false,
-    }
 }
 
 // Adds an operator's spot, where it can fault.

@@ -3,7 +3,6 @@
 ghost use Rattle.std.specs.Prelude.{◌≡◌, ◌++◌, OnOk, map};
 ghost use Rattle.gm_ast.specs.Program.{sequence};
 ghost use Rattle.gm_ast.specs.Tree.{expr_of, stmt_of};
-ghost use Rattle.gm_ast.specs.Ways as Ways;
 ghost use Rattle.gm_lowering.specs.Bodies as Bodies;
 ghost use Rattle.gm_lowering.specs.Plans as Plans;
 ghost use Rattle.gm_message.specs.Views.{as_way};
@@ -17,6 +16,7 @@ use gm_ast::tree::{Key, Stmt, Target, TotalKey};
 use gm_base::NoMemory;
 use gm_layouts::Layout;
 use gm_message::{Way, way_of};
+use gm_trees::variables::is_in;
 
 /// Where a body stands.
 #[derive(Clone, Copy)]
@@ -29,18 +29,6 @@ pub struct BodySite<'a> {
     pub iterators: &'a [u32],
     /// Whether it is in no inner loop, so that what it folds into its node's properties is taken at once.
     pub at_once: bool,
-}
-
-/// Whether a variable is among some.
-pub fn is_in(variables: &[u32], variable: u32) -> bool
-    ensures { result ≡ Ways.is_in variables.now variable }
-{
-    for other in variables {
-        if variable == *other {
-            return true;
-        }
-    }
-    false
 }
 
 // Adds the spot of the first property among targets.

@@ -21,8 +21,8 @@ use gm_ast::forms::Work;
 use gm_ast::tree::{Declaration, Expr, Key, Stmt, Target, Tree};
 use gm_base::{NoMemory, Place};
 use gm_cut::own::is_own;
-use gm_dissect::places::{finish, put, taken, two};
 use gm_locals::groups::declares;
+use gm_trees::places::{finish, in_turn, put, taken};
 use std::alloc::{AllocError, Global};
 
 /// Declares the locals of the bodies of loops in each body that names them and does not declare them, as what they hold.
@@ -237,7 +237,7 @@ fn declare_one(
         value: Some(Expr::Var { variable, place }),
     };
     let second = taken(alloc, body);
-    let both = two(alloc, first, second)?;
+    let both = in_turn(alloc, first, second)?;
     put(body, both);
     Ok(())
 }

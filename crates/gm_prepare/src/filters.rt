@@ -13,17 +13,18 @@ ghost use Rattle.gm_forms.specs.Order.{first_key};
 ghost use Rattle.gm_forms.specs.Ready.{Ready2};
 ghost use Rattle.gm_dissect.specs.AllDeferred.{has_no_deferred};
 ghost use Rattle.gm_dissect.specs.Loops.{each_loop};
-ghost use Rattle.gm_dissect.specs.Places.{after};
+ghost use Rattle.gm_trees.specs.Places.{after};
 ghost use Rattle.gm_parting.specs.Filters as Filters;
 ghost use Rattle.gm_parting.specs.Filters.{filtered_loop, flag_property, with_saved_filters};
 ghost use Rattle.gm_parting.specs.Lasting.{has_lasting_filters};
 
-use crate::lasts::{is_lasting, list_written};
+use crate::lasts::is_lasting;
 use gm_ast::forms::Work;
 use gm_ast::tree::{Declaration, Expr, Head, Key, Sort, Stage, Stmt, Target, Tree, Variable};
 use gm_base::{Items, NoMemory, Place};
 use gm_cut::own::is_own;
-use gm_dissect::places::{finish, put_after};
+use gm_facts::changes::list_touched;
+use gm_trees::places::{finish, put_after};
 use gm_value::{VType, Value};
 use std::alloc::{AllocError, Global};
 use std::mem;
@@ -91,7 +92,7 @@ fn saves_filter(
         return Ok(false);
     }
     let mut written = Vec::new(alloc);
-    list_written(body, &mut written)?;
+    list_touched(body, &mut written)?;
     Ok(!is_lasting(declarations, outer, &written, filter))
 }
 

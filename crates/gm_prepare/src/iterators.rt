@@ -16,7 +16,7 @@ ghost use Rattle.gm_prepare.specs.Placing.{place_at, placed, placed_each};
 use gm_ast::forms::Work;
 use gm_ast::tree::{Declaration, Sort, Stmt, Tree, Variable};
 use gm_base::NoMemory;
-use gm_dissect::places::finish;
+use gm_trees::places::finish;
 use std::alloc::{AllocError, Global};
 
 /// Places the iterators of inner loops in the table as those, and all others as variables of the sequential phase. A

@@ -18,7 +18,7 @@ use gm_ast::forms::Work;
 use gm_ast::tree::{Declaration, Expr, Key, Sort, Stmt, Target, Tree, Variable};
 use gm_base::{Items, NoMemory, Place};
 use gm_cut::own::is_own;
-use gm_dissect::places::{finish, put, put_after, taken};
+use gm_trees::places::{finish, put, put_after, taken};
 use gm_value::{VType, Value};
 use std::alloc::{AllocError, Global};
 

@@ -19,7 +19,7 @@ use gm_ast::tree::{Expr, Key, Stmt, Tree};
 use gm_base::NoMemory;
 use gm_cut::own::is_own;
 use gm_dissect::conditions::{holds_cut, save_conditions};
-use gm_dissect::places::finish;
+use gm_trees::places::finish;
 use std::alloc::Global;
 
 /// Saves the condition of each If of a loop's body that holds what is cut from the rest in a local of its own, as

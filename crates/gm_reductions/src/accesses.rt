@@ -11,7 +11,6 @@ ghost use Rattle.std.specs.Prelude.{◌≡◌, ◌+◌, ◌++◌, [], ◌∷◌,
 ghost use Rattle.gm_ast.specs.Program as Program;
 ghost use Rattle.gm_ast.specs.Program.{sequence};
 ghost use Rattle.gm_ast.specs.Tree.{expr_of, program_of, stmt_of};
-ghost use Rattle.gm_ast.specs.Ways as Ways;
 ghost use Rattle.gm_ast.specs.declared.tree.Target.TheVariants as Targets;
 ghost use Rattle.gm_forms.specs.Meanings.{SameMeaning};
 ghost use Rattle.gm_forms.specs.Order as Order;
@@ -22,7 +21,6 @@ ghost use Rattle.gm_reductions.specs.Accesses.{added, added_at, by_loops, withou
 ghost use Rattle.gm_reductions.specs.Phases.{KeepsNoPicks};
 ghost use Rattle.gm_reductions.specs.Stages.{WithTypedRuns, WithoutAccesses};
 
-use crate::folds::in_turn;
 use gm_ast::forms::Work;
 use gm_ast::surface::ReductionWord;
 use gm_ast::tree::{
@@ -30,6 +28,8 @@ use gm_ast::tree::{
     Tree, Variable,
 };
 use gm_base::{Items, NoMemory, Place};
+use gm_trees::places::in_turn;
+use gm_trees::variables::is_in;
 use gm_value::{Op2, VType};
 use std::alloc::{AllocError, Global};
 
@@ -285,18 +285,6 @@ fn degree_there(
         place: nowhere(),
     };
     one_node(alloc, fresh, holds, VType::I32, value)
-}
-
-// Whether a variable is among some.
-fn is_in(variables: &[u32], variable: u32) -> bool
-    ensures { result ≡ Ways.is_in variables.now variable }
-{
-    for other in variables {
-        if variable == *other {
-            return true;
-        }
-    }
-    false
 }
 
 // The iterator of a For and those around it, beside the For's body. On the way out for want of memory the body is

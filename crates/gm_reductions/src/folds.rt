@@ -24,6 +24,7 @@ use gm_ast::forms::Work;
 use gm_ast::surface::ReductionWord;
 use gm_ast::tree::{Expr, Fold, Head, Key, Stmt, Target, TotalKey, Tree};
 use gm_base::{NoMemory, Place};
+use gm_trees::places::in_turn;
 use gm_value::{Reduce, VType, Value, unit};
 use std::alloc::{AllocError, Global};
 
@@ -163,16 +164,6 @@ fn over_elements(
         filter,
         body,
     })
-}
-
-// One statement after another.
-pub(crate) fn in_turn(alloc: Global, first: Stmt, second: Stmt) -> Result<Stmt, AllocError>
-    ensures { IfOk result (λ r. stmt_of r ≡ Program.sequence (stmt_of first ∷ stmt_of second ∷ [])) }
-{
-    let mut stmts = Vec::new(alloc);
-    stmts.push(first)?;
-    stmts.push(second)?;
-    Ok(Stmt::Block(stmts))
 }
 
 // A reduction as a loop, after a scalar was set to what it gives over nothing.

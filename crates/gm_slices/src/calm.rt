@@ -6,9 +6,9 @@ ghost use Rattle.gm_ast.specs.Program.{sequence};
 ghost use Rattle.gm_ast.specs.Tree.{stmt_of};
 ghost use Rattle.gm_forms.specs.Cut as Cut;
 
-use crate::faults::{can_overflow, cannot_fail, none_fails};
-use crate::ways::is_in;
 use gm_ast::tree::{Head, Stmt, Target};
+use gm_facts::faults::{can_overflow, cannot_fail, none_fails};
+use gm_trees::variables::is_in;
 use std::alloc::{AllocError, Global};
 
 // Some variables, and one before them.

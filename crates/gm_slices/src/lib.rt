@@ -10,12 +10,8 @@
 #![tactic(auto)]
 
 mod calm;
-mod copies;
-mod faults;
 mod loops;
 mod members;
 mod needs;
-mod places;
 pub mod slices;
 mod slicing;
-mod ways;

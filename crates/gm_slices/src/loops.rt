@@ -4,10 +4,10 @@ ghost use Rattle.std.specs.Prelude.{◌≡◌, IfOk};
 ghost use Rattle.gm_ast.specs.Program as Program;
 ghost use Rattle.gm_ast.specs.Tree.{expr_of, stmt_of};
 
-use crate::copies::copy;
-use crate::places::{beside, with_boxed};
 use gm_ast::tree::{Expr, Head, Key, Stmt};
 use gm_base::Place;
+use gm_trees::copies::copy;
+use gm_trees::places::{beside, with_boxed};
 use std::alloc::{AllocError, Global};
 
 // What a loop has but for its filter and its body.

@@ -12,8 +12,8 @@ ghost use Rattle.gm_cut.specs.Walks.{is_block};
 
 use crate::calm::is_calm;
 use crate::members::Members;
-use crate::ways::depth_at;
 use gm_ast::tree::{Declaration, Expr, Stmt, Target};
+use gm_facts::ways::depth_at;
 use std::alloc::{AllocError, Global};
 
 /// The iterators of a loop and of its inner loop.

@@ -21,15 +21,15 @@ ghost use Rattle.gm_slices.specs.Nests.{nest_of};
 ghost use Rattle.gm_slices.specs.SliceWalks.{goes, hushed, is_loop, loops_behind, loops_joined, matters, nested, placed, slice_to, sliced_nest};
 
 use crate::calm::adds_last;
-use crate::copies::copy_all;
 use crate::loops::{Site, loop_of, whole_loop};
 use crate::needs::{Ends, are_at_once, counts};
-use crate::places::{beside, finish, put, taken, taken_value};
 use crate::slicing::{open, slice};
-use crate::ways::has_a_way;
 use gm_ast::forms::Work;
 use gm_ast::tree::{Declaration, Expr, Head, Stmt, Tree};
 use gm_base::NoMemory;
+use gm_facts::ways::has_a_way;
+use gm_trees::copies::copy_all;
+use gm_trees::places::{beside, finish, put, taken, taken_value};
 use std::alloc::{AllocError, Global};
 
 /// Writes each inner loop that goes several ways as those of its slices, each of which becomes a loop. A program whose

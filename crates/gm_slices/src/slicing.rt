@@ -11,12 +11,12 @@ ghost use Rattle.gm_slices.specs.SliceWalks.{is_leaf};
 ghost use Rattle.gm_cut.specs.Slices as Slices;
 
 use crate::calm::with_front;
-use crate::faults::{can_fail1, can_fail2};
 use crate::members::Members;
 use crate::needs::{Ends, list_set, need};
-use crate::places::{beside, both_boxed, put, with_pushed};
-use crate::ways::is_in;
 use gm_ast::tree::{Declaration, Expr, Head, Key, Stmt, Target};
+use gm_facts::faults::{can_fail1, can_fail2};
+use gm_trees::places::{beside, both_boxed, put, with_pushed};
+use gm_trees::variables::is_in;
 use std::alloc::{AllocError, Global};
 
 // Whether an expression cannot fault where some iterators hold nodes.

@@ -14,10 +14,11 @@ ghost use Rattle.gm_message.specs.Views.{as_load};
 
 use gm_ast::tree::{Direction, Expr, Key};
 use gm_base::{NoMemory, Place};
+use gm_facts::faults::{can_fail1, can_fail2};
 use gm_image::Expr as Lowered;
 use gm_layouts::{Layout, next};
 use gm_message::{Load, is_global, is_register, variable_at};
-use gm_places::{Places, can_fail1, can_fail2};
+use gm_places::Places;
 use gm_value::{Op1, Op2, VType, Value};
 use std::alloc::Global;
 

@@ -4,7 +4,7 @@ use Rattle.std.proofs.lemmas.List.{length-map}
 use Rattle.gm_ast.specs.Program.{sequence}
 use Rattle.gm_ast.specs.Tree.{expr_of, stmt_of}
 use Rattle.gm_desugar.specs.Conditions.{hoisted}
-use Rattle.gm_desugar.specs.Places.{after}
+use Rattle.gm_trees.specs.Places.{after}
 use Rattle.gm_desugar.proofs.InPlace.{hoisted-sequence, for-changed, if-changed, while-changed, do-changed}
 use Rattle.gm_desugar.proofs.Trees.{left, stmt_of-For, stmt_of-If, stmt_of-While, stmt_of-Do, for-is, if-is, while-is, do-is}
 use Rattle.gm_desugar.proofs.Partly.{partly-more, partly-all}

@@ -3,7 +3,7 @@ use Rattle.gm_ast.specs.Program.{While}
 use Rattle.gm_ast.specs.Tree.{expr_of, stmt_of}
 use Rattle.gm_forms.specs.Forms.{is_told}
 use Rattle.gm_desugar.specs.Conditions.{set_to, asked}
-use Rattle.gm_desugar.specs.Places.{after, before}
+use Rattle.gm_trees.specs.Places.{after, before}
 use Rattle.gm_desugar.proofs.InPlace.{while-hoisted}
 use Rattle.gm_desugar.proofs.conditions.set_while.Goals as goal
 

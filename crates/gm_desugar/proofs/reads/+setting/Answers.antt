@@ -3,7 +3,7 @@ use Rattle.std.specs.Prelude.{slice_index_or}
 use Rattle.std.proofs.lemmas.List.{length-map}
 use Rattle.gm_ast.specs.Program.{sequence}
 use Rattle.gm_ast.specs.Tree.{stmt_of}
-use Rattle.gm_desugar.specs.Places.{after_all}
+use Rattle.gm_trees.specs.Places.{after_all}
 use Rattle.gm_desugar.specs.Reads.{apart, count_reads}
 use Rattle.gm_desugar.proofs.Trees.{stmt_of-Declare, stmt_of-Assign, stmt_of-Return, declare-is, assign-is, return-is}
 use Rattle.gm_desugar.proofs.ReadsAmong.{some_counts, apart-more, counts-more, apart-all, counts-all, apart-sequence, count-sequence}

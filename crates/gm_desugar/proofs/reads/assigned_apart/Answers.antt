@@ -1,7 +1,7 @@
 use Rattle.std.proofs.Common.{◌≡◌, ap, ◌∙◌}
 use Rattle.gm_ast.specs.Program.{Assign}
 use Rattle.gm_ast.specs.Tree.{expr_of, stmt_of}
-use Rattle.gm_desugar.specs.Places.{after_all}
+use Rattle.gm_trees.specs.Places.{after_all}
 use Rattle.gm_desugar.specs.Reads.{stays_alone, set_unless, told_unless, after_reads}
 use Rattle.gm_desugar.proofs.InPlace.{apart-after}
 use Rattle.gm_desugar.proofs.reads.assigned_apart.Goals as goal

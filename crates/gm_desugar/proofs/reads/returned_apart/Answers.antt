@@ -1,7 +1,7 @@
 use Rattle.std.proofs.Common.{◌≡◌, ◌+◌, sym, ap, ◌∙◌, Some, option_map}
 use Rattle.gm_ast.specs.Program.{Return}
 use Rattle.gm_ast.specs.Tree.{expr_of}
-use Rattle.gm_desugar.specs.Places.{after_all}
+use Rattle.gm_trees.specs.Places.{after_all}
 use Rattle.gm_desugar.specs.Reads.{set_unless, after_reads, count_unless, count_reads, apart}
 use Rattle.gm_desugar.proofs.InPlace.{apart-after}
 use Rattle.gm_desugar.proofs.reads.returned_apart.Goals as goal

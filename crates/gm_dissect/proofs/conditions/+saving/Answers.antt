@@ -4,7 +4,7 @@ use Rattle.std.proofs.lemmas.List.{length-map}
 use Rattle.gm_ast.specs.Program.{sequence}
 use Rattle.gm_ast.specs.Tree.{expr_of, stmt_of}
 use Rattle.gm_dissect.specs.Conditions.{local_of, with_saved}
-use Rattle.gm_dissect.specs.Places.{after}
+use Rattle.gm_trees.specs.Places.{after}
 use Rattle.gm_dissect.proofs.InPlace.{left, stmt_of-If, if-is, if-saved}
 use Rattle.gm_dissect.proofs.Trees.{with_saved-block}
 use Rattle.gm_dissect.proofs.Partly.{partly-more, partly-all}

@@ -3,7 +3,7 @@ use Rattle.std.specs.Prelude.{slice_index_or}
 use Rattle.std.proofs.lemmas.List.{length-map}
 use Rattle.gm_ast.specs.Program.{sequence}
 use Rattle.gm_ast.specs.Tree.{stmt_of}
-use Rattle.gm_desugar.specs.Places.{after}
+use Rattle.gm_trees.specs.Places.{after}
 use Rattle.gm_desugar.proofs.Trees.{left, stmt_of-InBfs, stmt_of-InBfsBoth}
 use Rattle.gm_hoisting.specs.Hoisting.{count_phase, phase_out}
 use Rattle.gm_hoisting.proofs.InPlace.{search-is, both-is}

@@ -4,7 +4,7 @@ use Rattle.std.proofs.lemmas.List.{length-map}
 use Rattle.gm_ast.specs.Program.{Foreach, sequence}
 use Rattle.gm_ast.specs.Tree.{expr_of, stmt_of}
 use Rattle.gm_dissect.specs.Loops.{each_loop}
-use Rattle.gm_dissect.specs.Places.{after}
+use Rattle.gm_trees.specs.Places.{after}
 use Rattle.gm_dissect.proofs.InPlace.{left, stmt_of-Foreach, foreach-is}
 use Rattle.gm_dissect.proofs.Trees.{each_loop-block}
 use Rattle.gm_dissect.proofs.Partly.{partly-more, partly-all}
