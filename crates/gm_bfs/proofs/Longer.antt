@@ -5,6 +5,7 @@ use Rattle.std.specs.List.{list_all}
 use Rattle.std.proofs.lemmas.Bool.{lt-ltb, ltb-true, eqb-true, eq-eqb, cases_Bool}
 use Rattle.std.proofs.lemmas.List.{get_or-set_other}
 use Rattle.gm_ast.specs.declared.tree.Declaration.{Declaration}
+use Rattle.gm_ast.specs.declared.tree.Sort.TheVariants as Sorts
 use Rattle.gm_ast.specs.declared.tree.Variable.{Variable}
 use Rattle.gm_ast.specs.Program.{Expr, Const, Var, Property, EdgeProperty, Degree, NodeCount, EdgeCount, Live, Unary, Binary, Both, Either, Choose, Folded, Stmt, Skip, Then, Declare, DeclareEdge, Assign, Defer, Combine, Group, Foreach, For, If, While, Do, InBfs, InBfsBoth, Return}
 use Rattle.gm_ast.specs.Loops.{asks_levels}
@@ -25,10 +26,19 @@ map-length : {A B : Type 0} (f : A → B) (xs : List A) → length (map f xs) �
 map-length f [] = refl
 map-length f (x ∷ xs) = ap suc (map-length f xs)
 
-pub copies-behind : (ds : List Declaration) (p : ℕ) → variable_at (map copy_declaration ds) p ≡ variable_at ds p
-copies-behind [] p = refl
-copies-behind (d ∷ ds) zero = refl
-copies-behind (d ∷ ds) (suc p) = copies-behind ds p
+-- a copy is a property of nodes of the same type
+abbrev as_property : Variable → Variable
+as_property v = record { sort = Sorts.NodeProperty; vtype = v.vtype; depth = 0 }
+
+copies-behind : (ds : List Declaration) (p : ℕ) → p < length ds → variable_at (map copy_declaration ds) p ≡ as_property (variable_at ds p)
+copies-behind [] p b = absurd (omega arith)
+copies-behind (d ∷ ds) zero b = refl
+copies-behind (d ∷ ds) (suc p) b = copies-behind ds p (omega arith)
+
+copies-type : (ds : List Declaration) (p : ℕ) → (variable_at (map copy_declaration ds) p).vtype ≡ (variable_at ds p).vtype
+copies-type [] p = refl
+copies-type (d ∷ ds) zero = refl
+copies-type (d ∷ ds) (suc p) = copies-type ds p
 
 module _ (ds : List Declaration) where
   abbrev pub k : ℕ
@@ -51,10 +61,16 @@ module _ (ds : List Declaration) where
   pub root-at : variable_at es k ≡ variable_at fresh_declarations 0
   root-at = let is : k ≡ k + 0 = omega arith in ap (variable_at es) is ∙ fresh-at 0
 
-  pub copy-at : (p : ℕ) → variable_at es (k + 10 + p) ≡ variable_at ds p
-  copy-at p =
+  copy-where : (p : ℕ) → variable_at es (k + 10 + p) ≡ variable_at (map copy_declaration ds) p
+  copy-where p =
       let is : k + 10 + p ≡ k + (10 + p) = omega arith in
-      ap (variable_at es) is ∙ fresh-at (10 + p) ∙ variable-behind fresh_declarations (map copy_declaration ds) p ∙ copies-behind ds p
+      ap (variable_at es) is ∙ fresh-at (10 + p) ∙ variable-behind fresh_declarations (map copy_declaration ds) p
+
+  pub copy-at : (p : ℕ) → p < k → variable_at es (k + 10 + p) ≡ as_property (variable_at ds p)
+  copy-at p b = copy-where p ∙ copies-behind ds p b
+
+  pub copy-type-at : (p : ℕ) → (variable_at es (k + 10 + p)).vtype ≡ (variable_at ds p).vtype
+  copy-type-at p = ap (λ (v : Variable). v.vtype) (copy-where p) ∙ copies-type ds p
 
   -- a use of a variable whose kind is known
   pub suit-by : (x : ℕ) (role : Role) (v : Variable) → x < length es → variable_at es x ≡ v → has_role v role ≡ true → suits es (record { variable = x; role = role }) ≡ true
@@ -79,7 +95,7 @@ module _ (ds : List Declaration) where
       let b = both-true (nat_lt p k) (has_role (variable_at ds p) NodeValue) h in
       let less = ltb-true p k b.0 in
       let l = long in
-      suit-by (k + 10 + p) NodeValue (variable_at ds p) (omega arith) (copy-at p) b.1
+      suit-by (k + 10 + p) NodeValue (as_property (variable_at ds p)) (omega arith) (copy-at p less) refl
 
   pub all-longer : (us : List Use) → list_all (suits ds) us ≡ true → list_all (suits es) us ≡ true
   all-longer [] h = refl

@@ -8,7 +8,7 @@ use Rattle.gm_value.specs.declared.reductions.Reduce.{Reduce}
 use Rattle.gm_value.specs.declared.reductions.Reduce.TheVariants.{Min, Or}
 use Rattle.gm_value.specs.declared.values.VType.{VType}
 use Rattle.gm_value.specs.declared.values.VType.TheVariants.{I32, I64, Flag, Node}
-use Rattle.gm_value.specs.Operations.{same_type, is_numeric, fits1, fits2, type1, type2}
+use Rattle.gm_value.specs.Operations.{same_type, is_numeric, fits2, type1, type2}
 use Rattle.gm_value.specs.Reductions.{reduces}
 use Rattle.gm_ast.specs.declared.tree.Declaration.{Declaration}
 use Rattle.gm_ast.specs.declared.tree.Domain.{Domain}
@@ -21,7 +21,7 @@ use Rattle.gm_ast.specs.declared.tree.Variable.{Variable}
 use Rattle.gm_ast.specs.Program.{Expr, Const, Var, Property, EdgeProperty, Degree, NodeCount, EdgeCount, Live, Unary, Binary, Both, Either, Choose, Folded, Stmt, Skip, Then, Declare, DeclareEdge, Assign, Defer, Combine, Group, Foreach, For, If, While, Do, InBfs, InBfsBoth, Return, Program, sequence}
 use Rattle.gm_semantics.specs.Expressions.{reduce_of}
 use Rattle.gm_semantics.specs.Frames.{ReadsBelow, MayReadBelow, AllReadBelow, TargetBelow, TargetsBelow, NamesBelow}
-use Rattle.gm_forms.specs.Typing.{type_at, type_if, by_one, is_type, takes, type_in, has_type, target_type, all_have_types, keeps_tuples, fits_targets, returns_type, is_typed_in, has_types}
+use Rattle.gm_forms.specs.Typing.{type_at, type_if, by_one, is_type, takes, type_in, has_type, target_type, all_have_types, keeps_tuples, fits_targets, returns_type, is_typed_in, has_types, takes1}
 use Rattle.gm_forms.specs.Uses.{suits, uses_of, is_named}
 use Rattle.gm_forms.proofs.Named.{both-true, names-below}
 use Rattle.gm_forms.proofs.Weaker.{and-true}
@@ -32,7 +32,7 @@ use Rattle.gm_bfs.specs.Copies.{is_marked, seen_as, reading, inner_reading, copi
 use Rattle.gm_bfs.specs.Searches.{is_always, conjunction, is_on, ranged, inner_loop, by_levels, is_idle, is_safe, over_nodes, first_levels, begin, next_level, level_before, activate, reach, look, copies_from, unless_empty, copy, visit, where_asked, first_where, forward_turn, forward, backward, back_turn, site_of}
 use Rattle.gm_bfs.specs.Levelled.{searches_out, has_search, levelled}
 use Rattle.gm_bfs.proofs.Parts.{copied-short}
-use Rattle.gm_bfs.proofs.Longer.{es, before-same, fresh-at, root-at, copy-at}
+use Rattle.gm_bfs.proofs.Longer.{es, before-same, fresh-at, root-at, copy-type-at}
 
 module _ (ds : List Declaration) (r : Option VType) where
   abbrev f : Fresh
@@ -48,7 +48,7 @@ module _ (ds : List Declaration) (r : Option VType) where
   fresh-type i = ap (λ (v : Variable). v.vtype) (fresh-at ds i)
 
   copy-type : (p : ℕ) → type_at (es ds) (copy_of f p) ≡ type_at ds p
-  copy-type p = ap (λ (v : Variable). v.vtype) (copy-at ds p)
+  copy-type p = copy-type-at ds p
 
   target-longer : (t : Target) → TargetBelow k t → target_type (es ds) t ≡ target_type ds t
   target-longer (T.Scalar x at) b = before-type x b
@@ -72,7 +72,7 @@ module _ (ds : List Declaration) (r : Option VType) where
     reading-type NodeCount b = refl
     reading-type EdgeCount b = refl
     reading-type (Live x at) b = refl
-    reading-type (Unary op at e) b = ap (λ o. by_one o (λ t. type_if (fits1 op t) (type1 op t))) (reading-type e b)
+    reading-type (Unary op at e) b = ap (λ o. by_one o (λ t. type_if (takes1 op t) (type1 op t))) (reading-type e b)
     reading-type (Binary op at a c) b =
         ap (λ o. by_one o (λ t. by_one (type_in (es ds) (reading f marks w c)) (λ u. type_if (fits2 op t u) (type2 op t)))) (reading-type a b.0)
         ∙ ap (λ o. by_one (type_in ds a) (λ t. by_one o (λ u. type_if (fits2 op t u) (type2 op t)))) (reading-type c b.1)

@@ -46,9 +46,9 @@ fresh_declarations =
     unnamed Iterator Node 1 ∷
     unnamed Iterator Node 2 ∷ []
 
--- the declaration of a variable's copy
+-- the declaration of a variable's copy: a property of nodes of its type
 abbrev pub copy_declaration : Declaration → Declaration
-copy_declaration d = record d { name = [] }
+copy_declaration d = unnamed NodeProperty d.variable.vtype 0
 
 -- a table with the fresh variables behind it, and then a copy of each declared one: of these only the copies of some properties are named
 abbrev pub with_fresh : List Declaration → List Declaration

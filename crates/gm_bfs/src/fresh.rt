@@ -89,16 +89,13 @@ fn unnamed(alloc: Global, sort: Sort, vtype: VType, depth: u32) -> Declaration
     }
 }
 
-// The declarations of the copies.
+// The declarations of the copies, each a property of nodes: a copied property of edges would be a column that is no input.
 fn copies_of(alloc: Global, declarations: &[Declaration]) -> Result<Vec<Declaration>, NoMemory>
     ensures { IfOk result (λ copies. copies.items ≡ map Variables.copy_declaration declarations.now) }
 {
     let mut copies = Vec::with_capacity(alloc, declarations.len())?;
     for declaration in declarations {
-        copies.push(Declaration {
-            name: Items::new(Vec::new(alloc)),
-            variable: declaration.variable,
-        })?;
+        copies.push(unnamed(alloc, Sort::NodeProperty, declaration.variable.vtype, 0))?;
     }
     Ok(copies)
 }

@@ -12,11 +12,11 @@ ghost use Rattle.gm_forms.specs.Uses.{is_named};
 ghost use Rattle.gm_bfs.specs.Levelled as Levelled;
 
 use crate::fresh::{Fresh, add_fresh, fresh_from};
-use crate::places::put;
 use crate::searches::{search_both, search_out};
 use gm_ast::forms::Work;
 use gm_ast::tree::{Stmt, Tree};
 use gm_base::NoMemory;
+use gm_trees::places::put;
 use std::alloc::Global;
 
 /// Writes each search of a program as loops over levels. A program without searches stays as it is. Where variables

@@ -39,7 +39,6 @@ pub mod levelled;
 mod marked;
 mod marks;
 mod pieces;
-mod places;
 mod quiet;
 mod readings;
 mod searches;

@@ -3,11 +3,10 @@
 ghost use Rattle.std.specs.Prelude.{◌≡◌, map};
 ghost use Rattle.gm_ast.specs.Program.{sequence};
 ghost use Rattle.gm_ast.specs.Tree.{expr_of, stmt_of};
-ghost use Rattle.gm_forms.specs.Order as Order;
 ghost use Rattle.gm_bfs.specs.Searches as Searches;
 
 use gm_ast::tree::{Expr, Stmt};
-use gm_value::{Op1, Op2};
+use gm_facts::faults::{can_fail1, can_fail2};
 
 // Whether a block does nothing.
 #[cycle(idling)]
@@ -30,26 +29,6 @@ pub(crate) fn is_idle(body: &Stmt) -> bool
     match body {
         Stmt::Block(stmts) => are_idle(stmts),
         _ => false,
-    }
-}
-
-// Whether an operation on one value can fault.
-fn can_fail1(op: Op1) -> bool
-    ensures { result ≡ Order.can_fail1 op }
-{
-    match op {
-        Op1::Neg | Op1::ToI32 => true,
-        Op1::Not | Op1::ToI64 => false,
-    }
-}
-
-// Whether an operation on two values can fault.
-fn can_fail2(op: Op2) -> bool
-    ensures { result ≡ Order.can_fail2 op }
-{
-    match op {
-        Op2::Add | Op2::Sub | Op2::Mul | Op2::Div | Op2::Rem => true,
-        Op2::Eq | Op2::Ne | Op2::Lt | Op2::Le | Op2::Gt | Op2::Ge => false,
     }
 }
 

@@ -11,9 +11,9 @@ ghost use Rattle.gm_bfs.specs.Searches as Searches;
 
 use crate::fresh::{Fresh, copy_of};
 use crate::marked::Marks;
-use crate::places::{put, taken_value};
 use gm_ast::tree::{Domain, Expr, Head, Stmt};
 use gm_base::NoMemory;
+use gm_trees::places::{put, taken_value};
 use gm_value::{Op2, Value};
 use std::alloc::Global;
 

@@ -15,11 +15,11 @@ use crate::pieces::{
     activate, add, at_node, begin, binary, block, copy, level_before, look, next_level, over_nodes,
     reach, scalar, set,
 };
-use crate::places::{taken, taken_value};
 use crate::quiet::{is_idle, is_safe};
 use crate::readings::{by_levels, conjunction};
 use gm_ast::tree::{Expr, Key, Search, Stmt};
 use gm_base::NoMemory;
+use gm_trees::places::{taken, taken_value};
 use gm_value::{Op2, Value};
 use std::alloc::Global;
 
