@@ -75,7 +75,7 @@ nil-both : (xs ys : List ℕ) → is_nil (xs ++ ys) ≡ true → (is_nil xs ≡ 
 nil-both [] ys h = (refl, h)
 nil-both (x ∷ xs) ys h = absurd (both_ways false refl h)
 
-not-in : (xs : List ℕ) (y : ℕ) → (IsIn y xs → ⊥) → not (is_in xs y) ≡ true
+pub not-in : (xs : List ℕ) (y : ℕ) → (IsIn y xs → ⊥) → not (is_in xs y) ≡ true
 not-in xs y out = by (is_in xs y) refl
   where
     by : (b : Bool) → is_in xs y ≡ b → not b ≡ true

@@ -10,5 +10,12 @@ pub mod OwnTests
 pub mod Walks
 pub mod Sliced
 pub mod SlicesKept
+pub mod LoopLaws
 pub mod SlicesLaws
+pub mod Lean
+pub mod LeanLaws
+pub mod LeanParts
+pub mod LeanFacts
+pub mod LeanLeaves
+pub mod LeanPlain
 mod Samples

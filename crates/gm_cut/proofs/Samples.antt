@@ -3,7 +3,7 @@ use Rattle.std.specs.Prelude.{◌≡◌, ℕ, true, false, List, [], ◌∷◌, 
 use Rattle.gm_base.specs.declared.places.Place.{Place}
 use Rattle.gm_value.specs.declared.operations.Op1.TheVariants.{Not}
 use Rattle.gm_value.specs.declared.operations.Op2.TheVariants.{Div, Eq}
-use Rattle.gm_value.specs.declared.reductions.Reduce.TheVariants.{Sum, Min}
+use Rattle.gm_value.specs.declared.reductions.Reduce.TheVariants.{Sum, Min, Max}
 use Rattle.gm_value.specs.declared.values.Value.TheVariants.{I32}
 use Rattle.gm_value.specs.declared.values.VType.{VType}
 use Rattle.gm_value.specs.declared.values.VType.TheVariants as V
@@ -21,6 +21,7 @@ use Rattle.gm_value.specs.declared.reductions.Reduce.{Reduce}
 use Rattle.gm_ast.specs.Program.{Expr, Const, Var, Property, Unary, Binary, Both, always, Stmt, Skip, Then, Declare, Assign, Combine, Foreach, If, Program, sequence}
 use Rattle.gm_cut.specs.Parts.{goes_any_way, in_pieces, can_be_parted}
 use Rattle.gm_cut.specs.Runs.{with_runs}
+use Rattle.gm_cut.specs.Lean.{can_be_lean, has_plain_statements, has_slices_that_go, has_statements_that_go, in_lean_slices}
 use Rattle.gm_cut.specs.Slices.{goes_one_way, in_slices, can_be_sliced}
 
 abbrev at : ℕ → Place
@@ -229,3 +230,53 @@ behind-slices = refl
 
 may-end-behind : can_be_sliced (program (inner behind-sum)) ≡ true
 may-end-behind = refl
+
+-- ---- slices that evaluate only what they need
+
+-- what the loop before evaluated without a fault is not evaluated again: Int x = n.b / t.b; t.p += x; n.a min= t.b;
+faults-once : in_lean_slices (program (inner (local 3 quotient ∷ pushes 4 (Var 9 (at 4)) ∷ pulls 5 (other 4 5) ∷ []))) ≡ program (sequence (inner (local 3 quotient ∷ pushes 4 (Var 9 (at 4)) ∷ []) ∷ inner (pulls 5 (other 4 5) ∷ []) ∷ []))
+faults-once = refl
+
+may-fault-once : can_be_lean (program (inner (local 3 quotient ∷ pushes 4 (Var 9 (at 4)) ∷ pulls 5 (other 4 5) ∷ []))) ≡ true
+may-fault-once = refl
+
+-- unless it is needed: Int x = n.b / t.b; t.p += x; n.a min= x;
+faults-needed : in_lean_slices (program (inner (local 3 quotient ∷ pushes 4 (Var 9 (at 4)) ∷ pulls 5 (Var 9 (at 5)) ∷ []))) ≡ program (sequence (inner (local 3 quotient ∷ pushes 4 (Var 9 (at 4)) ∷ []) ∷ inner (local 3 quotient ∷ pulls 5 (Var 9 (at 5)) ∷ []) ∷ []))
+faults-needed = refl
+
+may-fault-needed : can_be_lean (program (inner (local 3 quotient ∷ pushes 4 (Var 9 (at 4)) ∷ pulls 5 (Var 9 (at 5)) ∷ []))) ≡ true
+may-fault-needed = refl
+
+-- a local that nothing reads may be reduced: Int x = 0; x max= t.b; t.p += n.b; n.a min= t.b; its reduction is left out of the second slice
+abbrev idle-reduction : Stmt
+idle-reduction = inner (local 3 (number 0) ∷ give 4 Max (T.Scalar 9 (at 4)) (other 4 4) ∷ pushes 5 (own 4 5) ∷ pulls 6 (other 4 6) ∷ [])
+
+idle-refused : can_be_sliced (program idle-reduction) ≡ false
+idle-refused = refl
+
+idle-taken : can_be_lean (program idle-reduction) ≡ true
+idle-taken = refl
+
+-- several groups, of which the last gives to a property of the first: t.p += n.b; n.a min= t.b; t.p += 1;
+three-groups : in_lean_slices (program (inner (pushes 3 (own 4 3) ∷ pulls 4 (other 4 4) ∷ pushes 5 (number 1) ∷ []))) ≡ program (sequence (inner (pushes 3 (own 4 3) ∷ []) ∷ inner (pulls 4 (other 4 4) ∷ []) ∷ inner (pushes 5 (number 1) ∷ []) ∷ []))
+three-groups = refl
+
+may-give-again : can_be_lean (program (inner (pushes 3 (own 4 3) ∷ pulls 4 (other 4 4) ∷ pushes 5 (number 1) ∷ []))) ≡ true
+may-give-again = refl
+
+-- it is asked that each slice goes one way, and that nothing is read that is given
+goes-so : has_slices_that_go (program (inner (local 3 quotient ∷ pushes 4 (Var 9 (at 4)) ∷ pulls 5 (other 4 5) ∷ []))) ≡ true
+goes-so = refl
+
+each-goes : has_statements_that_go (program (inner (local 3 quotient ∷ pushes 4 (Var 9 (at 4)) ∷ pulls 5 (other 4 5) ∷ []))) ≡ true
+each-goes = refl
+
+idle-goes : has_statements_that_go (program idle-reduction) ≡ true
+idle-goes = refl
+
+idle-plain : has_plain_statements (program idle-reduction) ≡ true
+idle-plain = refl
+
+-- each statement of a condition may go its own way once they stand apart: If (n.f) { t.p += n.b; n.a min= t.b; } goes no way as it is
+mixed-goes : has_slices_that_go (program (inner (If (key 3) (own 6 3) (sequence (pushes 4 (own 4 4) ∷ pulls 5 (other 4 5) ∷ [])) Skip ∷ []))) ≡ false
+mixed-goes = refl

@@ -104,16 +104,16 @@ module _ (ds : List Declaration) (n : ℕ) where
   R s = reduced ds n false s
 
   -- a part does no more than the whole
-  record Less (test test' : Expr) (s s' : Stmt) : Type 0 where
-    anywhere : Under (read_anywhere (reads_in test' ++ P s')) (read_anywhere (reads_in test ++ P s))
-    elsewhere : Under (read_elsewhere n (reads_in test' ++ P s')) (read_elsewhere n (reads_in test ++ P s))
-    scalars : Under (told_in test' ++ S s') (told_in test ++ S s)
-    changes : Under (W s') (W s)
-    delays : Under (deferred s') (deferred s)
-    shared : Under (shared_in (R s')) (shared_in (R s))
-    kept : Under (kept_in (R s')) (kept_in (R s))
+  pub record Less (test test' : Expr) (s s' : Stmt) : Type 0 where
+    pub anywhere : Under (read_anywhere (reads_in test' ++ P s')) (read_anywhere (reads_in test ++ P s))
+    pub elsewhere : Under (read_elsewhere n (reads_in test' ++ P s')) (read_elsewhere n (reads_in test ++ P s))
+    pub scalars : Under (told_in test' ++ S s') (told_in test ++ S s)
+    pub changes : Under (W s') (W s)
+    pub delays : Under (deferred s') (deferred s)
+    pub shared : Under (shared_in (R s')) (shared_in (R s))
+    pub kept : Under (kept_in (R s')) (kept_in (R s))
 
-  fewer-share : (test test' : Expr) (s s' : Stmt) → Less test test' s s' → (all_agree (R s) ≡ true → all_agree (R s') ≡ true) → (inners_share ds n s ≡ true → inners_share ds n s' ≡ true) → (targets_alike s ≡ true → targets_alike s' ≡ true) →
+  pub fewer-share : (test test' : Expr) (s s' : Stmt) → Less test test' s s' → (all_agree (R s) ≡ true → all_agree (R s') ≡ true) → (inners_share ds n s ≡ true → inners_share ds n s' ≡ true) → (targets_alike s ≡ true → targets_alike s' ≡ true) →
       shares ds n test s ≡ true → shares ds n test' s' ≡ true
   fewer-share test test' s s' l agree inners alike h =
       let seen = read_anywhere (reads_in test ++ P s) ++ ((told_in test ++ S s) ++ W s) in

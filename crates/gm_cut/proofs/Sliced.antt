@@ -1,5 +1,5 @@
 -- An inner loop that is the body of a loop runs as its slices, one after another.
-use Rattle.std.proofs.Common.{◌≡◌, ◌≤◌, ℕ, Bool, true, false, cond, List, [], ◌∷◌, ◌++◌, map, append-nil, length, refl, sym, ap, subst, ◌∙◌, Option, Some, Result, Ok, Err}
+use Rattle.std.proofs.Common.{◌≡◌, ◌≤◌, ℕ, Bool, true, false, cond, List, [], ◌∷◌, ◌++◌, map, append-nil, length, refl, sym, ap, subst, ◌∙◌, Some, Result, Ok, Err}
 use Rattle.std.proofs.Math.Path.{fun_ext}
 use Rattle.std.specs.Prelude.{◌&&◌, ◌||◌, not}
 use Rattle.std.proofs.lemmas.List.{append_assoc}
@@ -86,15 +86,15 @@ module _ (m : Mode) (loop : Loop) where
 -- ---- names stay
 
 module _ (j : ℕ) where
-  names-append : (xs ys : List Stmt) → NamesBelow j (sequence xs) → NamesBelow j (sequence ys) → NamesBelow j (sequence (xs ++ ys))
+  pub names-append : (xs ys : List Stmt) → NamesBelow j (sequence xs) → NamesBelow j (sequence ys) → NamesBelow j (sequence (xs ++ ys))
   names-append [] ys a b = b
   names-append (x ∷ xs) ys a b = (a.0, names-append xs ys a.1 b)
 
-  names-parts : (xs ys : List Stmt) → NamesBelow j (sequence (xs ++ ys)) → NamesBelow j (sequence xs) × NamesBelow j (sequence ys)
+  pub names-parts : (xs ys : List Stmt) → NamesBelow j (sequence (xs ++ ys)) → NamesBelow j (sequence xs) × NamesBelow j (sequence ys)
   names-parts [] ys h = (tt, h)
   names-parts (x ∷ xs) ys h = let r = names-parts xs ys h.1 in ((h.0, r.0), r.1)
 
-  names-opened : (s : Stmt) → NamesBelow j s → NamesBelow j (sequence (statements_of s))
+  pub names-opened : (s : Stmt) → NamesBelow j s → NamesBelow j (sequence (statements_of s))
   names-opened Skip h = tt
   names-opened (Then a b) h = names-append (statements_of a) (statements_of b) (names-opened a h.0) (names-opened b h.1)
   names-opened (If k c a b) h = ((h.0, names-opened a h.1, names-opened b h.2), tt)
@@ -130,7 +130,7 @@ module _ (loop : Loop) (key : Key) (mask : Expr) (k : Key) (here : Place) (inner
   alone s = Foreach k here inner test s
 
   -- the loop around an inner loop
-  abbrev around : Stmt → Change
+  abbrev pub around : Stmt → Change
   around s = looped loop key mask (alone s)
 
   abbrev SameBody : Stmt → Stmt → Type 0
@@ -153,7 +153,7 @@ module _ (loop : Loop) (key : Key) (mask : Expr) (k : Key) (here : Place) (inner
   inner-same : (a b : Stmt) → SameBody a b → does (alone a) Outermost loop ≡ does (alone b) Outermost loop
   inner-same a b h = fun_ext (λ it. ap (λ (f : Step → Iteration). inner_done it (map f (steps_in (view_in loop Outermost it k) inner))) (fun_ext (λ step. turn-same a b h step.edge step.node it.store)))
 
-  bodies-same : (a b : Stmt) → SameBody a b → (s : Store) → around a s ≡ around b s
+  pub bodies-same : (a b : Stmt) → SameBody a b → (s : Store) → around a s ≡ around b s
   bodies-same a b h s = ap (λ (d : Iteration → Iteration). loop_done s (nodes loop.graph) (map (λ x. turn_at loop Outermost key mask d loop.outer x s) (nodes loop.graph))) (inner-same a b h)
 
   -- a slice does what the body does
@@ -166,7 +166,7 @@ module _ (loop : Loop) (key : Key) (mask : Expr) (k : Key) (here : Place) (inner
       bodies-same (sequence (statements_of kept)) kept (λ e. opened (AtEdge e) loop kept) s ∙ slices-hold loop gone key mask (alone whole) s graph h
 
 -- changes that are the same at each store
-same-if : (j : ℕ) (f f' g : Change) → ((s : Store) → f s ≡ f' s) → SameChange j f' g → SameChange j f g
+pub same-if : (j : ℕ) (f f' g : Change) → ((s : Store) → f s ≡ f' s) → SameChange j f' g → SameChange j f g
 same-if j f f' g e h = λ s t a. subst (λ x. AlikeStores j x (g t)) (sym (e s)) (h s t a)
 
 same-then : (j : ℕ) (f g g' : Change) → SameChange j f g → ((s : Store) → g s ≡ g' s) → SameChange j f g'
@@ -243,7 +243,7 @@ module _ (j : ℕ) (run : Run) (key : Key) (at : Place) (h : Head) (mask : Expr)
   abbrev m : ℕ
   m = length run.declarations
 
-  abbrev the : Stmt → Stmt
+  abbrev pub the : Stmt → Stmt
   the s = Foreach k here inner test s
 
   abbrev loop : Loop
@@ -258,20 +258,20 @@ module _ (j : ℕ) (run : Run) (key : Key) (at : Place) (h : Head) (mask : Expr)
   sure : is_certain (n ∷ []) mask ≡ true
   sure = let r = both-true (cannot_fail mask) (is_flat (n ∷ []) false mask) masked in mask-certain n mask r.0 r.1
 
-  abbrev inside : Stmt → Change
+  abbrev pub inside : Stmt → Change
   inside s = around loop key mask k here inner test s
 
   -- a loop by what it pushes itself
-  abbrev mine : Stmt → Loop
+  abbrev pub mine : Stmt → Loop
   mine s = record (loop_of run no_levels h.iterator (Foreach k here inner test body)) { pushed = λ p. pushes s h.iterator p }
 
-  abbrev change : Stmt → Change
+  abbrev pub change : Stmt → Change
   change s = looped (mine (the s)) key mask (the s)
 
   named : (s : Stmt) → NamesBelow j s → NamesBelow j (the s)
   named s b = (names.0, names.1, names.2, b)
 
-  by-itself : (s : Stmt) → NamesBelow j s → is_outer_body ds false n (the s) ≡ true → is_lone ds pushed n (the s) ≡ true → SameChange j (inside s) (change s)
+  pub by-itself : (s : Stmt) → NamesBelow j s → is_outer_body ds false n (the s) ≡ true → is_lone ds pushed n (the s) ≡ true → SameChange j (inside s) (change s)
   by-itself s below form l =
       let r = both-true (stands_alone ds pushed n s) (stands_alone ds (pushed_properties n s) n s) l in
       let b = named s below in
@@ -294,7 +294,7 @@ module _ (j : ℕ) (run : Run) (key : Key) (at : Place) (h : Head) (mask : Expr)
   abbrev sound : Stmt → Bool
   sound s = is_sound ds key at h mask k here inner test (Foreach key at h mask (the s))
 
-  sound-form : (s : Stmt) → sound s ≡ true → is_outer_body ds false n (the s) ≡ true
+  pub sound-form : (s : Stmt) → sound s ≡ true → is_outer_body ds false n (the s) ≡ true
   sound-form s e =
       let loop = Foreach key at h mask (the s) in
       let c = both-true (loops_in_order loop) (loops_share ds loop && is_phase (is_cut has_a_way ds) no_loop ds loop) e in
@@ -349,7 +349,7 @@ module _ (j : ℕ) (run : Run) (key : Key) (at : Place) (h : Head) (mask : Expr)
       (all-slices gs f quiets again d.1))))
 
   -- as statements of a sequential phase
-  in-sequence : (xs : List Stmt) (turns : ℕ) (u : Store) → sequential (sequence (map (λ s. Foreach key at h mask (the s)) xs)) run (record { store = u; turns = turns }) ≡ with_value (all_in_turn (map change xs) u) (with_store (record { store = u; turns = turns }))
+  pub in-sequence : (xs : List Stmt) (turns : ℕ) (u : Store) → sequential (sequence (map (λ s. Foreach key at h mask (the s)) xs)) run (record { store = u; turns = turns }) ≡ with_value (all_in_turn (map change xs) u) (with_store (record { store = u; turns = turns }))
   in-sequence [] turns u = refl
   in-sequence (x ∷ xs) turns u = by (λ v. in-sequence xs turns v) (change x u)
     where

@@ -1,22 +1,23 @@
 -- What holds of the statements of an inner body holds of its slices.
-use Rattle.std.proofs.Common.{◌≡◌, ℕ, Bool, true, false, cond, List, [], ◌∷◌, ◌++◌, map, refl, sym, ap, subst, ◌∙◌, Option}
+use Rattle.std.proofs.Common.{◌≡◌, ℕ, Bool, true, false, cond, List, [], ◌∷◌, ◌++◌, map, refl, sym, ap, ◌∙◌, Option}
 use Rattle.std.specs.Prelude.{◌&&◌}
 use Rattle.std.specs.List.{list_all}
-use Rattle.std.proofs.lemmas.List.{append_assoc}
 use Rattle.gm_base.specs.declared.places.Place.{Place}
 use Rattle.gm_value.specs.declared.values.VType.{VType}
 use Rattle.gm_value.specs.declared.values.VType.TheVariants.{Flag}
 use Rattle.gm_ast.specs.declared.tree.Declaration.{Declaration}
 use Rattle.gm_ast.specs.declared.tree.Head.{Head}
 use Rattle.gm_ast.specs.declared.tree.Key.{Key}
-use Rattle.gm_ast.specs.Program.{Expr, Stmt, Skip, Then, Declare, Assign, Combine, Foreach, If, sequence}
+use Rattle.gm_ast.specs.Program.{Expr, Stmt, Skip, Then, Declare, DeclareEdge, Assign, Combine, Foreach, If, sequence}
 use Rattle.gm_forms.specs.Sharing.{are_at_once}
 use Rattle.gm_forms.specs.Typing.{has_type, is_typed_in}
 use Rattle.gm_forms.specs.Uses.{suits, uses_in, uses_of_head, uses_of}
 use Rattle.gm_forms.proofs.Named.{both-true}
 use Rattle.gm_forms.proofs.Weaker.{and-true}
 use Rattle.gm_loop_laws.specs.Inner.{quiet}
+use Rattle.gm_loop_laws.specs.Resumed.{serves, needs, kept, resumed}
 use Rattle.gm_loop_laws.specs.Slices.{is_idle, sliced}
+use Rattle.gm_cut.specs.Lean.{lean_slice}
 use Rattle.gm_cut.specs.Slices.{statements_of, unneeded, slice, all_quiet}
 
 -- f: a test of each statement of a body
@@ -80,6 +81,23 @@ module _ (f : Stmt → Bool) (asks : Expr → Bool) (f-skip : f Skip ≡ true) (
   cut gone its (Foreach k at h test body) p = f-each k at h test body (sliced gone (h.iterator ∷ its) body) (cut gone (h.iterator ∷ its) body) p
   cut gone its s h = h
 
+  -- what is evaluated again
+  pub resumed-keeps : (ds : List Declaration) (its : List ℕ) (n : ℕ) (new : Bool) (s : Stmt) (xs : List ℕ) → f s ≡ true → f (kept ds its n new s xs) ≡ true
+  resumed-keeps ds its n new Skip xs h = h
+  resumed-keeps ds its n new (Then a b) xs h =
+      let r = each a b h in both (kept ds its n new a (needs ds its n new b xs)) (kept ds its n new b xs) (resumed-keeps ds its n new a (needs ds its n new b xs) r.0) (resumed-keeps ds its n new b xs r.1)
+  resumed-keeps ds its n new (DeclareEdge x y at) xs h = h
+  resumed-keeps ds its n new (If k c a b) xs h =
+      let r = branches k c a b h in
+      either (serves ds its n new xs (If k c a b)) (If k c (kept ds its n new a xs) (kept ds its n new b xs)) Skip (if-both k c (kept ds its n new a xs) (kept ds its n new b xs) r.0 (resumed-keeps ds its n new a xs r.1) (resumed-keeps ds its n new b xs r.2)) f-skip
+  resumed-keeps ds its n new s xs h = either (serves ds its n new xs s) s Skip h f-skip
+
+  pub lean-keeps : (ds : List Declaration) (n t : ℕ) (done g : List Stmt) → f (sequence done) ≡ true → f (sequence g) ≡ true → f (lean_slice ds n t done g) ≡ true
+  lean-keeps ds n t done g p q =
+      let its = n ∷ t ∷ [] in
+      let xs = needs ds its n true (sequence g) [] in
+      opened (resumed ds its n (sequence done) (sequence g)) (both (kept ds its n false (sequence done) xs) (kept ds its n true (sequence g) []) (resumed-keeps ds its n false (sequence done) xs p) (resumed-keeps ds its n true (sequence g) [] q))
+
   pub slice-keeps : (ds : List Declaration) (n t : ℕ) (whole : Stmt) → f whole ≡ true → f (slice ds n t whole) ≡ true
   slice-keeps ds n t whole h = opened (sliced (unneeded ds n t whole) (t ∷ n ∷ []) whole) (cut (unneeded ds n t whole) (t ∷ n ∷ []) whole h)
 
@@ -129,6 +147,18 @@ module _ (ds : List Declaration) (res : Option VType) where
   fits-slice n t whole h = record {
     named = slice-keeps uses asks refl uses-then uses-if uses-each ds n t whole h.named;
     typed = slice-keeps types (has_type ds Flag) refl (λ a b. refl) (λ k c a b. refl) types-each ds n t whole h.typed;
+  }
+
+  pub fits-lean : (n t : ℕ) (done g : List Stmt) → Fits (sequence done) → Fits (sequence g) → Fits (lean_slice ds n t done g)
+  fits-lean n t done g p q = record {
+    named = lean-keeps uses asks refl uses-then uses-if uses-each ds n t done g p.named q.named;
+    typed = lean-keeps types (has_type ds Flag) refl (λ a b. refl) (λ k c a b. refl) types-each ds n t done g p.typed q.typed;
+  }
+
+  pub fits-joined : (xs ys : List Stmt) → Fits (sequence xs) → Fits (sequence ys) → Fits (sequence (xs ++ ys))
+  fits-joined xs ys h g = record {
+    named = append uses asks refl uses-then uses-if uses-each xs ys h.named g.named;
+    typed = append types (has_type ds Flag) refl (λ a b. refl) (λ k c a b. refl) types-each xs ys h.typed g.typed;
   }
 
   pub fits-parts : (xs ys : List Stmt) → Fits (sequence (xs ++ ys)) → Fits (sequence xs) × Fits (sequence ys)

@@ -4,3 +4,4 @@ pub mod Taken
 pub mod Own
 pub mod Walks
 pub mod Slices
+pub mod Lean

@@ -11,8 +11,6 @@
 //! what every pass keeps (`IsSane`), and is parted, or cut. `cut_bodies` is the code of the first: it gives what `in_pieces` gives.
 #![tactic(auto)]
 
-mod copies;
 pub mod laws;
 pub mod own;
 pub mod pieces;
-mod places;

@@ -19,13 +19,14 @@ ghost use Rattle.gm_cut.specs.Slices.{goes_one_way};
 ghost use Rattle.gm_cut.specs.Taken.{run_piece};
 ghost use Rattle.gm_cut.specs.Walks.{adds_in, branch_pieces, cut_pieces, is_block, loops_of, walked};
 
-use crate::copies::copy;
 use crate::own::{adds_beyond, is_own, joins};
-use crate::places::{beside, both_boxed, with_boxed, with_pushed};
 use gm_ast::forms::Work;
 use gm_ast::tree::{Expr, Head, Key, Stmt, Tree};
 use gm_base::{NoMemory, Place};
-use gm_dissect::places::{finish, put, taken, taken_value};
+use gm_trees::copies::copy;
+use gm_trees::places::{
+    beside, both_boxed, finish, put, taken, taken_value, with_boxed, with_pushed,
+};
 use gm_value::Op1;
 use std::alloc::{AllocError, Global};
 

@@ -37,7 +37,7 @@ use Rattle.gm_dissect.proofs.Undeferred.{low-both, reads-low, sights-low, anywhe
 use Rattle.gm_cut.specs.Parts.{goes_any_way, stands_at_edges, stands_along, is_parted, each_passes, IsPartedBy}
 use Rattle.gm_cut.specs.Slices.{goes_one_way}
 use Rattle.gm_cut.proofs.Roles.{iterates-of}
-use Rattle.gm_cut.proofs.SlicesLaws.{parted-flat}
+use Rattle.gm_cut.proofs.LoopLaws.{parted-flat}
 use Rattle.gm_parting.specs.Apart.{apart, apart_loop, ifs_inside, most_ifs, inner_flag, inner_flags, with_statements_apart}
 use Rattle.gm_parting.specs.Numbers.{count_ifs}
 use Rattle.gm_parting.proofs.ApartKept.{Flagged, New, told-apart, written-apart, touched-apart, properties-apart, reduced-apart, spares-apart, apart-replaces}

@@ -45,4 +45,5 @@ pub mod PlacedFacts
 pub mod PlacedRuns
 pub mod PlacedLaws
 pub mod PlacedNames
+mod LeanPrograms
 mod Samples

@@ -5,7 +5,7 @@ use Rattle.std.specs.List.{list_all}
 use Rattle.gm_value.specs.declared.values.VType.{VType}
 use Rattle.gm_value.specs.declared.values.VType.TheVariants.{Flag}
 use Rattle.gm_value.specs.declared.reductions.Reduce.{Reduce}
-use Rattle.gm_value.specs.Operations.{is_numeric, fits1, fits2, type1, type2}
+use Rattle.gm_value.specs.Operations.{is_numeric, fits2, type1, type2}
 use Rattle.gm_value.specs.Reductions.{reduces}
 use Rattle.gm_ast.specs.declared.tree.Declaration.{Declaration}
 use Rattle.gm_ast.specs.declared.tree.Target.{Target}
@@ -15,7 +15,7 @@ use Rattle.gm_semantics.specs.Expressions.{reduce_of}
 use Rattle.gm_semantics.specs.Frames.{ReadsBelow, MayReadBelow, AllReadBelow, TargetBelow, TargetsBelow, NamesBelow}
 use Rattle.gm_forms.specs.Forms.{depth_at, may, is_flat, is_inner_head, is_within, is_own, is_given, is_inner_local, is_inner_given, are_reduced, is_inner_body, is_outer_body, is_plain}
 use Rattle.gm_forms.specs.Sharing.{Sights, with_reads, sights_in, sights_in_all, sights_of, sights_of_target, sights_at_target, sights_by, sights_of_targets, is_at_once, are_at_once, is_owned, is_kept, variables_of, written_by, variables_where, Reduced, reduced_by, written, reduced, deferred, inner_shares, inners_share, shares, disjoint, shared_in, kept_in, read_at, read_anywhere, read_elsewhere, reads_in, all_agree, all_last_one_way, targets_alike}
-use Rattle.gm_forms.specs.Typing.{type_at, type_if, by_one, is_type, takes, type_in, has_type, may_have_type, target_type, all_have_types, keeps_tuples, fits_targets, returns_type, is_typed_in}
+use Rattle.gm_forms.specs.Typing.{type_at, type_if, by_one, is_type, takes, type_in, has_type, may_have_type, target_type, all_have_types, keeps_tuples, fits_targets, returns_type, is_typed_in, takes1}
 
 both-same : {A : Type 0} (f : A → A → A) (a b c d : A) → a ≡ c → b ≡ d → f a b ≡ f c d
 both-same f a b c d p q = ap (λ x. f x b) p ∙ ap (f c) q
@@ -68,7 +68,7 @@ module _ (ds dt : List Declaration) (k : ℕ) (types : (x : ℕ) → type_at dt 
   type-same NodeCount h = refl
   type-same EdgeCount h = refl
   type-same (Live x at) h = refl
-  type-same (Unary op at e) h = ap (λ t. by_one t (λ t. type_if (fits1 op t) (type1 op t))) (type-same e h)
+  type-same (Unary op at e) h = ap (λ t. by_one t (λ t. type_if (takes1 op t) (type1 op t))) (type-same e h)
   type-same (Binary op at a b) h =
       both-same (λ x y. by_one x (λ t. by_one y (λ u. type_if (fits2 op t u) (type2 op t)))) (type_in dt a) (type_in dt b) (type_in ds a) (type_in ds b) (type-same a h.0) (type-same b h.1)
   type-same (Both a b) h = both-same (λ x y. type_if (is_type Flag x && is_type Flag y) Flag) (type_in dt a) (type_in dt b) (type_in ds a) (type_in ds b) (type-same a h.0) (type-same b h.1)

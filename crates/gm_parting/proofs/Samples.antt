@@ -31,6 +31,7 @@ use Rattle.gm_locals.specs.AllLocals.{has_moved_locals}
 use Rattle.gm_locals.specs.Groups.{with_locals_kept}
 use Rattle.gm_cut.specs.Parts.{goes_any_way, in_pieces, can_be_parted}
 use Rattle.gm_cut.specs.Runs.{with_runs, grouped}
+use Rattle.gm_cut.specs.Lean.{can_be_lean, has_slices_that_go, has_statements_that_go, in_lean_slices}
 use Rattle.gm_cut.specs.Slices.{can_be_sliced}
 use Rattle.gm_parting.specs.Apart.{with_statements_apart}
 use Rattle.gm_parting.specs.Declared.{declared_first, with_locals_declared, has_no_strangers}
@@ -467,14 +468,14 @@ nested-row = refl
 one-way-stays : (with_statements_apart (program (each always (along 2 (If (key 3) (is-zero 3 (own 4 3)) (sequence (push-line 4 ∷ [])) Skip ∷ []) ∷ [])))).body ≡ each always (along 2 (If (key 3) (is-zero 3 (own 4 3)) (sequence (push-line 4 ∷ [])) Skip ∷ []) ∷ [])
 one-way-stays = refl
 
--- two reductions to one property with one that goes another way between them do not go to slices yet: t.c += n.b; n.a min= t.b; t.c += n.b;
+-- two reductions to one property with one that goes another way between them: t.c += n.b; n.a min= t.b; t.c += n.b;
 abbrev again : Program
 again = program (each always (along 2 (push-line 3 ∷ pull 4 ∷ push-line 5 ∷ []) ∷ []))
 
 again-row : (is_ready again && may (prepared again)) ≡ true
 again-row = refl
 
-again-slices : can_be_sliced (pieces again) ≡ false
+again-slices : can_be_sliced (pieces again) ≡ true
 again-slices = refl
 
 -- what can fault at the edge is evaluated again in the slice behind, which goes no way then: Edge e = t.ToEdge(); Int x = t.b / e.w; t.c += x; n.a += 1;
@@ -490,6 +491,23 @@ repeated-row = refl
 
 repeated-slices : can_be_sliced (pieces repeated) ≡ false
 repeated-slices = refl
+
+-- a slice that evaluates only what it needs does not evaluate it again
+repeated-lean : (has_statements_that_go (pieces repeated) && (has_slices_that_go (pieces repeated) && can_be_lean (pieces repeated))) ≡ true
+repeated-lean = refl
+
+several-lean : (has_statements_that_go (pieces several) && (has_slices_that_go (pieces several) && can_be_lean (pieces several))) ≡ true
+several-lean = refl
+
+nested-lean : (has_statements_that_go (pieces nested) && (has_slices_that_go (pieces nested) && can_be_lean (pieces nested))) ≡ true
+nested-lean = refl
+
+again-lean : (has_statements_that_go (pieces again) && (has_slices_that_go (pieces again) && can_be_lean (pieces again))) ≡ true
+again-lean = refl
+
+-- where nothing can fault, both kinds of slices are the same
+several-leans : (in_lean_slices (pieces several)).body ≡ (dissected several).body
+several-leans = refl
 
 -- each of these lacks one, and may not be cut then
 both-row : is_ready both ≡ true
