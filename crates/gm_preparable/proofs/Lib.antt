@@ -1,0 +1,19 @@
+pub mod Standing
+mod Tables
+mod Facts
+mod Groups
+mod Compounds
+mod Literals
+mod Conditions
+mod ReadsApart
+mod Picks
+mod Accesses
+mod Folds
+mod InnerFolds
+mod Searches
+mod Unchecked
+mod UncheckedStatements
+mod Texts
+mod Tuples
+mod Together
+mod Samples
