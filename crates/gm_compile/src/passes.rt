@@ -5,12 +5,17 @@ ghost use Rattle.gm_ast.specs.Tree.{program_of};
 ghost use Rattle.gm_bfs.specs.Levelled.{levelled};
 ghost use Rattle.gm_desugaring.specs.Desugaring.{CanBecomeLoops, with_plain_loops};
 ghost use Rattle.gm_forms.specs.Meanings.{SameMeaning};
-ghost use Rattle.gm_forms.specs.Ready.{Ready2};
+ghost use Rattle.gm_forms.specs.Ready.{Ready2, Ready4};
+ghost use Rattle.gm_compile.specs.Parted.{parted, CanBeParted};
 
 use gm_ast::forms::Work;
 use gm_base::NoMemory;
 use gm_bfs::levelled::bfs_out;
 use gm_desugaring::desugar::desugar;
+use gm_dissecting::dissect::dissect;
+use gm_flip::flip::flip;
+use gm_outward::outward::outward;
+use gm_preparable::typed_programs_may_be_prepared;
 use std::alloc::Global;
 
 /// Writes a program without group assignments, reductions that give a value, random reads and searches: first as plain
@@ -25,4 +30,21 @@ pub fn level(alloc: Global, program: Work) -> Result<Work, NoMemory>
     let plain = desugar(alloc, program)?;
     let loops = bfs_out(alloc, plain)?;
     Ok(loops)
+}
+
+/// Writes a program besides with loops that go one way each, none of which pulls: each is evaluated at its own node, or at
+/// the node that a message from there reaches, and asks at its node what it can before it looks at edges. The program of an accepted text means the same, for every graph, all
+/// arguments and every bound, and comes out ready to become an image, where besides none of its reductions has targets
+/// that are declared inside different loops, and its inner loops may go to slices (`CanBeParted`).
+pub fn part(alloc: Global, program: Work) -> Result<Work, NoMemory>
+    ensures made { IfOk result (λ r. program_of r ≡ parted (program_of program)) }
+    ensures same { IfOk result (λ r. CanBeParted (program_of program) → SameMeaning (program_of program) (program_of r)) }
+    ensures ready { IfOk result (λ r. CanBeParted (program_of program) → Ready4 (program_of r)) }
+{
+    typed_programs_may_be_prepared();
+    let loops = level(alloc, program)?;
+    let cut = dissect(alloc, loops)?;
+    let turned = flip(alloc, cut)?;
+    let asked = outward(alloc, turned)?;
+    Ok(asked)
 }
