@@ -1,17 +1,15 @@
 -- What the rule of folds asks of lines: outside of eaches and handlers nothing, and of terms that they read no field of some.
-use Rattle.std.proofs.Common.{◌≡◌, ◌<◌, ℕ, zero, suc, map, arith, false, Bool, true, None, List, [], ◌∷◌, ◌++◌, refl, ap, ◌∙◌, ⊎_elim}
-use Rattle.std.specs.Prelude.{◌&&◌, ◌||◌, ◌==◌, not, nat_eq, slice_get}
+use Rattle.std.proofs.Common.{◌≡◌, ◌<◌, ℕ, zero, suc, map, arith, false, Bool, true, None, List, [], ◌∷◌, ◌++◌, refl, ap}
+use Rattle.std.specs.Prelude.{◌&&◌, ◌==◌, not, nat_eq, slice_get}
 use Rattle.std.specs.List.{list_any}
 use Rattle.std.proofs.lemmas.Bool.{and_from, or_from, ne_eqb}
-use Rattle.gm_value.specs.Bag.{IsIn}
 use Rattle.gm_value.specs.declared.values.Value.{Value}
 use Rattle.gm_value.specs.declared.values.Value.TheVariants.{At}
 use Rattle.gm_ast.specs.declared.tree.Direction.{Direction}
 use Rattle.gm_ast.specs.declared.tree.Key.{Key}
 use Rattle.gm_ast.specs.Program as S
 use Rattle.gm_ast.specs.Program.{Expr}
-use Rattle.gm_forms.proofs.Named.{both-true}
-use Rattle.gm_forms.specs.Sharing.{Read, reads_in, Reduced, disjoint, does_same, is_one, all_one}
+use Rattle.gm_forms.specs.Sharing.{Read, reads_in}
 use Rattle.gm_typed_stores.specs.Values.{Each}
 use Rattle.gm_image.specs.Folds.{handles, of_other_kinds, Reduction, same_as_first, is_the_one, folds_one_way, is_none_of, reads_none, sets_none, line_folds}
 use Rattle.gm_image.specs.Parts.{all_leaves, line_terms, slots_of}
@@ -27,7 +25,7 @@ use Rattle.gm_sound_lowering.proofs.Rowwise.{all-always}
 
 -- ---- outside of eaches and handlers
 
-no-leaf : (a : Term) → all_leaves (is_none_of []) a ≡ true
+pub no-leaf : (a : Term) → all_leaves (is_none_of []) a ≡ true
 no-leaf (M.Const v) = refl
 no-leaf (M.Global g) = refl
 no-leaf M.NodeCount = refl
@@ -91,34 +89,6 @@ lesser-kinds k hs h = ap not (none hs h) where
   none : (hs : List Handler) → Each (λ h. h.kind < k) hs → list_any (λ h. h.kind == k) hs ≡ false
   none [] h = refl
   none (x ∷ hs) h = let lt = h.0 in or_from (nat_eq x.kind k) (list_any (λ h. h.kind == k) hs) (ne_eqb x.kind k (λ e. absurd (omega (arith, e, lt)))) (none hs h.1)
-
--- ---- reductions of an inner loop
-
--- whether two reductions have no variable in common, or do the same
-abbrev one_way : Reduced → Reduced → Bool
-one_way a b = disjoint a.variables b.variables || does_same a b
-
-one-in : (a : Reduced) (bs : List Reduced) (b : Reduced) → is_one a bs ≡ true → IsIn b bs → one_way a b ≡ true
-one-in a [] b h i = absurd i
-one-in a (c ∷ bs) b h i =
-    let g = both-true (one_way a c) (is_one a bs) h in ⊎_elim (λ (e : b ≡ c). ap (one_way a) e ∙ g.0) (λ (j : IsIn b bs). one-in a bs b g.1 j) i
-
-one-left : (a : Reduced) (xs ys : List Reduced) → is_one a (xs ++ ys) ≡ true → (is_one a xs ≡ true) × (is_one a ys ≡ true)
-one-left a [] ys h = (refl, h)
-one-left a (x ∷ xs) ys h =
-    let g = both-true (one_way a x) (is_one a (xs ++ ys)) h in
-    let r = one-left a xs ys g.1 in (and_from (one_way a x) (is_one a xs) g.0 r.0, r.1)
-
-pub one-split : (xs ys : List Reduced) → all_one (xs ++ ys) ≡ true → (all_one xs ≡ true) × (all_one ys ≡ true) × ((a b : Reduced) → IsIn a xs → IsIn b ys → one_way a b ≡ true)
-one-split [] ys h = (refl, h, λ a b i j. absurd i)
-one-split (x ∷ xs) ys h =
-    let g = both-true (is_one x (xs ++ ys)) (all_one (xs ++ ys)) h in
-    let l = one-left x xs ys g.0 in
-    let r = one-split xs ys g.1 in (
-      and_from (is_one x xs) (all_one xs) l.0 r.0,
-      r.1,
-      λ a b i j. ⊎_elim (λ (e : a ≡ x). ap (λ z. one_way z b) e ∙ one-in x ys b l.1 j) (λ (k : IsIn a xs). r.2 a b k j) i,
-    )
 
 -- ---- terms that read no field of some
 

@@ -24,5 +24,12 @@ pub mod Puts
 pub mod PutLines
 pub mod PutBlocks
 pub mod Folds
+pub mod FoldWays
+pub mod FoldLines
+pub mod FoldBlocks
+pub mod Depths
+pub mod DepthBlocks
+pub mod Whole
+pub mod Readied
 pub mod Samples
 mod Rows

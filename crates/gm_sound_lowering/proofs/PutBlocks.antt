@@ -46,6 +46,10 @@ use Rattle.gm_sound_lowering.specs.Laws.{PutsGoOneWay}
 use Rattle.gm_sound_lowering.proofs.Spans.{Stay, lines-stay, under-stays, stay-no_each}
 use Rattle.gm_sound_lowering.proofs.PutLines.{puts, joined, puts-both, nothing-behind, is_quiet, quiet-puts, body-one-way}
 
+pub one-way-split : (before xs ys : List Reduction) → OneWay before (xs ++ ys) → OneWay before xs × OneWay (before ++ xs) ys
+one-way-split before [] ys h = (tt, subst (λ us. OneWay us ys) (sym (nothing-behind before)) h)
+one-way-split before (x ∷ xs) ys h = let r = one-way-split (before ++ x ∷ []) xs ys h.1 in ((h.0, r.0), subst (λ us. OneWay us ys) (sym (joined before (x ∷ []) xs)) r.1)
+
 -- ---- the rule, line by line
 
 module _ (i : image.Program) where
@@ -103,10 +107,7 @@ module _ (i : image.Program) where
         refl,
         lines-pass (handler_at x.kind all) (λ b e r. refl) [] earlier x.lines split.0,
         handlers-pass all (earlier ++ x.lines) (before ++ x ∷ []) hs (subst (λ xs. OneWay xs (puts (handled hs))) (sym (puts-both earlier x.lines)) split.1),
-      ) where
-        one-way-split : (before xs ys : List Reduction) → OneWay before (xs ++ ys) → OneWay before xs × OneWay (before ++ xs) ys
-        one-way-split before [] ys h = (tt, subst (λ us. OneWay us ys) (sym (nothing-behind before)) h)
-        one-way-split before (x ∷ xs) ys h = let r = one-way-split (before ++ x ∷ []) xs ys h.1 in ((h.0, r.0), subst (λ us. OneWay us ys) (sym (joined before (x ∷ []) xs)) r.1)
+      )
 
   taking-block : (hs : List Handler) → OneWay [] (puts (handled hs)) → BlockPuts (record { handlers = hs; body = [] })
   taking-block hs h = taking-rows f hs refl (handlers-pass (handled_lines (record { handlers = hs; body = [] })) [] [] hs h)

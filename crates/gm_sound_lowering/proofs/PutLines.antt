@@ -51,7 +51,7 @@ pub puts-both : (xs ys : List Line) → puts (xs ++ ys) ≡ puts xs ++ puts ys
 puts-both [] ys = refl
 puts-both (x ∷ xs) ys = ap (λ us. puts_of x ++ us) (puts-both xs ys) ∙ joined (puts_of x) (puts xs) (puts ys)
 
-map-both : {A B : Type 0} (f : A → B) (xs ys : List A) → map f (xs ++ ys) ≡ map f xs ++ map f ys
+pub map-both : {A B : Type 0} (f : A → B) (xs ys : List A) → map f (xs ++ ys) ≡ map f xs ++ map f ys
 map-both f [] ys = refl
 map-both f (x ∷ xs) ys = ap (λ us. f x ∷ us) (map-both f xs ys)
 
@@ -119,7 +119,7 @@ module _ (p : Program) where
   abbrev put : Combined → Reduction
   put = slotted (tested p is_global) (length ds)
 
-  slots-same : (f : Expr → Term) (ts : List Target) (es : List Expr) → all_have_types ds ts es ≡ true → slots_of (image_targets c ts (map f es)) ≡ map (slot_number c) ts
+  pub slots-same : (f : Expr → Term) (ts : List Target) (es : List Expr) → all_have_types ds ts es ≡ true → slots_of (image_targets c ts (map f es)) ≡ map (slot_number c) ts
   slots-same f [] [] h = refl
   slots-same f (t ∷ ts) (e ∷ es) h = ap (λ xs. slot_number c t ∷ xs) (slots-same f ts es (both-true (has_type ds (target_type ds t) e) (all_have_types ds ts es) h).1)
   slots-same f [] (e ∷ es) h = absurd (both_ways false refl h)

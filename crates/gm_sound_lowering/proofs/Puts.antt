@@ -37,7 +37,7 @@ puts_in ds n _ = []
 -- ---- lists whose members agree
 
 -- whether two reductions of a loop agree
-abbrev clash : Reduced → Reduced → Bool
+abbrev pub clash : Reduced → Reduced → Bool
 clash a b = disjoint a.variables b.variables || (nat_lt a.number b.number && ((disjoint a.shared b.variables && disjoint b.shared a.variables) || does_same a b))
 
 agrees-in : (a : Reduced) (bs : List Reduced) (b : Reduced) → agrees a bs ≡ true → IsIn b bs → clash a b ≡ true
@@ -68,7 +68,7 @@ pub record IsShared (q : Combined) (r : Reduced) : Type 0 where
   pub variables : r.variables ≡ q.variables
   pub shared : r.shared ≡ q.variables
 
-agree-of : (q s : Combined) (a b : Reduced) → IsShared q a → IsShared s b → clash a b ≡ true → Agree q s
+pub agree-of : (q s : Combined) (a b : Reduced) → IsShared q a → IsShared s b → clash a b ≡ true → Agree q s
 agree-of q s a b h k e = by (disjoint a.variables b.variables) (disjoint a.shared b.variables) (reduce_eq a.reduce b.reduce) (variables_eq a.variables b.variables) refl refl refl refl e where
   here : disjoint a.variables b.variables ≡ true → Agree q s
   here f = inl (ap (λ v. disjoint v s.variables) (sym h.variables) ∙ ap (disjoint a.variables) (sym k.variables) ∙ f)
@@ -82,33 +82,40 @@ agree-of q s a b h k e = by (disjoint a.variables b.variables) (disjoint a.share
   by false false true false f g x y e = absurd (both_ways false refl (both-true (nat_lt a.number b.number) false e).1)
   by false false false v f g x y e = absurd (both_ways false refl (both-true (nat_lt a.number b.number) false e).1)
 
--- each of some is shared by one of the loop's
-abbrev pub AreOf : List Reduced → List Combined → Type 0
-AreOf rs qs = Each (λ q. (r : Reduced) × IsIn r rs × IsShared q r) qs
+-- each of some is one of the loop's, in some sense
+abbrev pub AreOf : (Combined → Reduced → Type 0) → List Reduced → List Combined → Type 0
+AreOf Of rs qs = Each (λ q. (r : Reduced) × IsIn r rs × Of q r) qs
 
-in-left : {A : Type 0} (xs ys : List A) (x : A) → IsIn x xs → IsIn x (xs ++ ys)
+pub in-left : {A : Type 0} (xs ys : List A) (x : A) → IsIn x xs → IsIn x (xs ++ ys)
 in-left [] ys x i = absurd i
 in-left (z ∷ xs) ys x i = ⊎_elim (λ (e : x ≡ z). inl e) (λ (j : IsIn x xs). inr (in-left xs ys x j)) i
 
-in-right : {A : Type 0} (xs ys : List A) (x : A) → IsIn x ys → IsIn x (xs ++ ys)
+pub in-right : {A : Type 0} (xs ys : List A) (x : A) → IsIn x ys → IsIn x (xs ++ ys)
 in-right [] ys x i = i
 in-right (z ∷ xs) ys x i = inr (in-right xs ys x i)
 
-of-left : (rs ss : List Reduced) (qs : List Combined) → AreOf rs qs → AreOf (rs ++ ss) qs
-of-left rs ss [] h = tt
-of-left rs ss (q ∷ qs) h = ((h.0.0, in-left rs ss h.0.0 h.0.1, h.0.2), of-left rs ss qs h.1)
+module _ (Of : Combined → Reduced → Type 0) where
+  pub of-left : (rs ss : List Reduced) (qs : List Combined) → AreOf Of rs qs → AreOf Of (rs ++ ss) qs
+  of-left rs ss [] h = tt
+  of-left rs ss (q ∷ qs) h = ((h.0.0, in-left rs ss h.0.0 h.0.1, h.0.2), of-left rs ss qs h.1)
 
-of-right : (rs ss : List Reduced) (qs : List Combined) → AreOf ss qs → AreOf (rs ++ ss) qs
-of-right rs ss [] h = tt
-of-right rs ss (q ∷ qs) h = ((h.0.0, in-right rs ss h.0.0 h.0.1, h.0.2), of-right rs ss qs h.1)
+  pub of-right : (rs ss : List Reduced) (qs : List Combined) → AreOf Of ss qs → AreOf Of (rs ++ ss) qs
+  of-right rs ss [] h = tt
+  of-right rs ss (q ∷ qs) h = ((h.0.0, in-right rs ss h.0.0 h.0.1, h.0.2), of-right rs ss qs h.1)
 
-cross-one : (rs ss : List Reduced) (q : Combined) (a : Reduced) (ps : List Combined) → IsIn a rs → IsShared q a → AreOf ss ps → ((a b : Reduced) → IsIn a rs → IsIn b ss → clash a b ≡ true) → Each (Agree q) ps
-cross-one rs ss q a [] i h k c = tt
-cross-one rs ss q a (p ∷ ps) i h k c = (agree-of q p a k.0.0 h k.0.2 (c a k.0.0 i k.0.1), cross-one rs ss q a ps i h k.1 c)
+  -- those of two parts of a loop
+  pub of-both : (rs ss : List Reduced) (qs ps : List Combined) → AreOf Of rs qs → AreOf Of ss ps → AreOf Of (rs ++ ss) (qs ++ ps)
+  of-both rs ss qs ps h k = each-join (λ q. (r : Reduced) × IsIn r (rs ++ ss) × Of q r) qs ps (of-left rs ss qs h) (of-right rs ss ps k)
 
-join-agree : (rs ss : List Reduced) (qs ps : List Combined) → AreOf rs qs → AreOf ss ps → AllAgree qs → AllAgree ps → ((a b : Reduced) → IsIn a rs → IsIn b ss → clash a b ≡ true) → AllAgree (qs ++ ps)
-join-agree rs ss [] ps h k x y c = y
-join-agree rs ss (q ∷ qs) ps h k x y c = (each-join (Agree q) qs ps x.0 (cross-one rs ss q h.0.0 ps h.0.1 h.0.2 k c), join-agree rs ss qs ps h.1 k x.1 y c)
+  module _ (holds : Reduced → Reduced → Bool) (agree : (q s : Combined) (a b : Reduced) → Of q a → Of s b → holds a b ≡ true → Agree q s) where
+    cross-one : (rs ss : List Reduced) (q : Combined) (a : Reduced) (ps : List Combined) → IsIn a rs → Of q a → AreOf Of ss ps → ((a b : Reduced) → IsIn a rs → IsIn b ss → holds a b ≡ true) → Each (Agree q) ps
+    cross-one rs ss q a [] i h k c = tt
+    cross-one rs ss q a (p ∷ ps) i h k c = (agree q p a k.0.0 h k.0.2 (c a k.0.0 i k.0.1), cross-one rs ss q a ps i h k.1 c)
+
+    -- they agree, where the loop's do
+    pub join-agree : (rs ss : List Reduced) (qs ps : List Combined) → AreOf Of rs qs → AreOf Of ss ps → AllAgree qs → AllAgree ps → ((a b : Reduced) → IsIn a rs → IsIn b ss → holds a b ≡ true) → AllAgree (qs ++ ps)
+    join-agree rs ss [] ps h k x y c = y
+    join-agree rs ss (q ∷ qs) ps h k x y c = (each-join (Agree q) qs ps x.0 (cross-one rs ss q h.0.0 ps h.0.1 h.0.2 k c), join-agree rs ss qs ps h.1 k x.1 y c)
 
 -- ---- what is put
 
@@ -134,22 +141,18 @@ module _ (p : Program) (n m : ℕ) (inner : Bool) where
         by false d = ap (λ b. not b && are_at_once ds n false ts) d
         by true d = ap (λ k. nat_lt 1 k && are_at_once ds n true ts) (eqb-true (depth_at ds x) 0 d)
 
-  put-of : (k : ℕ) (r : Reduce) (ts : List Target) (way : Way) → WayIs p m way ts → AreOf (all_reduced_by ds n inner k r ts) (put_by way r ts)
+  put-of : (k : ℕ) (r : Reduce) (ts : List Target) (way : Way) → WayIs p m way ts → AreOf IsShared (all_reduced_by ds n inner k r ts) (put_by way r ts)
   put-of k r [] Puts w = tt
   put-of k r (t ∷ ts) Puts w =
-      subst (λ b. AreOf (if b then [] else reduced_by ds n k r (t ∷ ts) ∷ []) (record { reduce = r; variables = variables_of (t ∷ ts) } ∷ [])) (sym (not-at-once t ts w))
+      subst (λ b. AreOf IsShared (if b then [] else reduced_by ds n k r (t ∷ ts) ∷ []) (record { reduce = r; variables = variables_of (t ∷ ts) } ∷ [])) (sym (not-at-once t ts w))
       ((reduced_by ds n k r (t ∷ ts), inl refl, record { reduce = refl; variables = refl; shared = global-shared (t ∷ ts) w }), tt)
   put-of k r ts Folds w = tt
   put-of k r ts Sends w = tt
   put-of k r ts Picks w = tt
 
-  puts-of : (st : Stmt) → AreOf (reduced ds n inner st) (puts_in ds m st)
-  puts-of (S.Then a b) =
-      each-join (λ q. (r : Reduced) × IsIn r (reduced ds n inner a ++ reduced ds n inner b) × IsShared q r) (puts_in ds m a) (puts_in ds m b)
-      (of-left (reduced ds n inner a) (reduced ds n inner b) (puts_in ds m a) (puts-of a)) (of-right (reduced ds n inner a) (reduced ds n inner b) (puts_in ds m b) (puts-of b))
-  puts-of (S.If k c a b) =
-      each-join (λ q. (r : Reduced) × IsIn r (reduced ds n inner a ++ reduced ds n inner b) × IsShared q r) (puts_in ds m a) (puts_in ds m b)
-      (of-left (reduced ds n inner a) (reduced ds n inner b) (puts_in ds m a) (puts-of a)) (of-right (reduced ds n inner a) (reduced ds n inner b) (puts_in ds m b) (puts-of b))
+  puts-of : (st : Stmt) → AreOf IsShared (reduced ds n inner st) (puts_in ds m st)
+  puts-of (S.Then a b) = of-both IsShared (reduced ds n inner a) (reduced ds n inner b) (puts_in ds m a) (puts_in ds m b) (puts-of a) (puts-of b)
+  puts-of (S.If k c a b) = of-both IsShared (reduced ds n inner a) (reduced ds n inner b) (puts_in ds m a) (puts_in ds m b) (puts-of a) (puts-of b)
   puts-of (S.Combine k total r ts es) = put-of total.key.statement r ts (way_of ds m ts) (way-is p m ts)
   puts-of _ = tt
 
@@ -164,9 +167,9 @@ module _ (p : Program) (n m : ℕ) (inner : Bool) where
   pub puts-agree : (st : Stmt) → all_agree (reduced ds n inner st) ≡ true → AllAgree (puts_in ds m st)
   puts-agree (S.Then a b) h =
       let g = agree-split (reduced ds n inner a) (reduced ds n inner b) h in
-      join-agree (reduced ds n inner a) (reduced ds n inner b) (puts_in ds m a) (puts_in ds m b) (puts-of a) (puts-of b) (puts-agree a g.0) (puts-agree b g.1) g.2
+      join-agree IsShared clash agree-of (reduced ds n inner a) (reduced ds n inner b) (puts_in ds m a) (puts_in ds m b) (puts-of a) (puts-of b) (puts-agree a g.0) (puts-agree b g.1) g.2
   puts-agree (S.If k c a b) h =
       let g = agree-split (reduced ds n inner a) (reduced ds n inner b) h in
-      join-agree (reduced ds n inner a) (reduced ds n inner b) (puts_in ds m a) (puts_in ds m b) (puts-of a) (puts-of b) (puts-agree a g.0) (puts-agree b g.1) g.2
+      join-agree IsShared clash agree-of (reduced ds n inner a) (reduced ds n inner b) (puts_in ds m a) (puts_in ds m b) (puts-of a) (puts-of b) (puts-agree a g.0) (puts-agree b g.1) g.2
   puts-agree (S.Combine k total r ts es) h = put-agrees r ts (way_of ds m ts)
   puts-agree _ h = tt

@@ -28,7 +28,7 @@ use Rattle.gm_sound_lowering.proofs.Lines.{TargetIs}
 
 -- ---- numbers that differ have ranks that differ
 
-abbrev Apart : List ℕ → ℕ → Type 0
+abbrev pub Apart : List ℕ → ℕ → Type 0
 Apart [] x = Unit {0}
 Apart (y ∷ ys) x = (y ≡ x → ⊥) × Apart ys x
 
@@ -37,7 +37,7 @@ module _ (test : ℕ → Bool) (n : ℕ) where
   abbrev pub IsRanked : ℕ → Type 0
   IsRanked x = (x < n) × (test x ≡ true)
 
-  not-among : (x : ℕ) (before : List ℕ) → IsRanked x → Each IsRanked before → Apart before x → is_among (rank test x) (map (rank test) before) ≡ false
+  pub not-among : (x : ℕ) (before : List ℕ) → IsRanked x → Each IsRanked before → Apart before x → is_among (rank test x) (map (rank test) before) ≡ false
   not-among x [] h k a = refl
   not-among x (y ∷ ys) h k a =
       or_from (nat_eq (rank test y) (rank test x)) (is_among (rank test x) (map (rank test) ys))
@@ -140,12 +140,12 @@ module _ (p : Program) where
   pub scalars-differ : (ts : List Target) → Each (IsScalarSlot p) ts → are_distinct (variables_of ts) ≡ true → all_differ (map (slot_number (layout p)) ts) ≡ true
   scalars-differ ts h d = ap all_differ (scalar-slots ts h) ∙ all-ranks-differ (tested p is_global) (length p.declarations) (variables_of ts) (scalar-ranked ts h) d
 
-  property-slots : (ts : List Target) → Each (IsPropertySlot p) ts → map (slot_number (layout p)) ts ≡ map (rank (has_field p)) (variables_of ts)
+  pub property-slots : (ts : List Target) → Each (IsPropertySlot p) ts → map (slot_number (layout p)) ts ≡ map (rank (has_field p)) (variables_of ts)
   property-slots [] h = refl
   property-slots (T.Property x q at ∷ ts) h = ap (λ xs. rank (has_field p) q ∷ xs) (property-slots ts h.1)
   property-slots (T.Scalar x at ∷ ts) h = absurd h.0
 
-  property-ranked : (ts : List Target) → Each (IsPropertySlot p) ts → Each (IsRanked (has_field p) (length p.declarations)) (variables_of ts)
+  pub property-ranked : (ts : List Target) → Each (IsPropertySlot p) ts → Each (IsRanked (has_field p) (length p.declarations)) (variables_of ts)
   property-ranked [] h = tt
   property-ranked (T.Property x q at ∷ ts) h = ((field-declared p q h.0, h.0), property-ranked ts h.1)
   property-ranked (T.Scalar x at ∷ ts) h = absurd h.0

@@ -10,14 +10,15 @@ use Rattle.gm_value.specs.declared.values.Value.TheVariants.{I32, I64, Flag, At}
 use Rattle.gm_value.specs.declared.operations.Op1.{Op1}
 use Rattle.gm_value.specs.declared.operations.Op2.{Op2}
 use Rattle.gm_value.specs.Numbers.{type_of, number_of, fits, zero_of}
-use Rattle.gm_value.specs.Operations.{same_type, fits1, fits2, type1, type2}
+use Rattle.gm_value.specs.declared.operations.Op1.TheVariants as one
+use Rattle.gm_value.specs.Operations.{same_type, fits2, type1, type2}
 use Rattle.gm_ast.specs.declared.tree.Declaration.{Declaration}
 use Rattle.gm_ast.specs.declared.tree.Key.{Key}
 use Rattle.gm_ast.specs.Program as S
 use Rattle.gm_ast.specs.Program.{Expr}
 use Rattle.gm_forms.proofs.Named.{both-true}
 use Rattle.gm_forms.specs.Order.{can_fail1, can_fail2}
-use Rattle.gm_forms.specs.Typing.{type_at, type_if, by_one, is_type, type_in, has_type}
+use Rattle.gm_forms.specs.Typing.{type_at, type_if, by_one, is_type, takes1, type_in, has_type}
 use Rattle.gm_image.specs.Indices.{in_range, leaf_in_range}
 use Rattle.gm_image.specs.Parts.{all_leaves, place_holds, all_places}
 use Rattle.gm_image.specs.Program as image
@@ -25,7 +26,7 @@ use Rattle.gm_image.specs.Sorts.{takes, sort_of, sort_if, one_sort, two_sort, th
 use Rattle.gm_image.specs.Term as M
 use Rattle.gm_image.specs.Term.{Term}
 use Rattle.gm_lowering.specs.Terms.{Env, term, place_if}
-use Rattle.gm_sound_lowering.specs.Asked.{is_plain_constant, changes_type, is_plain}
+use Rattle.gm_sound_lowering.specs.Asked.{is_plain_constant, is_plain}
 use Rattle.gm_sound_lowering.specs.Types.{IsTerm as IsTermIn}
 
 -- ---- types
@@ -61,6 +62,13 @@ type-is t (Some u) h = ap Some (sym (same-is t u h))
 if-some : (b : Bool) (u t : VType) → type_if b u ≡ Some t → (b ≡ true) × (u ≡ t)
 if-some true u t h = (refl, cc)
 if-some false u t h = cc
+
+-- an operation takes the same types in a tree and in an image
+takes-alike : (op : Op1) (t : VType) → takes op t ≡ takes1 op t
+takes-alike one.Neg t = refl
+takes-alike one.Not t = refl
+takes-alike one.ToI32 t = refl
+takes-alike one.ToI64 t = refl
 
 -- ---- terms
 
@@ -175,14 +183,14 @@ module _ (p : image.Program) (kind : Option ℕ) (stands : Term → Bool) where
       term-is S.EdgeCount t h q o = subst (λ u. IsTerm u M.EdgeCount) (let e : V.I32 ≡ t = cc in e) edge-count-is
       term-is (S.Live x at) t h q o = subst (λ u. IsTerm u (M.Live (v.place k at) (v.scalar x))) (let e : V.Node ≡ t = cc in e) (live-is (v.place k at) (v.scalar x) o.1 o.0)
       term-is (S.Unary op at a) t h q o =
-          let r = both-true (changes_type op (type_in ds a)) (is_plain ds a) q in by op at a t o.0 (λ u e. term-is a u e r.1 o.1) (type_in ds a) refl r.0 h where
+          by op at a t o.0 (λ u e. term-is a u e q o.1) (type_in ds a) refl h where
             by : (op : Op1) (at : Place) (a : Expr) (t : VType) → HasPlace (can_fail1 op) (v.place k at) → ((u : VType) → type_in ds a ≡ Some u → IsTerm u (term v k a))
-                → (u : Option VType) → type_in ds a ≡ u → changes_type op u ≡ true → by_one u (λ t. type_if (fits1 op t) (type1 op t)) ≡ Some t → IsTerm t (M.Unary op (place_if (can_fail1 op) (v.place k at)) (term v k a))
-            by op at a t place ih None e c i = absurd (both_ways false refl c)
-            by op at a t place ih (Some u) e c i =
-                let j = if-some (fits1 op u) (type1 op u) t i in
+                → (u : Option VType) → type_in ds a ≡ u → by_one u (λ t. type_if (takes1 op t) (type1 op t)) ≡ Some t → IsTerm t (M.Unary op (place_if (can_fail1 op) (v.place k at)) (term v k a))
+            by op at a t place ih None e i = cc
+            by op at a t place ih (Some u) e i =
+                let j = if-some (takes1 op u) (type1 op u) t i in
                 subst (λ s. IsTerm s (M.Unary op (place_if (can_fail1 op) (v.place k at)) (term v k a))) j.1
-                (unary-is op (place_if (can_fail1 op) (v.place k at)) u (term v k a) c (has-place (can_fail1 op) (v.place k at) place) (ih u e))
+                (unary-is op (place_if (can_fail1 op) (v.place k at)) u (term v k a) (takes-alike op u ∙ j.0) (has-place (can_fail1 op) (v.place k at) place) (ih u e))
       term-is (S.Binary op at a b) t h q o =
           let r = both-true (is_plain ds a) (is_plain ds b) q in by op at a b t o.0 (λ u e. term-is a u e r.0 o.1) (λ u e. term-is b u e r.1 o.2) (type_in ds a) (type_in ds b) refl refl h where
             by : (op : Op2) (at : Place) (a b : Expr) (t : VType) → HasPlace (can_fail2 op) (v.place k at) → ((u : VType) → type_in ds a ≡ Some u → IsTerm u (term v k a)) → ((u : VType) → type_in ds b ≡ Some u → IsTerm u (term v k b))

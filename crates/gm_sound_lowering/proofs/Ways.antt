@@ -18,6 +18,11 @@ use Rattle.gm_sound_lowering.specs.Types.{is_placed}
 use Rattle.gm_sound_lowering.proofs.Leaves.{placed-here, placed-split}
 use Rattle.gm_sound_lowering.proofs.Reductions.{IsScalarSlot, IsPropertySlot}
 
+pub no-off : (n : ℕ) (ts : List Target) → list_all is_scalar ts ≡ true → list_any (is_property_off n) ts ≡ false
+no-off n [] h = refl
+no-off n (T.Scalar x at ∷ ts) h = no-off n ts h
+no-off n (T.Property x q at ∷ ts) h = absurd (both_ways false refl h)
+
 module _ (p : Program) (n : ℕ) where
   abbrev ds : List Declaration
   ds = p.declarations
@@ -63,17 +68,12 @@ module _ (p : Program) (n : ℕ) where
   own-properties (T.Scalar x at ∷ ts) h = absurd (both_ways false refl h)
   own-properties (T.Property x q at ∷ ts) h = own-properties ts (both-true (nat_eq x n) (list_all (is_property_of n) ts) h).1
 
-  through-properties : (x : ℕ) (ts : List Target) → list_all (is_through x) ts ≡ true → list_all is_property ts ≡ true
+  pub through-properties : (x : ℕ) (ts : List Target) → list_all (is_through x) ts ≡ true → list_all is_property ts ≡ true
   through-properties x [] h = refl
   through-properties x (T.Scalar y at ∷ ts) h = absurd (both_ways false refl h)
   through-properties x (T.Property y q at ∷ ts) h = through-properties x ts (both-true (nat_eq y x) (list_all (is_through x) ts) h).1
 
-  no-off : (ts : List Target) → list_all is_scalar ts ≡ true → list_any (is_property_off n) ts ≡ false
-  no-off [] h = refl
-  no-off (T.Scalar x at ∷ ts) h = no-off ts h
-  no-off (T.Property x q at ∷ ts) h = absurd (both_ways false refl h)
-
   pub sent-properties : (ts : List Target) → are_alike ts ≡ true → list_any (is_property_off n) ts ≡ true → list_all is_property ts ≡ true
   sent-properties [] h g = refl
-  sent-properties (T.Scalar x at ∷ ts) h g = absurd (both_ways (list_any (is_property_off n) ts) (no-off ts h) g)
+  sent-properties (T.Scalar x at ∷ ts) h g = absurd (both_ways (list_any (is_property_off n) ts) (no-off n ts h) g)
   sent-properties (T.Property x q at ∷ ts) h g = through-properties x ts h

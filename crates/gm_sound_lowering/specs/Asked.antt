@@ -1,10 +1,8 @@
 -- What is asked of a program whose image is to be sound, beside its last form and what the passes keep.
 use Rattle.std.specs.Prelude.{slice_get, ◌+◌, ◌≤◌, if◌then◌else◌, ◌≡◌, ◌<◌, ℕ, ◌||◌, length, Bool, true, false, ◌&&◌, List, Option, Some, None}
-use Rattle.gm_value.specs.declared.values.VType.{VType}
 use Rattle.gm_value.specs.declared.values.VType.TheVariants as V
 use Rattle.gm_value.specs.declared.values.Value.{Value}
 use Rattle.gm_value.specs.declared.values.Value.TheVariants.{At}
-use Rattle.gm_value.specs.declared.operations.Op1.{Op1}
 use Rattle.gm_ast.specs.declared.tree.Declaration.{Declaration}
 use Rattle.gm_ast.specs.declared.tree.Sort.TheVariants as Sorts
 use Rattle.gm_ast.specs.Names.{is}
@@ -19,10 +17,9 @@ use Rattle.gm_lowering.specs.Lowered.{name_or}
 use Rattle.gm_forms.specs.Cut.{is_flipped}
 use Rattle.gm_forms.specs.Forms.{may, is_flat}
 use Rattle.gm_forms.specs.Sharing.{are_alike, are_distinct, variables_of}
-use Rattle.gm_forms.specs.Typing.{type_at, type_in, target_type, has_types}
+use Rattle.gm_forms.specs.Typing.{type_at, target_type, has_types}
 use Rattle.gm_forms.specs.Uses.{is_named}
 use Rattle.gm_semantics.specs.Statements.{variable_at}
-use Rattle.gm_image.specs.Sorts.{takes}
 use Rattle.gm_lowering.specs.Layouts.{is_global, is_register, is_scalar_of}
 use Rattle.gm_lowering.specs.Plans.{Way, Picks, way_of, is_here}
 use Rattle.gm_lowering_master.specs.Whole.{HasInterface}
@@ -32,15 +29,10 @@ abbrev pub is_plain_constant : Value → Bool
 is_plain_constant (At (Some n)) = false
 is_plain_constant v = true
 
--- whether an operation takes a type in an image: a cast is from the other type of numbers
-abbrev pub changes_type : Op1 → Option VType → Bool
-changes_type op None = false
-changes_type op (Some t) = takes op t
-
--- whether the constants of an expression may stand in an image, and its casts change types
+-- whether the constants of an expression may stand in an image
 abbrev pub is_plain : List Declaration → Expr → Bool
 is_plain ds (Const v) = is_plain_constant v
-is_plain ds (Unary op at e) = changes_type op (type_in ds e) && is_plain ds e
+is_plain ds (Unary op at e) = is_plain ds e
 is_plain ds (Binary op at a b) = is_plain ds a && is_plain ds b
 is_plain ds (Both a b) = is_plain ds a && is_plain ds b
 is_plain ds (Either a b) = is_plain ds a && is_plain ds b

@@ -1,3 +1,5 @@
 pub mod Asked
+pub mod Entries
+pub mod Ready
 pub mod Laws
 pub mod Types

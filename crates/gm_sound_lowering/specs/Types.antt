@@ -44,7 +44,7 @@ has_its_field p u = not (is_node_value u.role) || has_field p u.variable
 abbrev pub is_placed : Program → Use → Bool
 is_placed p u = suits p.declarations u && has_its_field p u
 
--- what is asked of an expression, whose operators have a key: it has a type, and reads through some iterators, and an edge where one is at hand; its variables stand in the table as they are used; its constants and casts may stand in an image; and its places are in range
+-- what is asked of an expression, whose operators have a key: it has a type, and reads through some iterators, and an edge where one is at hand; its variables stand in the table as they are used; its constants may stand in an image; and its places are in range
 pub record IsAsked (p : Program) (place : Key → Place → ℕ) (its : List ℕ) (edge : Bool) (k : Key) (t : VType) (e : Expr) : Type 0 where
   pub typed : has_type p.declarations t e ≡ true
   pub flat : is_flat its edge e ≡ true
