@@ -1,0 +1,4 @@
+pub mod Parts
+pub mod BatchStates
+pub mod LineRuns
+pub mod BatchSteps
