@@ -3,13 +3,12 @@
 
 use crate::races::HEAD;
 use crate::rows::{all_read, is_row, parts_of, same};
+use crate::types::program_of;
 use gm_ast::accesses::{Access, AccessKind, Operation};
+use gm_ast::forms::Typed;
 use gm_ast::tree::Declaration;
-use gm_parse::parse;
+use gm_base::Stop;
 use gm_race::accesses;
-use gm_token::scan;
-use gm_types::typed;
-use gm_value::Reduce;
 use std::alloc::{AllocError, Global};
 use std::process::Abort;
 use std::str;
@@ -34,20 +33,53 @@ Foreach (n: G.Nodes) { Int k = 0; k = k + 1; If (k > 1) { k += 1; } n.p = k; s =
 Foreach (n: G.Nodes) { While (c) { n.r &&= c; } Do { } While (a > 1); c &= True; } => 2:31 1.0 c OwnRead; 2:36 1.0 r OwnRead; 2:36 1.0 r OwnWrite; 2:44 1.0 c OwnRead; 2:63 1.0 a OwnRead; 2:71 1.0 c PushReduce(And c)
 ";
 
+// Writes an access, behind a mark where it is not the first.
+fn put_access(
+    alloc: Global,
+    said: &mut String,
+    declarations: &[Declaration],
+    access: &Access,
+) -> Result<(), AllocError> {
+    if !said.is_empty() {
+        said.push_str("; ")?;
+    }
+    said.push_str(said_of(alloc, declarations, access)?.as_str())
+}
+
+// Accesses, in their order.
+fn all_said(
+    alloc: Global,
+    declarations: &[Declaration],
+    accesses: &[Access],
+) -> Result<String, AllocError> {
+    let mut said = String::new(alloc);
+    for access in accesses {
+        put_access(alloc, &mut said, declarations, access)?;
+    }
+    Ok(said)
+}
+
+// The accesses of a program, by a call that promises nothing.
+fn listed(alloc: Global, program: &Typed) -> Result<Vec<Access>, AllocError> {
+    accesses(alloc, program)
+}
+
+// The accesses of a program, in their order.
+fn said_of_program(alloc: Global, program: &Typed) -> Result<String, AllocError> {
+    let accesses = listed(alloc, program)?;
+    all_said(alloc, &program.tree().declarations, &accesses)
+}
+
+// The accesses of the program of a text, in their order.
+fn said_of_text(alloc: Global, text: &[u8]) -> Result<String, Stop> {
+    let program = program_of(alloc, text)?;
+    Ok(said_of_program(alloc, &program)?)
+}
+
 // The accesses of a procedure with these statements, in their order.
 fn accesses_of(alloc: Global, statements: &str) -> Result<String, Fail> {
     let text = format!(in alloc; "{HEAD}\n{statements}\n}}")?;
-    let tokens = scan(alloc, text.as_str().as_bytes())?;
-    let program = typed(alloc, parse(alloc, &tokens)?)?;
-    let mut said = String::new(alloc);
-    for access in &accesses(alloc, &program)? {
-        if !said.is_empty() {
-            said.push_str("; ")?;
-        }
-        let line = said_of(alloc, &program.tree().declarations, access)?;
-        said.push_str(&line)?;
-    }
-    Ok(said)
+    Ok(said_of_text(alloc, text.as_str().as_bytes())?)
 }
 
 // The letters of a variable's name.
@@ -58,32 +90,44 @@ fn name_of(declarations: &[Declaration], variable: u32) -> &str {
     }
 }
 
-// A reduction's word.
-fn word_of(reduce: Reduce) -> &'static str {
-    match reduce {
-        Reduce::Sum => "Sum",
-        Reduce::Product => "Product",
-        Reduce::Min => "Min",
-        Reduce::Max => "Max",
-        Reduce::And => "And",
-        Reduce::Or => "Or",
+// Writes the names of variables, each behind a space.
+fn put_names(
+    said: &mut String,
+    declarations: &[Declaration],
+    variables: &[u32],
+) -> Result<(), AllocError> {
+    for variable in variables {
+        said.push_str(" ")?;
+        said.push_str(name_of(declarations, *variable))?;
     }
+    Ok(())
 }
 
 // A reduction's word, and the names of the variables that it reduces to.
 fn operation_of(
     alloc: Global,
     declarations: &[Declaration],
-    kind: &str,
+    word: &str,
     operation: &Operation,
 ) -> Result<String, AllocError> {
-    let mut said = format!(in alloc; "{kind}({}", word_of(operation.reduce))?;
-    for variable in operation.targets.as_slice() {
-        said.push_str(" ")?;
-        said.push_str(name_of(declarations, *variable))?;
-    }
+    let mut said = format!(in alloc; "{word}({:?}", operation.reduce)?;
+    put_names(&mut said, declarations, operation.targets.as_slice())?;
     said.push_str(")")?;
     Ok(said)
+}
+
+// The word of a kind of access.
+fn word_of(kind: &AccessKind) -> &'static str {
+    match kind {
+        AccessKind::OwnRead => "OwnRead",
+        AccessKind::OtherRead => "OtherRead",
+        AccessKind::LevelRead => "LevelRead",
+        AccessKind::OwnWrite => "OwnWrite",
+        AccessKind::StrayWrite => "StrayWrite",
+        AccessKind::Deferred => "Deferred",
+        AccessKind::OwnReduce(_) => "OwnReduce",
+        AccessKind::PushReduce(_) => "PushReduce",
+    }
 }
 
 // A kind of access.
@@ -92,25 +136,11 @@ fn kind_of(
     declarations: &[Declaration],
     kind: &AccessKind,
 ) -> Result<String, AllocError> {
+    let word = word_of(kind);
     match kind {
-        AccessKind::OwnRead => String::from_str(alloc, "OwnRead"),
-        AccessKind::OtherRead => String::from_str(alloc, "OtherRead"),
-        AccessKind::LevelRead => String::from_str(alloc, "LevelRead"),
-        AccessKind::OwnWrite => String::from_str(alloc, "OwnWrite"),
-        AccessKind::StrayWrite => String::from_str(alloc, "StrayWrite"),
-        AccessKind::Deferred => String::from_str(alloc, "Deferred"),
-        AccessKind::OwnReduce(operation) => operation_of(
-            alloc,
-            declarations,
-            "OwnReduce",
-            operation,
-        ),
-        AccessKind::PushReduce(operation) => operation_of(
-            alloc,
-            declarations,
-            "PushReduce",
-            operation,
-        ),
+        AccessKind::OwnReduce(operation) => operation_of(alloc, declarations, word, operation),
+        AccessKind::PushReduce(operation) => operation_of(alloc, declarations, word, operation),
+        _ => String::from_str(alloc, word),
     }
 }
 

@@ -8,8 +8,9 @@ use std::test::Fail;
 const HEAD: &str =
     "Procedure f(G: Graph, a: Int, b: Long, c: Bool, s: Node, v: N_P<Int>, w: E_P<Int>; p: N_P<Int>, q: N_P<Int>, r: N_P<Bool>): Int {";
 
-// C1: loops of a sequential phase run over all nodes.
-const SEQUENTIAL: &str = "
+// All of them, rule by rule.
+const STATEMENTS: &str = "
+# C1: loops of a sequential phase run over all nodes.
 Foreach (n: s.Nbrs) { } => C1 at 2:13
 For (n: s.OutNbrs) { } => C1 at 2:9
 a = Sum(n: s.InNbrs) {1}; => C1 at 2:12
@@ -24,10 +25,7 @@ For (n: G.Nodes) { Foreach (t: n.Nbrs) { } } => C1 at 2:32
 For (n: G.Nodes) (Count(t: n.Nbrs) > 0) { } => C1 at 2:28
 Foreach (n: G.Nodes) { } For (m: G.Nodes) { } a = Count(k: G.Nodes); => accepted
 For (n: G.Nodes) { Foreach (m: G.Nodes) { m.p = 1; } } => accepted
-";
-
-// C2: loops directly in parallel code run over neighbours of the outer iterator.
-const PARALLEL: &str = "
+# C2: loops directly in parallel code run over neighbours of the outer iterator.
 Foreach (n: G.Nodes) { Foreach (m: G.Nodes) { } } => C2 at 2:36
 Foreach (n: G.Nodes) { n.p = Sum(m: G.Nodes) {m.v}; } => C2 at 2:37
 Foreach (n: G.Nodes) { Foreach (t: s.Nbrs) { } } => C2 at 2:36
@@ -45,10 +43,7 @@ InBFS (n: G.Nodes From s) (Count(t: s.Nbrs) > 0) { } => C2 at 2:37
 Foreach (n: G.Nodes) { Foreach (t: n.Nbrs) { } n.p = Sum(t: n.InNbrs) {t.v} + Count(t: n.OutNbrs); } => accepted
 a = Sum(n: G.Nodes) {Sum(t: n.Nbrs) {t.v}}; => accepted
 InBFS (n: G.Nodes From s) { Foreach (t: n.Nbrs) { } Foreach (t: n.UpNbrs) { } Foreach (t: n.DownNbrs) { } } => accepted
-";
-
-// C3: no loop stands in an inner loop or reduction.
-const INNER: &str = "
+# C3: no loop stands in an inner loop or reduction.
 Foreach (n: G.Nodes) { Foreach (t: n.Nbrs) { n.p += Count(u: t.Nbrs); } } => C3 at 2:62
 Foreach (n: G.Nodes) { Foreach (t: n.Nbrs) { n.p += Count(u: n.Nbrs); } } => C3 at 2:62
 Foreach (n: G.Nodes) { Foreach (t: n.Nbrs) { n.p += Count(u: G.Nodes); } } => C3 at 2:62
@@ -58,10 +53,7 @@ Foreach (n: G.Nodes) { n.p = Sum(t: n.Nbrs) (Exist(u: t.Nbrs) {u.r}) {1}; } => C
 a = Sum(n: G.Nodes) {Sum(t: n.Nbrs) {Count(u: t.Nbrs)}}; => C3 at 2:47
 Foreach (n: G.Nodes) { Foreach (t: n.Nbrs) { Int k = Count(u: t.Nbrs); } } => C3 at 2:63
 InBFS (n: G.Nodes From s) { Foreach (t: n.Nbrs) { n.p += Count(u: t.UpNbrs); } } => C3 at 2:67
-";
-
-// C4: what stands in a sequential phase alone, or in parallel code alone.
-const PHASES: &str = "
+# C4: what stands in a sequential phase alone, or in parallel code alone.
 Foreach (n: G.Nodes) { While (c) { } } => C4 at 2:24
 Foreach (n: G.Nodes) { Do { } While (c); } => C4 at 2:24
 Foreach (n: G.Nodes) { For (t: n.Nbrs) { } } => C4 at 2:24
@@ -81,10 +73,7 @@ While (c) { s.p <= 1; } => C4 at 2:13
 While (c) { Do { } While (c); For (n: G.Nodes) { InBFS (m: G.Nodes From n) { } } Return 1; } => accepted
 While (c) { G.p = 1; } => accepted
 Foreach (n: G.Nodes) { n.p <= 1; } => accepted
-";
-
-// C5: in parallel code properties and degrees are read through the iterators.
-const READS: &str = "
+# C5: in parallel code properties and degrees are read through the iterators.
 Foreach (n: G.Nodes) { n.p = s.v; } => C5 at 2:30
 Foreach (n: G.Nodes) { n.p = s.Degree(); } => C5 at 2:30
 Foreach (n: G.Nodes) { n.p = s.InDegree(); } => C5 at 2:30
@@ -111,10 +100,7 @@ Foreach (n: G.Nodes) { Foreach (t: n.Nbrs) { n.p += n.v + t.v + n.Degree() + t.I
 G.p = G.v + G.Degree() + G.NumNodes(); => accepted
 Foreach (n: G.Nodes) { s.p += n.v; } => accepted
 Foreach (n: G.Nodes) { n.p = G.NumNodes() + G.NumEdges(); } => accepted
-";
-
-// C6: what stands in an inner body.
-const BODIES: &str = "
+# C6: what stands in an inner body.
 Foreach (n: G.Nodes) { Foreach (t: n.Nbrs) { n.p = 1; } } => C6 at 2:46
 Foreach (n: G.Nodes) { Foreach (t: n.Nbrs) { n.p <= 1 @ n; } } => C6 at 2:46
 Foreach (n: G.Nodes) { Foreach (t: n.Nbrs) { Foreach (u: t.Nbrs) { } } } => C6 at 2:46
@@ -124,10 +110,7 @@ InBFS (n: G.Nodes From s) { Foreach (t: n.Nbrs) { n.p = 1; } } => C6 at 2:51
 Foreach (n: G.Nodes) { Foreach (t: n.Nbrs) { ; { } If (c) { ; } Else { } n.p += 1; Int k; Int m = t.v; k = m; t.q += k; a += 1; s.p += 1; Edge e = t.ToEdge(); } } => accepted
 Foreach (n: G.Nodes) { Foreach (t: n.Nbrs) { If (c) { Int k = 1; k = 2; n.p += k; } } } => accepted
 Foreach (n: G.Nodes) { Foreach (t: n.Nbrs) { n.p++; a++; } } => accepted
-";
-
-// C7: edge properties are read along the way of the message.
-const EDGES: &str = "
+# C7: edge properties are read along the way of the message.
 Foreach (n: G.Nodes) { Foreach (t: n.Nbrs) { Edge e = t.ToEdge(); n.p += t.v + e.w; } } => C7 at 2:80
 Foreach (n: G.Nodes) { Foreach (t: n.Nbrs) { Edge e = t.ToEdge(); n.p += e.w * t.v; } } => C7 at 2:74
 Foreach (n: G.Nodes) { Foreach (t: n.Nbrs) { Edge e = t.ToEdge(); n.p += e.w + t.Degree(); } } => C7 at 2:74
@@ -173,10 +156,7 @@ Foreach (n: G.Nodes) { Foreach (t: n.InNbrs) { Edge e = t.ToEdge(); t.p += n.v; 
 InBFS (n: G.Nodes From s) { Foreach (t: n.DownNbrs) { Edge e = t.ToEdge(); t.p += e.w; } } => accepted
 InBFS (n: G.Nodes From s) { Foreach (t: n.UpNbrs) { Edge e = t.ToEdge(); n.p += e.w; } } => accepted
 Foreach (n: G.Nodes) { Foreach (t: n.Nbrs) { Edge e = t.ToEdge(); Node k = s; k = t; k.p += e.w; } } => accepted
-";
-
-// Argument reductions, which rest on all their values.
-const TUPLES: &str = "
+# Argument reductions, which rest on all their values.
 Foreach (n: G.Nodes) { Foreach (t: n.Nbrs) { Edge e = t.ToEdge(); <t.p; t.q> min= <n.v; e.w>; } } => accepted
 Foreach (n: G.Nodes) { Foreach (t: n.Nbrs) { Edge e = t.ToEdge(); <n.p; n.q> max= <e.w; n.v>; } } => accepted
 Foreach (n: G.Nodes) { Foreach (t: n.InNbrs) { Edge e = t.ToEdge(); <n.p; n.q> max= <t.v; e.w>; } } => accepted
@@ -188,20 +168,14 @@ Foreach (n: G.Nodes) { Foreach (t: n.InNbrs) { Edge e = t.ToEdge(); <t.p; t.q> m
 Foreach (n: G.Nodes) { <n.p; n.q> min= <1; s.v>; } => C5 at 2:44
 Foreach (n: G.Nodes) { <n.p; n.q> min= <1; Count(t: s.Nbrs)>; } => C2 at 2:53
 Foreach (n: G.Nodes) { Foreach (t: n.Nbrs) { <t.p; t.q> min= <1; Count(u: t.Nbrs)>; } } => C3 at 2:75
-";
-
-// C8: levels are asked of the iterator of a search, in its body.
-const LEVELS: &str = "
+# C8: levels are asked of the iterator of a search, in its body.
 Foreach (n: G.Nodes) { Foreach (t: n.UpNbrs) { } } => C8 at 2:36
 Foreach (n: G.Nodes) { n.p = Count(t: n.DownNbrs); } => C8 at 2:39
 a = Sum(n: G.Nodes) {Count(t: n.UpNbrs)}; => C8 at 2:31
 InBFS (n: G.Nodes From s) (Count(t: n.UpNbrs) > 0) { } => C8 at 2:37
 InBFS (n: G.Nodes From s) { } InReverse (Count(t: n.DownNbrs) > 0) { } => C8 at 2:51
 InBFS (n: G.Nodes From s) { n.p = Count(t: n.UpNbrs) + Count(t: n.DownNbrs); } InReverse { Foreach (t: n.DownNbrs) { n.q += 1; } } => accepted
-";
-
-// C9: an edge is asked of the iterator of the inner loop.
-const OWN_EDGES: &str = "
+# C9: an edge is asked of the iterator of the inner loop.
 Foreach (n: G.Nodes) { Edge e = n.ToEdge(); } => C9 at 2:33
 Edge e = s.ToEdge(); => C9 at 2:10
 Foreach (n: G.Nodes) { Foreach (t: n.Nbrs) { Edge e = n.ToEdge(); } } => C9 at 2:55
@@ -211,10 +185,7 @@ InBFS (n: G.Nodes From s) { Edge e = n.ToEdge(); } => C9 at 2:38
 For (n: G.Nodes) { Edge e = n.ToEdge(); } => C9 at 2:29
 Foreach (n: G.Nodes) { Foreach (t: n.Nbrs) { If (c) { Edge e = (t.ToEdge()); n.p += e.w; } } } => accepted
 InBFS (n: G.Nodes From s) { Foreach (t: n.UpNbrs) { Edge e = t.ToEdge(); } } => accepted
-";
-
-// The least place counts, at one place the lower rule.
-const FIRST_FORMS: &str = "
+# The least place counts, at one place the lower rule.
 Foreach (n: G.Nodes) { n.p = Count(t: s.Nbrs); n.q = s.v; While (c) { } } => C2 at 2:39
 Foreach (n: G.Nodes) { n.q = s.v; n.p = Count(t: s.Nbrs); } => C5 at 2:30
 Foreach (n: G.Nodes) { While (s.r) { Foreach (t: s.Nbrs) { } } } => C4 at 2:24
@@ -225,16 +196,5 @@ Foreach (n: G.Nodes) { n.p = s.v; } Foreach (n: s.Nbrs) { } => C5 at 2:30
 
 #[test]
 fn canonical_form(rt: HostRuntime) -> Result<(), Fail> {
-    statements_hold(&rt, HEAD, SEQUENTIAL, 14)?;
-    statements_hold(&rt, HEAD, PARALLEL, 17)?;
-    statements_hold(&rt, HEAD, INNER, 9)?;
-    statements_hold(&rt, HEAD, PHASES, 19)?;
-    statements_hold(&rt, HEAD, READS, 26)?;
-    statements_hold(&rt, HEAD, BODIES, 9)?;
-    statements_hold(&rt, HEAD, EDGES, 45)?;
-    statements_hold(&rt, HEAD, TUPLES, 11)?;
-    statements_hold(&rt, HEAD, LEVELS, 6)?;
-    statements_hold(&rt, HEAD, OWN_EDGES, 9)?;
-    statements_hold(&rt, HEAD, FIRST_FORMS, 6)?;
-    Ok(())
+    statements_hold(&rt, HEAD, STATEMENTS, 171)
 }

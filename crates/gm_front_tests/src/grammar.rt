@@ -1,9 +1,11 @@
 //! Texts and their verdicts, by scanning and parsing.
 
-use crate::rows::{all_read, is_row, parts_of, same};
+use crate::rows::{all_read, is_row, number_of, parts_of, same, sides};
+use crate::tokens::tokens_of;
+use crate::types::tree_of;
 use gm_ast::surface::{SpelledProcedure, SpelledStmt};
-use gm_parse::*;
-use gm_token::{Tokens, scan};
+use gm_base::Stop;
+use gm_token::Tokens;
 use std::alloc::{AllocError, Global};
 use std::process::Abort;
 use std::test::Fail;
@@ -126,17 +128,6 @@ Procedure f(G: Graph) {{{{{{{{{{{{{{{{{{{{{{{{{{{{{{{{{{{{{{{{{{{{{{{{{{{{{{{{{{
 Procedure f(G: Graph) {Do{{{{{{{{{{{{{{{{{{{{{{{{{{{{{{{{{{{{{{{{{{{{{{{{{{{{{{{{{{{{{{{{{ => refused TooDeep at 1:90
 ";
 
-// The same, of several lines.
-const ROWS_OF_LINES: [(&str, &str); 4] = [
-    (
-        "Procedure f(G: Graph) {\n  Foreach (n: G.",
-        "refused Syntax at 2:17",
-    ),
-    ("Procedure f(G: Graph) {\n\n   ?", "refused Syntax at 3:4"),
-    ("", "refused Syntax at 1:1"),
-    ("  \n ", "refused Syntax at 2:2"),
-];
-
 // Argument reductions: a tuple of targets and one of values, each of two entries or more.
 const TUPLES: &str = "
 <x; y> min= <1; 2>; => accepted
@@ -185,15 +176,23 @@ x min= <1; 2>; => refused Syntax at 1:32
 const WHOLE: &str =
     "Procedure f(G: Graph, v: N_P<Int>(G); m: E_P<Long>): Int { Int a = 1; Bool b, c; G.p = v.q + 2; a <= 3 @ n; a min= 4 @ n; <a; G.p, b> max= <a + 1; (a < b), 2> @ n; a++; Foreach (n: G.Nodes)(n.v > 1) { ; } If (a == 1) a = 2; Else a = 3; While (!b) { } Do { } While (a < b); InBFS (n: G.Nodes From r)(a) { } InReverse (b) { } Return (Int) Sum(t: n.Nbrs)(True){t.x % 2} ? -INF : Count(t: n.UpNbrs); }";
 
+// Whether tokens have a tree, without it.
+fn judge(alloc: Global, tokens: &Tokens) -> Result<(), Stop> {
+    match tree_of(alloc, tokens) {
+        Ok(_) => Ok(()),
+        Err(stop) => Err(stop),
+    }
+}
+
 fn verdict_of_tokens(alloc: Global, tokens: &Tokens) -> Result<String, AllocError> {
-    match parse(alloc, tokens) {
+    match judge(alloc, tokens) {
         Err(stop) => format!(in alloc; "{stop}"),
-        Ok(_tree) => String::from_str(alloc, "accepted"),
+        Ok(()) => String::from_str(alloc, "accepted"),
     }
 }
 
 fn verdict(alloc: Global, text: &[u8]) -> Result<String, AllocError> {
-    match scan(alloc, text) {
+    match tokens_of(alloc, text) {
         Err(stop) => format!(in alloc; "{stop}"),
         Ok(tokens) => verdict_of_tokens(alloc, &tokens),
     }
@@ -239,10 +238,23 @@ fn texts(rt: HostRuntime) -> Result<(), Fail> {
         }
     }
     all_read(&rt, read, 112);
-    for (text, want) in ROWS_OF_LINES {
-        check(&rt, text, want)?;
-    }
     Ok(())
+}
+
+#[test]
+fn texts_of_lines(rt: HostRuntime) -> Result<(), Fail> {
+    check(
+        &rt,
+        "Procedure f(G: Graph) {\n  Foreach (n: G.",
+        "refused Syntax at 2:17",
+    )?;
+    check(
+        &rt,
+        "Procedure f(G: Graph) {\n\n   ?",
+        "refused Syntax at 3:4",
+    )?;
+    check(&rt, "", "refused Syntax at 1:1")?;
+    check(&rt, "  \n ", "refused Syntax at 2:2")
 }
 
 // Compares the verdict of a row of statements.
@@ -265,38 +277,48 @@ fn tuples(rt: HostRuntime) -> Result<(), Fail> {
     Ok(())
 }
 
+// What stands before a piece, the piece, how often it stands, and what stands behind it.
+const DEPTHS: &str = "
+|{|65| => refused TooDeep at 1:88
+|{|64|; => refused TooDeep at 1:88
+|{|64|) => refused Syntax at 1:88
+|While(a)|63|;} => accepted
+|While(a)|64|;} => refused TooDeep at 1:536
+|Foreach(n:G.Nodes)|63|;} => accepted
+|Foreach(n:G.Nodes)|64|{}} => refused TooDeep at 1:1176
+|If(a)|63|;Else;} => accepted
+|If(a)|64|;} => refused TooDeep at 1:344
+Do|{|65| => refused TooDeep at 1:90
+x=|-|255|1;} => accepted
+x=|-|256|1;} => refused TooDeep at 1:282
+x=|-|256|;} => refused Syntax at 1:282
+x=|1+|128|1;} => refused TooDeep at 1:282
+<x;y>min=<|-|255|1;2>;} => accepted
+<x;y>min=<|-|256|1;2>;} => refused TooDeep at 1:290
+<x;y>min=<1;|-|256|1>;} => refused TooDeep at 1:292
+<x;y>min=<1;1|,1+1|100|>;} => accepted
+";
+
+// Compares the verdict of a row of pieces.
+fn check_depth(rt: &(impl Abort + AllocGlobal), row: &str) -> Result<(), Fail> {
+    let (text, want) = parts_of(row)?;
+    let (front, rest) = sides(text, "|")?;
+    let (piece, rest) = sides(rest, "|")?;
+    let (count, end) = sides(rest, "|")?;
+    let text = repeated(rt.alloc(), front, piece, number_of(count)?, end)?;
+    check(rt, text.as_str(), want)
+}
+
 #[test]
 fn depths(rt: HostRuntime) -> Result<(), Fail> {
-    let rows: [(&str, &str, usize, &str, &str); 18] = [
-        ("", "{", 65, "", "refused TooDeep at 1:88"),
-        ("", "{", 64, ";", "refused TooDeep at 1:88"),
-        ("", "{", 64, ")", "refused Syntax at 1:88"),
-        ("", "While(a)", 63, ";}", "accepted"),
-        ("", "While(a)", 64, ";}", "refused TooDeep at 1:536"),
-        ("", "Foreach(n:G.Nodes)", 63, ";}", "accepted"),
-        (
-            "",
-            "Foreach(n:G.Nodes)",
-            64,
-            "{}}",
-            "refused TooDeep at 1:1176",
-        ),
-        ("", "If(a)", 63, ";Else;}", "accepted"),
-        ("", "If(a)", 64, ";}", "refused TooDeep at 1:344"),
-        ("Do", "{", 65, "", "refused TooDeep at 1:90"),
-        ("x=", "-", 255, "1;}", "accepted"),
-        ("x=", "-", 256, "1;}", "refused TooDeep at 1:282"),
-        ("x=", "-", 256, ";}", "refused Syntax at 1:282"),
-        ("x=", "1+", 128, "1;}", "refused TooDeep at 1:282"),
-        ("<x;y>min=<", "-", 255, "1;2>;}", "accepted"),
-        ("<x;y>min=<", "-", 256, "1;2>;}", "refused TooDeep at 1:290"),
-        ("<x;y>min=<1;", "-", 256, "1>;}", "refused TooDeep at 1:292"),
-        ("<x;y>min=<1;1", ",1+1", 100, ">;}", "accepted"),
-    ];
-    for (front, piece, count, end, expected) in &rows {
-        let text = repeated(rt.alloc(), front, piece, *count, end)?;
-        check(&rt, text.as_str(), expected)?;
+    let mut read = 0usize;
+    for row in DEPTHS.lines() {
+        if is_row(row) {
+            check_depth(&rt, row)?;
+            read = read.saturating_add(1);
+        }
     }
+    all_read(&rt, read, 18);
     Ok(())
 }
 
@@ -319,7 +341,7 @@ fn check_cut(rt: &(impl Abort + AllocGlobal), col: usize) -> Result<(), Fail> {
 #[test]
 fn cuts(rt: HostRuntime) -> Result<(), Fail> {
     check(&rt, WHOLE, "accepted")?;
-    let tokens = scan(rt.alloc(), WHOLE.as_bytes())?;
+    let tokens = tokens_of(rt.alloc(), WHOLE.as_bytes())?;
     for i in 0..tokens.len() {
         check_cut(&rt, tokens.place(i).col as usize)?;
     }
@@ -344,29 +366,51 @@ fn layers(tree: &SpelledProcedure) -> usize {
     }
 }
 
+// How many property types are around the type that the first statement declares.
+fn layers_in(alloc: Global, tokens: &Tokens) -> Result<usize, Stop> {
+    match tree_of(alloc, tokens) {
+        Ok(tree) => Ok(layers(&tree)),
+        Err(stop) => Err(stop),
+    }
+}
+
+// The same of a text.
+fn layers_of(alloc: Global, text: &str) -> Result<usize, Stop> {
+    let tokens = tokens_of(alloc, text.as_bytes())?;
+    layers_in(alloc, &tokens)
+}
+
 // Compares how many property types a text with so many has.
 fn check_layers(rt: &(impl Abort + AllocGlobal), depth: usize) -> Result<(), Fail> {
     let text = nested(rt.alloc(), depth, depth)?;
-    let tokens = scan(rt.alloc(), text.as_str().as_bytes())?;
-    let tree = parse(rt.alloc(), &tokens)?;
-    all_read(rt, layers(&tree), depth);
+    all_read(rt, layers_of(rt.alloc(), text.as_str())?, depth);
     Ok(())
+}
+
+// Compares the verdict on a text with such a declaration.
+fn check_nested(
+    rt: &(impl Abort + AllocGlobal),
+    depth: usize,
+    ends: usize,
+    want: &str,
+) -> Result<(), Fail> {
+    let text = nested(rt.alloc(), depth, ends)?;
+    check(rt, text.as_str(), want)
 }
 
 #[test]
 fn nested_types(rt: HostRuntime) -> Result<(), Fail> {
-    for depth in [0, 1, 2, 257, 2_000] {
-        check_layers(&rt, depth)?;
-    }
-    let rows: [(usize, usize, &str); 4] = [
-        (1, 0, "refused Syntax at 1:32"),
-        (257, 256, "refused Syntax at 1:1312"),
-        (2_000, 1_999, "refused Syntax at 1:10027"),
-        (2_000, 2_001, "refused Syntax at 1:10027"),
-    ];
-    for (depth, ends, want) in &rows {
-        let text = nested(rt.alloc(), *depth, *ends)?;
-        check(&rt, text.as_str(), want)?;
-    }
-    Ok(())
+    check_layers(&rt, 0)?;
+    check_layers(&rt, 1)?;
+    check_layers(&rt, 2)?;
+    check_layers(&rt, 257)?;
+    check_layers(&rt, 2_000)
+}
+
+#[test]
+fn unfinished_types(rt: HostRuntime) -> Result<(), Fail> {
+    check_nested(&rt, 1, 0, "refused Syntax at 1:32")?;
+    check_nested(&rt, 257, 256, "refused Syntax at 1:1312")?;
+    check_nested(&rt, 2_000, 1_999, "refused Syntax at 1:10027")?;
+    check_nested(&rt, 2_000, 2_001, "refused Syntax at 1:10027")
 }

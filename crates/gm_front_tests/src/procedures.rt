@@ -1,6 +1,6 @@
 //! Procedures that break a rule of types in their parameters or by their result, and whole ones that keep all.
 
-use crate::types::{procedures_answer, procedures_hold};
+use crate::types::{procedure_holds, procedures_hold};
 use std::test::Fail;
 
 const PARAMETERS: &str = "
@@ -70,25 +70,49 @@ Procedure h(G: Graph, s: Node, p: N_P<Int>) : Bool { Return s != NIL && p0; } =>
 Procedure f(G: Graph) { Int x = True; } => T9 at 1:31
 ";
 
-// The same, of several lines.
-const RESULTS_OF_LINES: [(&str, &str); 3] = [
-    (
-        "Procedure f(G: Graph): Int {\n  Return 1;\n  Return True; }",
-        "T14 at 3:3",
-    ),
-    (
-        "Procedure sssp(G: Graph, root: Node, len: E_P<Int>; dist: N_P<Int>) {\n  N_P<Int> next;\n  N_P<Bool> on;\n  Bool fin = False;\n  G.dist = (G == root) ? 0 : INF;\n  G.next = G.dist;\n  G.on = (G == root);\n  While (!fin) {\n    Foreach (n: G.Nodes) (n.on) {\n      Foreach (s: n.Nbrs) {\n        Edge e = s.ToEdge();\n        s.next min= n.dist + e.len;\n      }\n    }\n    G.on = G.next < G.dist;\n    G.dist = G.next;\n    fin = !Exist(n: G.Nodes) {n.on};\n  }\n}",
-        "accepted",
-    ),
-    (
-        "Procedure f(G: Graph; p: N_P<Int>) {\n  Foreach (n: G.Nodes) {\n    n.p = Sum(t: n.InNbrs) {t.p && True};\n  }\n}",
-        "T8 at 3:33",
-    ),
-];
+#[test]
+fn parameters(rt: HostRuntime) -> Result<(), Fail> {
+    procedures_hold(&rt, PARAMETERS, 42)
+}
 
 #[test]
-fn procedures(rt: HostRuntime) -> Result<(), Fail> {
-    procedures_hold(&rt, PARAMETERS, 42)?;
-    procedures_hold(&rt, RESULTS, 13)?;
-    procedures_answer(&rt, &RESULTS_OF_LINES)
+fn results(rt: HostRuntime) -> Result<(), Fail> {
+    procedures_hold(&rt, RESULTS, 13)
+}
+
+// The shortest paths from a node.
+const SHORTEST_PATHS: &str = "\
+Procedure sssp(G: Graph, root: Node, len: E_P<Int>; dist: N_P<Int>) {
+  N_P<Int> next;
+  N_P<Bool> on;
+  Bool fin = False;
+  G.dist = (G == root) ? 0 : INF;
+  G.next = G.dist;
+  G.on = (G == root);
+  While (!fin) {
+    Foreach (n: G.Nodes) (n.on) {
+      Foreach (s: n.Nbrs) {
+        Edge e = s.ToEdge();
+        s.next min= n.dist + e.len;
+      }
+    }
+    G.on = G.next < G.dist;
+    G.dist = G.next;
+    fin = !Exist(n: G.Nodes) {n.on};
+  }
+}";
+
+#[test]
+fn results_of_lines(rt: HostRuntime) -> Result<(), Fail> {
+    procedure_holds(
+        &rt,
+        "Procedure f(G: Graph): Int {\n  Return 1;\n  Return True; }",
+        "T14 at 3:3",
+    )?;
+    procedure_holds(&rt, SHORTEST_PATHS, "accepted")?;
+    procedure_holds(
+        &rt,
+        "Procedure f(G: Graph; p: N_P<Int>) {\n  Foreach (n: G.Nodes) {\n    n.p = Sum(t: n.InNbrs) {t.p && True};\n  }\n}",
+        "T8 at 3:33",
+    )
 }

@@ -8,8 +8,9 @@ use std::test::Fail;
 pub const HEAD: &str =
     "Procedure f(G: Graph, a: Int, b: Long, c: Bool, s: Node, v: N_P<Int>, w: E_P<Int>; p: N_P<Int>, q: N_P<Int>, r: N_P<Bool>): Int {";
 
-// R1: a neighbour's value is read where each node's own may change.
-const OTHERS: &str = "
+// All of them, rule by rule.
+const STATEMENTS: &str = "
+# R1: a neighbour's value is read where each node's own may change.
 Foreach (n: G.Nodes) { n.p = Sum(t: n.Nbrs) {t.p}; } => R1 at 2:46
 Foreach (n: G.Nodes) { n.p = Sum(t: n.OutNbrs) {t.p}; } => R1 at 2:49
 Foreach (n: G.Nodes) { n.p = Max(t: n.InNbrs) {t.p}; } => R1 at 2:48
@@ -40,10 +41,7 @@ InBFS (n: G.Nodes From s) { n.p = 1; } InReverse { n.q = Sum(t: n.Nbrs) {t.p}; }
 InBFS (n: G.Nodes From s) { n.q = Sum(t: n.Nbrs) {t.p}; } InReverse { n.p = 1; } => accepted
 G.p = G.p + 1; => accepted
 s.p = Sum(n: G.Nodes) {n.p}; => accepted
-";
-
-// R2: what others reduce to is read or written in the loop, or what an inner loop reduces to is read in it.
-const PUSHED: &str = "
+# R2: what others reduce to is read or written in the loop, or what an inner loop reduces to is read in it.
 Foreach (n: G.Nodes) { a += n.v; n.p = a; } => R2 at 2:40
 Foreach (n: G.Nodes) { n.p = a; a += n.v; } => R2 at 2:30
 Foreach (n: G.Nodes) { a += a; } => R2 at 2:29
@@ -89,10 +87,7 @@ Foreach (n: G.Nodes) { a += n.v; b += n.v; } => accepted
 Foreach (n: G.Nodes) { s.p += 1; n.q = n.v; } => accepted
 Foreach (n: G.Nodes) { Foreach (t: n.Nbrs) { t.p += t.q; } } => accepted
 For (n: G.Nodes) { a += a; } => accepted
-";
-
-// R3: two operations reduce to one variable, at the one that stands behind.
-const MIXED: &str = "
+# R3: two operations reduce to one variable, at the one that stands behind.
 Foreach (n: G.Nodes) { a += n.v; a *= n.v; } => R3 at 2:34
 Foreach (n: G.Nodes) { a max= n.v; a min= n.v; } => R3 at 2:36
 Foreach (n: G.Nodes) { a++; a max= 3; } => R3 at 2:29
@@ -122,10 +117,7 @@ Foreach (n: G.Nodes) { Int k = 1; k += 1; k *= 2; } => accepted
 Foreach (n: G.Nodes) { Int k = 0; Foreach (t: n.Nbrs) { k += 1; } Foreach (u: n.Nbrs) { k *= 2; } } => accepted
 Foreach (n: G.Nodes) { Foreach (t: n.Nbrs) { Int k = 1; k += 1; k *= 2; n.p += k; } } => accepted
 Foreach (n: G.Nodes) { c &= n.r; c &&= n.r; } => accepted
-";
-
-// R4 and R5: a property or a scalar is written from where it is not the iteration's own.
-const STRAY: &str = "
+# R4 and R5: a property or a scalar is written from where it is not the iteration's own.
 Foreach (n: G.Nodes) { Foreach (t: n.Nbrs) { t.p = 1; } } => R4 at 2:46
 Foreach (n: G.Nodes) { s.p = 1; } => R4 at 2:24
 Foreach (n: G.Nodes) { Foreach (t: n.Nbrs) { s.p = 1; } } => R4 at 2:46
@@ -156,10 +148,7 @@ Foreach (n: G.Nodes) { Node k = n; k = s; } => accepted
 Foreach (n: G.Nodes) { Foreach (t: n.Nbrs) { Int k = 0; k = t.v; n.p += k; } } => accepted
 Foreach (n: G.Nodes) { If (c) { Int k = 0; k = n.v; n.p = k; } } => accepted
 G.p = 1; => accepted
-";
-
-// R6: a write that ends with the loop beside another change, at the one that stands behind.
-const DEFERRED: &str = "
+# R6: a write that ends with the loop beside another change, at the one that stands behind.
 Foreach (n: G.Nodes) { n.p <= 1 @ n; n.p = 2; } => R6 at 2:38
 Foreach (n: G.Nodes) { n.p = 2; n.p <= 1 @ n; } => R6 at 2:33
 Foreach (n: G.Nodes) { n.p <= 1 @ n; n.p += 1; } => R6 at 2:38
@@ -178,10 +167,7 @@ Foreach (n: G.Nodes) { n.p <= 1 @ n; n.p <= 2 @ n; } => accepted
 Foreach (n: G.Nodes) { n.p <= 1 @ n; n.q = 2; } => accepted
 Foreach (n: G.Nodes) { n.p <= 1 @ n; } Foreach (n: G.Nodes) { n.p = 2; } => accepted
 InBFS (n: G.Nodes From s) { n.p <= 1 @ n; } InReverse { n.p = 2; } => accepted
-";
-
-// The least place counts, at one place the lower rule; races are judged before canonical form.
-const LEAST: &str = "
+# The least place counts, at one place the lower rule; races are judged before canonical form.
 Foreach (n: G.Nodes) { a = 1; n.p = Sum(t: n.Nbrs) {t.p}; } => R5 at 2:24
 Foreach (n: G.Nodes) { n.p = Sum(t: n.Nbrs) {t.p}; a = 1; } => R1 at 2:46
 Foreach (n: G.Nodes) { Foreach (t: n.Nbrs) { n.p += 1; t.p += t.p; } } => R1 at 2:63
@@ -197,11 +183,5 @@ Foreach (n: G.Nodes) { If (c) { s.p = 1; } Else { a = 1; } } => R4 at 2:33
 
 #[test]
 fn races(rt: HostRuntime) -> Result<(), Fail> {
-    statements_hold(&rt, HEAD, OTHERS, 30)?;
-    statements_hold(&rt, HEAD, PUSHED, 45)?;
-    statements_hold(&rt, HEAD, MIXED, 29)?;
-    statements_hold(&rt, HEAD, STRAY, 30)?;
-    statements_hold(&rt, HEAD, DEFERRED, 18)?;
-    statements_hold(&rt, HEAD, LEAST, 11)?;
-    Ok(())
+    statements_hold(&rt, HEAD, STATEMENTS, 163)
 }

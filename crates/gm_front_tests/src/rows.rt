@@ -9,11 +9,24 @@ pub(crate) fn is_row(line: &str) -> bool {
     !line.is_empty() && !line.starts_with('#')
 }
 
+/// The two sides of a mark.
+pub(crate) fn sides<'a>(text: &'a str, mark: &str) -> Result<(&'a str, &'a str), Fail> {
+    match text.split_once(mark) {
+        Some(parts) => Ok(parts),
+        None => Err(Fail::from("a row without its parts")),
+    }
+}
+
 /// What a row gives, and what it wants.
 pub(crate) fn parts_of(line: &str) -> Result<(&str, &str), Fail> {
-    match line.split_once(" => ") {
-        Some(parts) => Ok(parts),
-        None => Err(Fail::from("a row without what is wanted")),
+    sides(line, " => ")
+}
+
+/// A number of a row.
+pub(crate) fn number_of(text: &str) -> Result<usize, Fail> {
+    match text.parse::<usize>() {
+        Ok(number) => Ok(number),
+        Err(_) => Err(Fail::from("a row without its number")),
     }
 }
 

@@ -2,9 +2,12 @@
 //! the rule that is broken with its place. The answers were worked out by hand from the rules in `docs/LANGUAGE.md`.
 
 use crate::rows::{all_read, is_row, parts_of, same};
+use crate::tokens::tokens_of;
+use gm_ast::forms::Typed;
+use gm_ast::surface::SpelledProcedure;
 use gm_base::{Refusal, Stop};
 use gm_parse::parse;
-use gm_token::scan;
+use gm_token::Tokens;
 use gm_types::typed;
 use std::alloc::{AllocError, Global};
 use std::process::Abort;
@@ -14,8 +17,9 @@ use std::test::Fail;
 const HEAD: &str =
     "Procedure f(G: Graph, a: Int, b: Long, c: Bool, s: Node, v: N_P<Int>, w: E_P<Int>; p: N_P<Int>, q: N_P<Long>, r: N_P<Bool>, t: N_P<Node>): Int {";
 
-// T1: names that are not known.
-const UNKNOWN: &str = "
+// All of them, rule by rule.
+const STATEMENTS: &str = "
+# T1: names that are not known.
 a = y; => T1 at 2:5
 y = 1; => T1 at 2:1
 y.p = 1; => T1 at 2:1
@@ -45,10 +49,7 @@ If (y) { } => T1 at 2:5
 Return y; => T1 at 2:8
 a = c ? y : True; => T1 at 2:9
 a = (Int) y; => T1 at 2:11
-";
-
-// Where names are known.
-const SCOPES: &str = "
+# Where names are known.
 Int k = k; => T1 at 2:9
 Edge e = e.ToEdge(); => T1 at 2:10
 N_P<Int>(k) k; => T1 at 2:10
@@ -71,10 +72,7 @@ a = Sum(n: G.Nodes) (n.r) {n.v} + n.v; => T1 at 2:35
 InBFS (n: G.Nodes From n) { } => T1 at 2:24
 InBFS (n: G.Nodes From s) (n.r) { Int k; } InReverse (n.r) { n.p = 1; k = 1; } => T1 at 2:71
 InBFS (n: G.Nodes From s) { } InReverse { } s = n; => T1 at 2:49
-";
-
-// T2: names that are known already.
-const KNOWN: &str = "
+# T2: names that are known already.
 Int a; => T2 at 2:5
 Bool G; => T2 at 2:6
 Node p; => T2 at 2:6
@@ -99,9 +97,6 @@ a = Sum(n: G.Nodes) {Sum(n: n.Nbrs) {1}}; => T2 at 2:26
 c = Sum(c: G.Nodes) {1}; => T9 at 2:3
 a = Sum(a: G.Nodes) {NIL}; => T8 at 2:5
 Edge a = s.ToEdge(); => T2 at 2:6
-";
-
-const TYPES: &str = "
 # T4: types where they may not stand.
 Graph k; => T4 at 2:1
 DGraph k; => T4 at 2:1
@@ -125,10 +120,7 @@ Node(s) k; => T5 at 2:6
 N_P<Int>(a) k; => T5 at 2:10
 N_P<Node(p)>(G) k; => T5 at 2:10
 Foreach (n: G.Nodes) { Edge(n) e = n.ToEdge(); } => T5 at 2:29
-";
-
-// T6: ranges and roots.
-const RANGES: &str = "
+# T6: ranges and roots.
 Foreach (n: s.Nodes) { } => T6 at 2:13
 For (n: v.Nodes) { } => T6 at 2:9
 Foreach (n: G.Nbrs) { } => T6 at 2:13
@@ -149,10 +141,7 @@ InBFS (n: G.Nodes ; G) { } => T6 at 2:21
 InBFS (n: a.Nodes From b) { } => T6 at 2:11
 InBFS (n: G.Nodes ; s) { } => accepted
 b = Sum(n: a.Nbrs) {True}; => T6 at 2:12
-";
-
-// T7: properties and methods.
-const PROPERTIES: &str = "
+# T7: properties and methods.
 a = a.p; => T7 at 2:5
 a = s.a; => T7 at 2:5
 a = s.w; => T7 at 2:5
@@ -190,10 +179,7 @@ a.p = y; => T7 at 2:1
 Foreach (n: G.Nodes) { n.w <= 1 @ n; } => T7 at 2:24
 Foreach (n: G.Nodes) { Edge e = n.ToEdge(); e.p = 1; } => T7 at 2:45
 a.p++; => T7 at 2:1
-";
-
-// Group assignments, in which the graph stands for the node.
-const GROUPS: &str = "
+# Group assignments, in which the graph stands for the node.
 G.p = G.v + G.Degree() * G.InDegree() - G.NumNbrs(); G.q = G.NumNodes(); G.t = G; G.r = G == s && !G.r; => accepted
 G.p = v; => T7 at 2:7
 G.p = G.w; => T7 at 2:7
@@ -210,10 +196,7 @@ G.r &&= True; => T7 at 2:1
 G.p = Sum(n: G.Nodes) (n != G) {n.v * G.v}; => accepted
 G.p = G.v; a = G.v; => T7 at 2:16
 G.t = G.ToEdge(); => T7 at 2:7
-";
-
-// T8: operands.
-const OPERANDS: &str = "
+# T8: operands.
 a = a + True; => T8 at 2:7
 a = c - a; => T8 at 2:7
 a = s * 2; => T8 at 2:7
@@ -254,10 +237,7 @@ a = (a + True) + 1; => T8 at 2:8
 a = a + True + y; => T8 at 2:7
 a = (y + True) + (a + True); => T1 at 2:6
 b = Sum(n: G.Nodes) (1) {True}; => T10 at 2:22
-";
-
-// Literals and INF.
-const LITERALS: &str = "
+# Literals and INF.
 a = 2147483647; a = -2147483647; a = INF; a = +INF; a = -INF; a = -(INF); => accepted
 a = 2147483648; => T8 at 2:5
 a = -2147483648; => T8 at 2:6
@@ -297,10 +277,7 @@ c = INF; => T9 at 2:3
 s = 0; => T9 at 2:3
 c = 3000000000; => T9 at 2:3
 b = -9223372036854775808; => NumberTooLarge at 2:6
-";
-
-// T9: values and their targets.
-const VALUES: &str = "
+# T9: values and their targets.
 a = True; => T9 at 2:3
 a = b; => T9 at 2:3
 b = a; b = s.v; a = s.v; => accepted
@@ -353,10 +330,7 @@ c &&= 1; => T9 at 2:3
 c |= a; => T9 at 2:3
 a &&= True; => T9 at 2:3
 s += 1; => T9 at 2:3
-";
-
-// T10: conditions.
-const CONDITIONS: &str = "
+# T10: conditions.
 If (a) { } => T10 at 2:5
 If ((a)) { } => T10 at 2:5
 If (a + 1) { } => T10 at 2:5
@@ -384,10 +358,7 @@ a = 1 ? 1 : True; => T10 at 2:5
 If (1 ? 2 : 3) { } => T10 at 2:5
 If (c ? 1 : True) { } => T8 at 2:7
 Foreach (n: G.Nodes) { Edge e = n.ToEdge(); If (e) { } } => T10 at 2:49
-";
-
-// T11: reductions and their targets.
-const REDUCTIONS: &str = "
+# T11: reductions and their targets.
 c += True; => T11 at 2:3
 c *= c; => T11 at 2:3
 c min= False; => T11 at 2:3
@@ -405,9 +376,6 @@ s.r++; => T11 at 2:4
 s.t++; => T11 at 2:4
 p++; => T11 at 2:2
 a++; b++; s.p++; s.q++; => accepted
-";
-
-const TARGETS: &str = "
 # T12: targets that may not be assigned.
 Foreach (n: G.Nodes) { n = s; } => T12 at 2:24
 For (n: G.Nodes) { n = s; } => T12 at 2:20
@@ -444,10 +412,7 @@ Foreach (n: G.Nodes) { } a += 1 @ n; => T1 at 2:35
 Foreach (n: G.Nodes) { Foreach (m: n.Nbrs) { m.p += 1 @ n; m.q min= 1 @ m; } n.p <= 1 @ n; } => accepted
 For (n: G.Nodes) { a += 1 @ n; } InBFS (n: G.Nodes From s) { a += 1 @ n; } InReverse { a += 1 @ n; } => accepted
 a += True @ s; => T9 at 2:3
-";
-
-// Argument reductions.
-const TUPLES: &str = "
+# Argument reductions.
 <a; s> min= <1; s>; => accepted
 <s.p; s.q, s.r, s.t> max= <a; a, c, NIL>; => accepted
 <b; a> min= <a; Count(n: G.Nodes)>; => accepted
@@ -495,10 +460,7 @@ Foreach (n: G.Nodes) { Edge e = n.ToEdge(); <e.w; e.w> min= <1; 2>; } => T12 at 
 # T13: the name after @ is no iterator around the statement.
 <a; b> min= <1; 2> @ s; => T13 at 2:22
 <a; b> min= <1; True> @ s; => T9 at 2:8
-";
-
-// T14: values that are returned.
-const RETURNS: &str = "
+# T14: values that are returned.
 Return 1; => accepted
 Return a; Return INF; Return c ? a : 2; => accepted
 Return; => T14 at 2:1
@@ -509,10 +471,7 @@ Return 2147483648; => T8 at 2:8
 Return b + 2147483648; => T14 at 2:1
 Return a + True; => T8 at 2:10
 Foreach (n: G.Nodes) { Edge e = n.ToEdge(); Return e; } => T14 at 2:45
-";
-
-// A second violation before, and a second one after.
-const SEVERAL: &str = "
+# A second violation before, and a second one after.
 a = y; a = z; => T1 at 2:5
 a = True + y; a = True; => T1 at 2:12
 a = True; Int a; => T9 at 2:3
@@ -545,20 +504,29 @@ Do { c++; } While (1); => T11 at 2:7
 E_P<Edge> a; => T4 at 2:1
 ";
 
-// The same, of several lines.
-const SEVERAL_OF_LINES: [(&str, &str); 2] = [
-    (
-        "a = 1;\n  Foreach (n: G.Nodes) {\n    n.p = n.v + n.r;\n  }",
-        "T8 at 4:15",
-    ),
-    ("If (c) {\n  a = 1;\n} Else {\n\n  a = NIL; }", "T9 at 6:5"),
-];
+/// The tree of tokens, by a call that promises nothing.
+pub(crate) fn tree_of(alloc: Global, tokens: &Tokens) -> Result<SpelledProcedure, Stop> {
+    parse(alloc, tokens)
+}
 
+// The tree of a text.
+fn spelled(alloc: Global, text: &[u8]) -> Result<SpelledProcedure, Stop> {
+    let tokens = tokens_of(alloc, text)?;
+    tree_of(alloc, &tokens)
+}
+
+/// The program of a text, by scanning, parsing and typing.
+pub(crate) fn program_of(alloc: Global, text: &[u8]) -> Result<Typed, Stop> {
+    let procedure = spelled(alloc, text)?;
+    typed(alloc, procedure)
+}
+
+// Whether a text has a program, without it.
 fn judge(alloc: Global, text: &[u8]) -> Result<(), Stop> {
-    let tokens = scan(alloc, text)?;
-    let procedure = parse(alloc, &tokens)?;
-    typed(alloc, procedure)?;
-    Ok(())
+    match program_of(alloc, text) {
+        Ok(_) => Ok(()),
+        Err(stop) => Err(stop),
+    }
 }
 
 fn verdict(alloc: Global, text: &[u8]) -> Result<String, AllocError> {
@@ -569,22 +537,21 @@ fn verdict(alloc: Global, text: &[u8]) -> Result<String, AllocError> {
     }
 }
 
-// Compares the answer of a procedure.
-fn procedure_holds(rt: &(impl Abort + AllocGlobal), text: &str, want: &str) -> Result<(), Fail> {
+/// Compares the answer of a procedure.
+pub(crate) fn procedure_holds(
+    rt: &(impl Abort + AllocGlobal),
+    text: &str,
+    want: &str,
+) -> Result<(), Fail> {
     let answer = verdict(rt.alloc(), text.as_bytes())?;
     same(rt, answer.as_str(), want, text);
     Ok(())
 }
 
-/// Compares the answers of procedures.
-pub(crate) fn procedures_answer(
-    rt: &(impl Abort + AllocGlobal),
-    rows: &[(&str, &str)],
-) -> Result<(), Fail> {
-    for (text, want) in rows {
-        procedure_holds(rt, text, want)?;
-    }
-    Ok(())
+// The same of a row.
+fn procedure_row_holds(rt: &(impl Abort + AllocGlobal), row: &str) -> Result<(), Fail> {
+    let (text, want) = parts_of(row)?;
+    procedure_holds(rt, text, want)
 }
 
 /// Compares the answers of the procedures of so many rows.
@@ -596,8 +563,7 @@ pub(crate) fn procedures_hold(
     let mut read = 0usize;
     for line in rows.lines() {
         if is_row(line) {
-            let (text, want) = parts_of(line)?;
-            procedure_holds(rt, text, want)?;
+            procedure_row_holds(rt, line)?;
             read = read.saturating_add(1);
         }
     }
@@ -622,13 +588,18 @@ fn statement_holds(
     Ok(())
 }
 
+// The same of a row.
+fn statement_row_holds(rt: &(impl Abort + AllocGlobal), row: &str) -> Result<(), Fail> {
+    let (statements, want) = parts_of(row)?;
+    statement_holds(rt, statements, want)
+}
+
 // Compares the answers of the statements of so many rows.
 fn statements_hold(rt: &(impl Abort + AllocGlobal), rows: &str, count: usize) -> Result<(), Fail> {
     let mut read = 0usize;
     for line in rows.lines() {
         if is_row(line) {
-            let (statements, want) = parts_of(line)?;
-            statement_holds(rt, statements, want)?;
+            statement_row_holds(rt, line)?;
             read = read.saturating_add(1);
         }
     }
@@ -638,24 +609,19 @@ fn statements_hold(rt: &(impl Abort + AllocGlobal), rows: &str, count: usize) ->
 
 #[test]
 fn texts(rt: HostRuntime) -> Result<(), Fail> {
-    statements_hold(&rt, UNKNOWN, 29)?;
-    statements_hold(&rt, SCOPES, 22)?;
-    statements_hold(&rt, KNOWN, 24)?;
-    statements_hold(&rt, TYPES, 21)?;
-    statements_hold(&rt, RANGES, 20)?;
-    statements_hold(&rt, PROPERTIES, 37)?;
-    statements_hold(&rt, GROUPS, 16)?;
-    statements_hold(&rt, OPERANDS, 40)?;
-    statements_hold(&rt, LITERALS, 39)?;
-    statements_hold(&rt, VALUES, 52)?;
-    statements_hold(&rt, CONDITIONS, 27)?;
-    statements_hold(&rt, REDUCTIONS, 17)?;
-    statements_hold(&rt, TARGETS, 34)?;
-    statements_hold(&rt, TUPLES, 42)?;
-    statements_hold(&rt, RETURNS, 10)?;
-    statements_hold(&rt, SEVERAL, 30)?;
-    for (statements, want) in SEVERAL_OF_LINES {
-        statement_holds(&rt, statements, want)?;
-    }
-    Ok(())
+    statements_hold(&rt, STATEMENTS, 460)
+}
+
+#[test]
+fn texts_of_lines(rt: HostRuntime) -> Result<(), Fail> {
+    statement_holds(
+        &rt,
+        "a = 1;\n  Foreach (n: G.Nodes) {\n    n.p = n.v + n.r;\n  }",
+        "T8 at 4:15",
+    )?;
+    statement_holds(
+        &rt,
+        "If (c) {\n  a = 1;\n} Else {\n\n  a = NIL; }",
+        "T9 at 6:5",
+    )
 }

@@ -1,16 +1,30 @@
 //! Verdicts on texts, and tables of them.
 
 use crate::rows::{all_read, is_row, parts_of, same};
+use gm_ast::forms::Checked;
 use gm_base::Stop;
 use gm_canon::verdict;
 use std::alloc::{AllocError, Global};
 use std::process::Abort;
 use std::test::Fail;
 
+// The program of a text that is accepted, by a call that promises nothing.
+fn checked(alloc: Global, text: &[u8]) -> Result<Checked, Stop> {
+    verdict(alloc, text)
+}
+
+// The verdict on a text, without its program. (The program is dropped here, so that no other function has to prove it.)
+fn judge(alloc: Global, text: &[u8]) -> Result<(), Stop> {
+    match checked(alloc, text) {
+        Ok(_) => Ok(()),
+        Err(stop) => Err(stop),
+    }
+}
+
 // What is said of a text: that it is accepted, or the rule that it breaks with its place.
 fn said_of(alloc: Global, text: &[u8]) -> Result<String, AllocError> {
-    match verdict(alloc, text) {
-        Ok(_) => String::from_str(alloc, "accepted"),
+    match judge(alloc, text) {
+        Ok(()) => String::from_str(alloc, "accepted"),
         Err(Stop::Refused(refusal)) => format!(in alloc; "{} at {}", refusal.rule, refusal.place),
         Err(stop) => format!(in alloc; "{stop}"),
     }

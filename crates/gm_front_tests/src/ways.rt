@@ -90,16 +90,28 @@ fn assign(variable: u32, value: Expr) -> Stmt {
     }
 }
 
-// Adds a value to a node's output.
-fn add(alloc: Global, owner: u32, value: Expr) -> Result<Stmt, AllocError> {
+// The output of a node as the one target of a reduction.
+fn output(alloc: Global, owner: u32) -> Result<Vec<Target>, AllocError> {
     let mut targets = Vec::new(alloc);
     targets.push(Target::Property {
         owner,
         property: OUTPUT,
         place: at(1),
     })?;
+    Ok(targets)
+}
+
+// One value.
+fn one(alloc: Global, value: Expr) -> Result<Vec<Expr>, AllocError> {
     let mut values = Vec::new(alloc);
     values.push(value)?;
+    Ok(values)
+}
+
+// Adds a value to a node's output.
+fn add(alloc: Global, owner: u32, value: Expr) -> Result<Stmt, AllocError> {
+    let values = one(alloc, value)?;
+    let targets = output(alloc, owner)?;
     Ok(Stmt::Reduce {
         key: KEY,
         total: TotalKey {
@@ -133,9 +145,14 @@ fn head(domain: Domain) -> Head {
     }
 }
 
-// What is found of the reductions of a loop.
+// What is found of the reductions of a loop, by a call that promises nothing.
+fn ways_of(alloc: Global, head: &Head, filter: &Expr, body: &Stmt) -> Result<LoopWays, AllocError> {
+    ways_in_loop(alloc, head, filter, body)
+}
+
+// The same, written out.
 fn found_of(alloc: Global, domain: Domain, filter: &Expr, body: &Stmt) -> Result<String, Fail> {
-    let found = ways_in_loop(alloc, &head(domain), filter, body)?;
+    let found = ways_of(alloc, &head(domain), filter, body)?;
     Ok(format!(in alloc; "{found:?}")?)
 }
 
@@ -159,18 +176,49 @@ fn wanted(alloc: Global, ways: Vec<Way>, col: Option<u32>) -> Result<String, All
     format!(in alloc; "{ways:?}")
 }
 
+// Statements and one more. (They are handed over: what a caller still holds is dropped at each of its `?`, and proved so.)
+fn with(stmts: Vec<Stmt>, stmt: Stmt) -> Result<Vec<Stmt>, AllocError> {
+    let mut stmts = stmts;
+    stmts.push(stmt)?;
+    Ok(stmts)
+}
+
+// Statements and a reduction to a node's output.
+fn with_sum(
+    alloc: Global,
+    stmts: Vec<Stmt>,
+    owner: u32,
+    value: Expr,
+) -> Result<Vec<Stmt>, AllocError> {
+    with(stmts, add(alloc, owner, value)?)
+}
+
+// Statements and one under a condition.
+fn with_test(
+    alloc: Global,
+    stmts: Vec<Stmt>,
+    test: Expr,
+    then: Stmt,
+) -> Result<Vec<Stmt>, AllocError> {
+    with(stmts, when(alloc, test, then)?)
+}
+
+// Three locals without values.
+fn three_declared(alloc: Global) -> Result<Vec<Stmt>, AllocError> {
+    let stmts = with(Vec::new(alloc), declare(FIRST))?;
+    let stmts = with(stmts, declare(SECOND))?;
+    with(stmts, declare(THIRD))
+}
+
 // Three locals of which each takes the next one's value, the last one's in a condition, and three reductions.
 fn three_locals(alloc: Global) -> Result<Stmt, AllocError> {
-    let mut stmts = Vec::new(alloc);
-    stmts.push(declare(FIRST))?;
-    stmts.push(declare(SECOND))?;
-    stmts.push(declare(THIRD))?;
-    stmts.push(assign(FIRST, local(SECOND)))?;
-    stmts.push(assign(SECOND, local(THIRD)))?;
-    stmts.push(when(alloc, input(NEIGHBOUR), assign(THIRD, input(NODE)))?)?;
-    stmts.push(add(alloc, NODE, local(FIRST))?)?;
-    stmts.push(add(alloc, NODE, input(NODE))?)?;
-    stmts.push(add(alloc, NEIGHBOUR, input(NODE))?)?;
+    let stmts = three_declared(alloc)?;
+    let stmts = with(stmts, assign(FIRST, local(SECOND)))?;
+    let stmts = with(stmts, assign(SECOND, local(THIRD)))?;
+    let stmts = with_test(alloc, stmts, input(NEIGHBOUR), assign(THIRD, input(NODE)))?;
+    let stmts = with_sum(alloc, stmts, NODE, local(FIRST))?;
+    let stmts = with_sum(alloc, stmts, NODE, input(NODE))?;
+    let stmts = with_sum(alloc, stmts, NEIGHBOUR, input(NODE))?;
     Ok(Stmt::Block(stmts))
 }
 
@@ -193,37 +241,43 @@ fn reads_through_locals(rt: HostRuntime) -> Result<(), Fail> {
     )
 }
 
-// A local with the values of edges, and two reductions.
+// A local with the values of edges.
+fn edge_local(alloc: Global) -> Result<Vec<Stmt>, AllocError> {
+    let stmts = with(Vec::new(alloc), declare(FIRST))?;
+    let stmts = with(stmts, assign(FIRST, weight(20)))?;
+    with(stmts, assign(FIRST, weight(9)))
+}
+
+// The same and two reductions, the first of them under a condition.
 fn edge_reads(alloc: Global) -> Result<Stmt, AllocError> {
-    let mut stmts = Vec::new(alloc);
-    stmts.push(declare(FIRST))?;
-    stmts.push(assign(FIRST, weight(20)))?;
-    stmts.push(assign(FIRST, weight(9)))?;
-    stmts.push(when(alloc, local(FIRST), add(alloc, NEIGHBOUR, weight(12))?)?)?;
-    stmts.push(add(alloc, NODE, weight(5))?)?;
+    let sum = add(alloc, NEIGHBOUR, weight(12))?;
+    let stmts = with_test(alloc, edge_local(alloc)?, local(FIRST), sum)?;
+    let stmts = with_sum(alloc, stmts, NODE, weight(5))?;
     Ok(Stmt::Block(stmts))
+}
+
+// Compares what is found of these reads: the range, the way of the second reduction, and the column of the first read.
+fn check_edges(
+    rt: &(impl Abort + AllocGlobal),
+    domain: Domain,
+    way: Way,
+    col: Option<u32>,
+) -> Result<(), Fail> {
+    let want = wanted(rt.alloc(), vec![in rt.alloc(); Way::Push, way]?, col)?;
+    let body = edge_reads(rt.alloc())?;
+    check(rt, domain, &input(NODE), &body, want.as_str())
 }
 
 #[test]
 fn reads_edges_against_the_way(rt: HostRuntime) -> Result<(), Fail> {
-    let body = edge_reads(rt.alloc())?;
-    // the range, the ways, and the column of the first read
-    let table = [
-        (Domain::OutNbrs, Way::Home, None),
-        (Domain::InNbrs, Way::Pull, Some(9)),
-        (Domain::UpNbrs, Way::Pull, Some(9)),
-        (Domain::DownNbrs, Way::Pull, Some(5)),
-    ];
-    for (domain, way, col) in table {
-        let want = wanted(rt.alloc(), vec![in rt.alloc(); Way::Push, way]?, col)?;
-        check(&rt, domain, &input(NODE), &body, want.as_str())?;
-    }
-    Ok(())
+    check_edges(&rt, Domain::OutNbrs, Way::Home, None)?;
+    check_edges(&rt, Domain::InNbrs, Way::Pull, Some(9))?;
+    check_edges(&rt, Domain::UpNbrs, Way::Pull, Some(9))?;
+    check_edges(&rt, Domain::DownNbrs, Way::Pull, Some(5))
 }
 
-// A body whose six locals rest on one another in a chain, and whose last one reads the neighbour and edges. Of each step,
-// in the order of the text, the local that is written and the one that is read.
-fn chain(alloc: Global, steps: [(u32, u32); 5]) -> Result<Stmt, AllocError> {
+// Six locals, and the steps of a chain.
+fn links(alloc: Global, steps: [(u32, u32); 5]) -> Result<Vec<Stmt>, AllocError> {
     let mut stmts = Vec::new(alloc);
     for variable in [10, 11, 12, 13, 14, 15] {
         stmts.push(declare(variable))?;
@@ -231,10 +285,17 @@ fn chain(alloc: Global, steps: [(u32, u32); 5]) -> Result<Stmt, AllocError> {
     for (written, read) in steps {
         stmts.push(assign(written, local(read)))?;
     }
-    stmts.push(assign(15, input(NEIGHBOUR)))?;
-    stmts.push(assign(15, weight(20)))?;
-    stmts.push(assign(15, weight(9)))?;
-    stmts.push(add(alloc, NODE, local(10))?)?;
+    Ok(stmts)
+}
+
+// A body whose six locals rest on one another in a chain, and whose last one reads the neighbour and edges. Of each step,
+// in the order of the text, the local that is written and the one that is read.
+fn chain(alloc: Global, steps: [(u32, u32); 5]) -> Result<Stmt, AllocError> {
+    let stmts = links(alloc, steps)?;
+    let stmts = with(stmts, assign(15, input(NEIGHBOUR)))?;
+    let stmts = with(stmts, assign(15, weight(20)))?;
+    let stmts = with(stmts, assign(15, weight(9)))?;
+    let stmts = with_sum(alloc, stmts, NODE, local(10))?;
     Ok(Stmt::Block(stmts))
 }
 
@@ -261,15 +322,11 @@ fn reads_through_chains_of_locals(rt: HostRuntime) -> Result<(), Fail> {
 // A local in nested conditions, and what the inner condition's local and the outer one's read, which get their values
 // further down only.
 fn conditions(alloc: Global, inner: Expr, outer: Expr) -> Result<Stmt, AllocError> {
-    let mut stmts = Vec::new(alloc);
-    stmts.push(declare(FIRST))?;
-    stmts.push(declare(SECOND))?;
-    stmts.push(declare(THIRD))?;
     let within = when(alloc, local(SECOND), assign(FIRST, input(NODE)))?;
-    stmts.push(when(alloc, local(THIRD), within)?)?;
-    stmts.push(assign(SECOND, inner))?;
-    stmts.push(assign(THIRD, outer))?;
-    stmts.push(add(alloc, NODE, local(FIRST))?)?;
+    let stmts = with_test(alloc, three_declared(alloc)?, local(THIRD), within)?;
+    let stmts = with(stmts, assign(SECOND, inner))?;
+    let stmts = with(stmts, assign(THIRD, outer))?;
+    let stmts = with_sum(alloc, stmts, NODE, local(FIRST))?;
     Ok(Stmt::Block(stmts))
 }
 
@@ -282,8 +339,8 @@ fn check_conditions(
     way: Way,
     col: Option<u32>,
 ) -> Result<(), Fail> {
-    let body = conditions(rt.alloc(), inner, outer)?;
     let want = wanted(rt.alloc(), vec![in rt.alloc(); way]?, col)?;
+    let body = conditions(rt.alloc(), inner, outer)?;
     check(rt, domain, &input(NODE), &body, want.as_str())
 }
 
