@@ -31,6 +31,8 @@ mod loops;
 #[cfg(test)]
 mod matrix_market;
 #[cfg(test)]
+mod observers;
+#[cfg(test)]
 mod phases;
 #[cfg(test)]
 mod readings;

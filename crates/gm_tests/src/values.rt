@@ -263,6 +263,13 @@ Procedure p(G: Graph; a: Int) { Long l = -2147483649; a = (Int) l; }
 %%
 =>
 fault Overflow at 1:59
+~ casts_to_the_same_type: run - - a=-2147483648 k=9223372036854775807
+Procedure p(G: Graph, a: Int, k: Long; b: Int, c: Long) { b = (Int) a; c = (Long) k; }
+%%
+=>
+b = -2147483648
+c = 9223372036854775807
+turns 0
 ~ cast_before_the_product: run - - a=2147483647
 Procedure p(G: Graph, a: Int; b: Long) { b = (Long) a * a; }
 %%
@@ -364,5 +371,5 @@ fn values(rt: HostRuntime) -> Result<(), Fail> {
 
 #[test]
 fn more_values(rt: HostRuntime) -> Result<(), Fail> {
-    calls_hold(&rt, rt.alloc(), PLAIN, "", MORE_VALUES, 23)
+    calls_hold(&rt, rt.alloc(), PLAIN, "", MORE_VALUES, 24)
 }
