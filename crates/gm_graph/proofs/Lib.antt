@@ -4,6 +4,7 @@ pub mod Numbering
 pub mod Spreading
 pub mod Steps
 pub mod Ranging
+pub mod Ordering
 pub mod Building
 pub mod Assembly
 pub mod Views
@@ -13,4 +14,5 @@ pub mod Typing
 pub mod Lines
 pub mod ByLine
 pub mod EdgeRows
-pub mod Finding
+pub mod Inward
+pub mod Serving

@@ -7,7 +7,7 @@ use Rattle.std.proofs.lemmas.List.{get_or-map, get_or_default, length-map, ext_g
 use Rattle.std.proofs.lemmas.List.FromFn.{get_or-map-range_with_len, length-range_with_len}
 use Rattle.std.proofs.lemmas.List.Sums.{position_or_len_is}
 use Rattle.gm_graph.specs.declared.groups.Groups.{Groups}
-use Rattle.gm_graph.specs.Rows.{HaveEachLine, count_of, place_of, lines_of, row_of, rows_by_line, node_at, sources_in, targets_in, AreStarts, IsGroupedRow, IsGrouped, IsGroupedWith}
+use Rattle.gm_graph.specs.Rows.{HaveEachLine, count_of, place_of, lines_of, row_of, rows_by_line, node_at, sources_in, targets_in, AreStarts, IsGroupedRow, IsGrouped}
 use Rattle.gm_graph.proofs.Grouping.{count_below-mono, count_below-step, count_of-at, place_of-within}
 use Rattle.gm_graph.proofs.Ranging.{IsEdgeOf, edge-of-place, count_below-all}
 use Rattle.gm_graph.proofs.Steps.{line-at}
@@ -112,24 +112,6 @@ lines-below-all nodes keys others groups held within = λ k d h.
     let lines : AreLines nodes keys groups.edges.items = record { row = held.edges_row; within = within } in
     let alone : IsAlone keys (get_or groups.edges.items k 0) k = row-held nodes (get_or groups.edges.items k 0) k keys groups.edges.items lines (omega (arith, held.edges_row.len)) refl in
     omega (arith, alone.within, get_or_default groups.edges.items k d 0 h)
-
--- groups whose lines are exchanged for numbers
-pub renumbered-with : (nodes : ℕ) (keys others numbers : List ℕ) (old new : Groups) → IsGrouped nodes keys others old → All (λ key. key < nodes) keys → new.starts ≡ old.starts → new.nodes ≡ old.nodes → new.edges.items ≡ map (slice_index numbers) old.edges.items → IsGroupedWith nodes keys others numbers new
-renumbered-with nodes keys others numbers old new held within starts others_are edges =
-    let lines : AreLines nodes keys old.edges.items = record { row = held.edges_row; within = within } in
-    let S : List ℕ → Type 0 = λ l. AreStarts nodes keys l in
-    let R : List ℕ → Type 0 = λ l. IsGroupedRow keys others l in
-    let len : length new.edges.items ≡ length keys = ap length edges ∙ (length-map old.edges.items (slice_index numbers) ∙ held.edges_row.len) in
-    record {
-      starts = subst S (sym (ap (λ v. v.items) starts)) held.starts;
-      nodes_row = subst R (sym (ap (λ v. v.items) others_are)) held.nodes_row;
-      edges_row = record {
-        len = len;
-        at = λ e h. ap (λ l. slice_index l (place_of keys e)) edges
-            ∙ (get_or-map (slice_index numbers) old.edges.items (place_of keys e) 0 0 (omega (arith, held.edges_row.len, place_of-within keys e h))
-            ∙ ap (slice_index numbers) (at-place nodes e keys old.edges.items lines h));
-      };
-    }
 
 -- the rows of edges that are grouped have each line once
 pub each-line : (nodes : ℕ) (keys others : List ℕ) (groups : Groups) → IsGrouped nodes keys others groups → All (λ key. key < nodes) keys → HaveEachLine groups.edges.items

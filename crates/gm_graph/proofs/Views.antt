@@ -110,13 +110,13 @@ pub record IsRowOf (g : Inside) (v : NumberedGraph) (row : ℕ) : Type 0 where
   pub shown : edge_at v (Some row) ≡ edge
 
 -- the nodes from which the edges lead are those that the rows show
-sources-listed : (ss ts : List ℕ) → length ss ≡ length ts → map (λ e. e.from) (edge_list ss ts) ≡ ss
+pub sources-listed : (ss ts : List ℕ) → length ss ≡ length ts → map (λ e. e.from) (edge_list ss ts) ≡ ss
 sources-listed [] ts long = refl
 sources-listed (s ∷ ss) [] long = absurd (omega arith)
 sources-listed (s ∷ ss) (t ∷ ts) long = ap (λ l. s ∷ l) (sources-listed ss ts (omega arith))
 
 -- the edge with a place is found by it
-edge-found : (ss : List ℕ) (count edge row : ℕ) → count ≡ length ss → edge < length ss → place_of ss edge ≡ row → position_or_len (λ e. place_of ss e == row) (lines_of count) ≡ edge
+pub edge-found : (ss : List ℕ) (count edge row : ℕ) → count ≡ length ss → edge < length ss → place_of ss edge ≡ row → position_or_len (λ e. place_of ss e == row) (lines_of count) ≡ edge
 edge-found ss count edge row long within here =
     position_or_len_is (λ e. place_of ss e == row) (lines_of count) edge 0 (omega (arith, length-range_with_len 0 count))
     (λ k before. let line = line-at count k (omega arith) in

@@ -6,3 +6,5 @@ pub mod Spreads
 pub mod Numberings
 pub mod Lookups
 pub mod NodeNumbers
+pub mod InRows
+pub mod Serving

@@ -9,6 +9,7 @@ use crate::graphs::Graph;
 use crate::groups::Groups;
 use crate::node_numbers::NodeNumbers;
 use crate::numberings::Numbering;
+use crate::ranges::places_of;
 use crate::rows::{rows_of, spread_all};
 use gm_base::{Items, NoMemory};
 use gm_columns::Column;
@@ -18,8 +19,8 @@ use std::alloc::Global;
 /// The ways in which the edges of a graph are walked along. Each has rows of its own in memory.
 #[derive(Clone, Copy, PartialEq, Eq, Debug)]
 pub enum Walks {
-    /// From nodes to the ends of their edges only. What is asked of the edges that lead to a node is searched for among
-    /// all edges.
+    /// From nodes to the ends of their edges only. The rows of the edges that lead to nodes are made where `Graph::in_rows` is
+    /// asked for them.
     Outward,
     /// Also from nodes to the starts of the edges that lead to them.
     BothWays,
@@ -108,7 +109,7 @@ fn edge_rows(
 {
     match walks {
         Walks::Outward => Ok(EdgeRows {
-            outward: Groups::new(alloc, sources, targets, nodes)?,
+            outward: outward_rows(alloc, sources, targets, nodes)?,
             inward: None,
         }),
         Walks::BothWays => rows_both_ways(alloc, sources, targets, nodes),
@@ -133,18 +134,46 @@ fn rows_both_ways(
 {
     let keys = Vec::from_slice(alloc, sources.as_slice())?;
     let others = Vec::from_slice(alloc, targets.as_slice())?;
-    let outward = Groups::new(alloc, keys, others, nodes)?;
-    let by_target = Groups::new(alloc, targets, sources, nodes)?;
-    let rows = rows_of_lines(alloc, outward.edges.as_slice())?;
-    let inward = by_target.renumbered(rows.as_slice());
+    let outward = outward_rows(alloc, keys, others, nodes)?;
+    let rows = places_of(alloc, sources.as_slice(), outward.starts.as_slice())?;
+    let inward = Groups::new(alloc, targets, sources, rows, nodes)?;
     Ok(EdgeRows {
         outward,
         inward: Some(inward),
     })
 }
 
+// The rows of the edges away from nodes, with the line of each.
+fn outward_rows(
+    alloc: Global,
+    sources: Vec<u32>,
+    targets: Vec<u32>,
+    nodes: usize,
+) -> Result<Groups, NoMemory>
+    requires sources_within { All (λ node. node < nodes) sources.items }
+    requires ends { vec_len targets ≡ vec_len sources }
+    requires few_edges { vec_len sources ≤ 2147483647 }
+    requires few_nodes { nodes ≤ 2147483647 }
+    ensures { IfOk result (IsGrouped nodes sources.items targets.items) }
+{
+    let lines = all_lines(alloc, sources.len())?;
+    Groups::new(alloc, sources, targets, lines, nodes)
+}
+
+// So many lines.
+fn all_lines(alloc: Global, count: usize) -> Result<Vec<u32>, NoMemory>
+    requires { count ≤ 2147483647 }
+    ensures { IfOk result (λ lines. lines.items ≡ lines_of count) }
+{
+    let mut lines = Vec::with_capacity(alloc, count)?;
+    for line in 0..count {
+        lines.push(line as u32)?;
+    }
+    Ok(lines)
+}
+
 // The row of each line. The rows have these lines.
-fn rows_of_lines(alloc: Global, lines: &[u32]) -> Result<Vec<u32>, NoMemory>
+pub(crate) fn rows_of_lines(alloc: Global, lines: &[u32]) -> Result<Vec<u32>, NoMemory>
     requires few { length lines.now ≤ 2147483647 }
     requires whole { HaveEachLine lines.now }
     ensures { IfOk result (λ rows. rows.items ≡ map (row_of lines.now) (lines_of (length lines.now))) }

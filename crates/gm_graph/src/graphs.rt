@@ -2,7 +2,7 @@
 
 ghost use Rattle.std.specs.Prelude.{◌≡◌, ◌<◌, ◌≤◌, ◌==◌, Some, All, length, map, position, slice_get};
 ghost use Rattle.gm_columns.specs.Columns.{cell_at};
-ghost use Rattle.gm_model.specs.Graphs.{IsGraph, HasNode, HasEdge, HasStep, HasNodeColumn, HasEdgeColumn, node_count, edge_count, out_steps, in_steps, nodes_of, edges_of, value_along};
+ghost use Rattle.gm_model.specs.Graphs.{IsGraph, HasNode, HasEdge, HasStep, HasNodeColumn, HasEdgeColumn, node_count, edge_count, out_steps, nodes_of, edges_of, value_along};
 ghost use Rattle.gm_graph.specs.Walks.{edge_at};
 
 use crate::groups::Groups;
@@ -138,70 +138,13 @@ impl Graph {
         )
     }
 
-    /// How many edges lead to a node. Where the graph was made for walks outward alone they are searched for, in time that
-    /// grows with the square of the number of all edges.
-    pub fn in_degree(&self, node: u32) -> u32
-        requires { HasNode self.now node }
-        ensures degree { result ≡ length (in_steps self.now node) }
-        ensures fits { result ≤ 2147483647 }
-    {
-        match &self.inward {
-            Some(inward) => inward.size(node),
-            None => self.outward.count_to(node),
-        }
-    }
-
-    /// The k-th edge that leads to a node, from 0 and in the order of the lines: its place among all edges. Where the graph
-    /// was made for walks outward alone it is searched for, as by `in_degree`.
-    pub fn in_edge(&self, node: u32, k: u32) -> u32
-        requires node { HasNode self.now node }
-        requires step { HasStep (in_steps self.now node) k }
-        ensures edge { slice_get (edges_of (in_steps self.now node)) k ≡ Some result }
+    /// The edge of a row: its place among all edges, in the order of the lines.
+    pub fn edge_of_row(&self, row: u32) -> u32
+        requires { HasEdge self.now row }
+        ensures edge { result ≡ edge_at self.now (Some row) }
         ensures known { HasEdge self.now result }
     {
-        self.outward.edges[self.in_row(node, k) as usize]
-    }
-
-    /// The row of the k-th edge that leads to a node, from 0 and in the order of the lines: its place in the walk. Where the
-    /// graph was made for walks outward alone it is searched for, as by `in_degree`.
-    pub fn in_row(&self, node: u32, k: u32) -> u32
-        requires node { HasNode self.now node }
-        requires step { HasStep (in_steps self.now node) k }
-        ensures edge { slice_get (edges_of (in_steps self.now node)) k ≡ Some (edge_at self.now (Some result)) }
-        ensures known { HasEdge self.now result }
-    {
-        match &self.inward {
-            Some(inward) => inward.edge(node, k),
-            None => self.outward.row_of(self.outward.line_to(node, k)),
-        }
-    }
-
-    /// The node from which the k-th edge leads that leads to a node, from 0 and in the order of the lines. Where the graph
-    /// was made for walks outward alone it is searched for, as by `in_degree`.
-    pub fn in_source(&self, node: u32, k: u32) -> u32
-        requires node { HasNode self.now node }
-        requires step { HasStep (in_steps self.now node) k }
-        ensures source { slice_get (nodes_of (in_steps self.now node)) k ≡ Some result }
-        ensures known { HasNode self.now result }
-    {
-        match &self.inward {
-            Some(inward) => inward.node(node, k),
-            None => {
-                let line = self.outward.line_to(node, k);
-                self.outward.group_of(self.outward.row_of(line))
-            }
-        }
-    }
-
-    /// The value in an edge column at the k-th edge that leads to a node. Where the graph was made for walks outward alone
-    /// the edge is searched for, as by `in_degree`.
-    pub fn in_value(&self, node: u32, k: u32, column: u32) -> Value
-        requires node { HasNode self.now node }
-        requires step { HasStep (in_steps self.now node) k }
-        requires column { HasEdgeColumn self.now column }
-        ensures { value_along self.now (in_steps self.now node) k column ≡ Some result }
-    {
-        self.row_value(self.in_row(node, k), column)
+        self.outward.edges[row as usize]
     }
 
     /// The value in an edge column at the edge of a row.
@@ -260,7 +203,7 @@ impl Graph {
     }
 
     /// The value of an edge in an edge column. The edge's row is searched for, in time that grows with the number of all
-    /// edges: along a step it is known, and `out_value`, `in_value` and `row_value` take it from there.
+    /// edges: along a step it is known, and `out_value` and `row_value` take it from there.
     pub fn edge_value(&self, edge: u32, column: u32) -> Value
         requires edge { HasEdge self.now edge }
         requires column { HasEdgeColumn self.now column }

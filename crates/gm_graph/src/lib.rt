@@ -5,6 +5,7 @@ mod bounds;
 mod builds;
 mod graphs;
 mod groups;
+mod in_rows;
 mod laws;
 mod marks;
 mod node_numbers;
@@ -12,9 +13,9 @@ mod numberings;
 mod numbers;
 mod ranges;
 mod rows;
-mod searches;
 
 pub use builds::{RawGraph, Shape, Walks, build};
 pub use graphs::Graph;
+pub use in_rows::InRows;
 pub use laws::graphs_are_determined;
 pub use node_numbers::NodeNumbers;

@@ -1,9 +1,7 @@
-use Rattle.std.proofs.Common.{◌≡◌, ◌∙◌, arith, length, map, subst, sym, ap, ℕ, List}
-use Rattle.std.proofs.lemmas.List.{length-map}
-use Rattle.std.proofs.lemmas.List.FromFn.{length-range_with_len}
-use Rattle.gm_graph.specs.Rows.{HaveEachLine, IsGrouped, IsGroupedWith, lines_of, row_of, rows_by_line}
+use Rattle.std.proofs.Common.{◌≡◌, ◌∙◌, arith, length, subst, ap, ℕ, List}
+use Rattle.gm_graph.specs.Rows.{IsGrouped, IsGroupedWith, rows_by_line}
 use Rattle.gm_graph.specs.declared.groups.Groups.{Groups}
-use Rattle.gm_graph.proofs.Lines.{each-line, lines-below-all, renumbered-with}
+use Rattle.gm_graph.proofs.Ordering.{lent-within, lent-few, rows-counted}
 use Rattle.gm_graph.proofs.builds.rows_both_ways.Goals as goal
 
 -- groups by copies of the ends
@@ -13,46 +11,40 @@ of-copies nodes ks os ss ts groups a b held =
     let Q : List ℕ → Type 0 = λ l. IsGrouped nodes ss l groups in
     subst Q b (subst P a held)
 
--- the rows of lines are as many as the lines
-rows-long : (rows lent lines : List ℕ) → rows ≡ map (row_of lent) (lines_of (length lent)) → lent ≡ lines → length rows ≡ length lines
-rows-long rows lent lines is same = ap length is ∙ (length-map (lines_of (length lent)) (row_of lent) ∙ (length-range_with_len 0 (length lent) ∙ ap length same))
-
-pub rows_of_lines-requires-clause-few : goal.rows_of_lines-requires-clause-few
-rows_of_lines-requires-clause-few c =
+pub places_of-requires-clause-keys_within : goal.places_of-requires-clause-keys_within
+places_of-requires-clause-keys_within c =
     let ss = c.args.sources.items in
     let ts = c.args.targets.items in
     let out = c.in_ok-outward.outward in
     let held : IsGrouped c.args.nodes ss ts out = of-copies c.args.nodes _ _ ss ts out (c.in_ok-keys.ensures.items ∙ c.as_slice.ensures.value) (c.in_ok-others.ensures.items ∙ c.as_slice-2.ensures.value) c.in_ok-outward.ensures in
-    omega (arith, ap length c.as_slice-3.ensures.value, held.edges_row.len, c.requires.few_edges)
+    lent-within c.args.nodes ss out.starts.items _ _ c.as_slice-3.ensures.value c.as_slice-4.ensures.value held.starts c.requires.sources_within
 
-pub rows_of_lines-requires-clause-whole : goal.rows_of_lines-requires-clause-whole
-rows_of_lines-requires-clause-whole c =
+pub places_of-requires-clause-few_places : goal.places_of-requires-clause-few_places
+places_of-requires-clause-few_places c =
     let ss = c.args.sources.items in
     let ts = c.args.targets.items in
     let out = c.in_ok-outward.outward in
     let held : IsGrouped c.args.nodes ss ts out = of-copies c.args.nodes _ _ ss ts out (c.in_ok-keys.ensures.items ∙ c.as_slice.ensures.value) (c.in_ok-others.ensures.items ∙ c.as_slice-2.ensures.value) c.in_ok-outward.ensures in
-    let P : List ℕ → Type 0 = λ l. HaveEachLine l in
-    subst P (sym c.as_slice-3.ensures.value) (each-line c.args.nodes ss ts out held c.requires.sources_within)
+    lent-few c.args.nodes ss out.starts.items _ c.as_slice-4.ensures.value held.starts (omega (arith, c.requires.few_edges))
 
-pub renumbered-inward-requires : goal.renumbered-inward-requires
-renumbered-inward-requires c =
-    let ss = c.args.sources.items in
-    let ts = c.args.targets.items in
-    let out = c.in_ok-outward.outward in
-    let held : IsGrouped c.args.nodes ss ts out = of-copies c.args.nodes _ _ ss ts out (c.in_ok-keys.ensures.items ∙ c.as_slice.ensures.value) (c.in_ok-others.ensures.items ∙ c.as_slice-2.ensures.value) c.in_ok-outward.ensures in
-    let long = rows-long c.in_ok-rows.rows.items c.as_slice-3.result.now out.edges.items c.in_ok-rows.ensures c.as_slice-3.ensures.value in
-    let below = lines-below-all c.args.nodes ts ss c.in_ok-by_target.by_target c.in_ok-by_target.ensures c.requires.targets_within in
-    λ k d h. omega (arith, below k d h, long, held.edges_row.len, c.requires.ends, ap length c.as_slice-4.ensures.value)
+pub new-requires-clause-numbers_len : goal.new-requires-clause-numbers_len
+new-requires-clause-numbers_len c =
+    omega (arith, c.in_ok-rows.ensures.len, ap length c.as_slice-3.ensures.value, c.requires.ends)
 
 pub returns-clause-outward : goal.returns-clause-outward
 returns-clause-outward c =
-    of-copies c.args.nodes _ _ c.args.sources.items c.args.targets.items c.in_ok-outward.outward (c.in_ok-keys.ensures.items ∙ c.as_slice.ensures.value) (c.in_ok-others.ensures.items ∙ c.as_slice-2.ensures.value) c.in_ok-outward.ensures
+    let ss = c.args.sources.items in
+    let ts = c.args.targets.items in
+    let out = c.in_ok-outward.outward in
+    let held : IsGrouped c.args.nodes ss ts out = of-copies c.args.nodes _ _ ss ts out (c.in_ok-keys.ensures.items ∙ c.as_slice.ensures.value) (c.in_ok-others.ensures.items ∙ c.as_slice-2.ensures.value) c.in_ok-outward.ensures in
+    held
 
 pub returns-clause-inward : goal.returns-clause-inward
 returns-clause-inward c =
     let ss = c.args.sources.items in
     let ts = c.args.targets.items in
     let out = c.in_ok-outward.outward in
-    let rows : c.as_slice-4.result.now ≡ rows_by_line out = c.as_slice-4.ensures.value ∙ (c.in_ok-rows.ensures ∙ ap (λ l. map (row_of l) (lines_of (length l))) c.as_slice-3.ensures.value) in
-    let P : List ℕ → Type 0 = λ l. IsGroupedWith c.args.nodes ts ss l c.renumbered-inward.result in
-    subst P rows (renumbered-with c.args.nodes ts ss c.as_slice-4.result.now c.in_ok-by_target.by_target c.renumbered-inward.result c.in_ok-by_target.ensures c.requires.targets_within c.renumbered-inward.ensures.starts c.renumbered-inward.ensures.nodes c.renumbered-inward.ensures.edges)
+    let held : IsGrouped c.args.nodes ss ts out = of-copies c.args.nodes _ _ ss ts out (c.in_ok-keys.ensures.items ∙ c.as_slice.ensures.value) (c.in_ok-others.ensures.items ∙ c.as_slice-2.ensures.value) c.in_ok-outward.ensures in
+    let rows : c.in_ok-rows.rows.items ≡ rows_by_line out = rows-counted c.args.nodes ss ts c.in_ok-rows.rows.items _ _ out held c.requires.sources_within c.as_slice-3.ensures.value c.as_slice-4.ensures.value c.in_ok-rows.ensures in
+    let P : List ℕ → Type 0 = λ l. IsGroupedWith c.args.nodes ts ss l c.in_ok-inward.inward in
+    subst P rows c.in_ok-inward.ensures
