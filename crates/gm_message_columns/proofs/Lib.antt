@@ -1,0 +1,4 @@
+pub mod TableLemmas
+pub mod ListLemmas
+pub mod GrowthLemmas
+pub mod JoiningLemmas
