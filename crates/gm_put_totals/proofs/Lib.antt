@@ -1,0 +1,5 @@
+pub mod SettlingLemmas
+pub mod SoundLemmas
+pub mod TotalLemmas
+pub mod PutLemmas
+mod Worked
