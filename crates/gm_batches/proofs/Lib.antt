@@ -3,3 +3,4 @@ pub mod ColumnLaws
 pub mod LeafLaws
 pub mod GuardLaws
 mod Worked
+pub mod DegreeLaws

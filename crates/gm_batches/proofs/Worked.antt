@@ -51,7 +51,7 @@ one_of_two b = refl
 chosen : (b : NodeBatch) → type_in b (Choose (Const (Flag true)) (Const (I32 (pos 1))) (Const (I32 (pos 2)))) ≡ Some Int
 chosen b = refl
 
-degree : (b : NodeBatch) → type_in b OutDegree ≡ None
+degree : (b : NodeBatch) → type_in b OutDegree ≡ Some Int
 degree b = refl
 
 -- the place of a row

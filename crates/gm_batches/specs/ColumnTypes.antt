@@ -32,7 +32,7 @@ abbrev pub choice_type : Option VType → Option VType → Option VType → Opti
 choice_type (Some c) (Some t) (Some u) = if is_flag c then (if same_type u t then Some t else None) else None
 choice_type _ _ _ = None
 
--- the type of an expression's column in a batch. What is seen of an edge, degrees, and nodes by their numbers are not
+-- the type of an expression's column in a batch. What is seen of an edge, in-degrees, and nodes by their numbers are not
 -- evaluated by columns, nor fields that hold values of several types.
 abbrev pub type_in : NodeBatch → Term → Option VType
 type_in b (Const v) = constant_type v
@@ -41,7 +41,7 @@ type_in b NodeCount = Some I32
 type_in b EdgeCount = Some I32
 type_in b (Field f) = option_and_then column_type (slice_get b.fields.now f)
 type_in b Self = Some Node
-type_in b OutDegree = None
+type_in b OutDegree = Some I32
 type_in b InDegree = None
 type_in b (Register r) = option_map (λ (column : TypedRow). column.vtype) (slice_get b.registers.now r)
 type_in b (Message i) = option_map (λ (column : TypedRow). column.vtype) (slice_get b.message.now i)

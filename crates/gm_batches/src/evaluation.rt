@@ -177,7 +177,7 @@ fn choice_of(
 }
 
 /// The value of an expression in each of some rows of a batch, in a column, or nothing, where the expression faults in one of
-/// these rows or is none that columns can do: it sees degrees, an edge or a node by its number, or a field whose values are
+/// these rows or is none that columns can do: it sees in-degrees, an edge or a node by its number, or a field whose values are
 /// of several types. The second operand of `&&` and `||` and the last two of `?:` count in the rows that reach them alone.
 #[cycle(evaluation)]
 pub fn evaluate(

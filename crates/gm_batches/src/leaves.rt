@@ -8,6 +8,7 @@ ghost use Rattle.gm_machine.specs.Expressions.{count, value_at};
 ghost use Rattle.gm_batches.specs.NodeBatches.{AreRows, IsBatch};
 ghost use Rattle.gm_batches.specs.ValuesIn.{IsColumnOf};
 
+use crate::degrees::out_degrees;
 use crate::node_batches::{NodeBatch, Rows};
 use crate::places::{cells_of, count_rows, nodes_of, rows_of};
 use gm_base::NoMemory;
@@ -119,6 +120,16 @@ fn nodes_column(alloc: Global, batch: &NodeBatch, rows: Rows) -> Result<Option<C
     Ok(Some(Column::of(TypedCells::Nodes(nodes))))
 }
 
+// The column of the numbers of edges that lead from the nodes.
+fn degree_column(alloc: Global, batch: &NodeBatch, rows: Rows) -> Result<Option<Column>, NoMemory>
+    requires { AreRows batch.now rows }
+    ensures { IfOk result (IsColumnOf batch.now rows.entry T.OutDegree) }
+{
+    let nodes = nodes_of(alloc, batch, rows)?;
+    let degrees = out_degrees(alloc, batch.graph, nodes.as_slice())?;
+    Ok(Some(Column::of(TypedCells::Ints(degrees))))
+}
+
 // The column of a register.
 fn register_column(
     alloc: Global,
@@ -173,6 +184,7 @@ pub(crate) fn leaf(
         Leaf::Id => nodes_column(alloc, batch, rows),
         Leaf::Register(register) => register_column(alloc, register, batch, rows),
         Leaf::Message(index) => message_column(alloc, index, batch, rows),
-        Leaf::OutDegree | Leaf::InDegree | Leaf::Neighbour | Leaf::Column(_) => Ok(None),
+        Leaf::OutDegree => degree_column(alloc, batch, rows),
+        Leaf::InDegree | Leaf::Neighbour | Leaf::Column(_) => Ok(None),
     }
 }
