@@ -8,7 +8,7 @@ use Rattle.gm_value.specs.declared.values.Value.TheVariants.{At, Flag}
 use Rattle.gm_columns.specs.Cells.{values_of}
 use Rattle.gm_columns.specs.Columns.{TypedRow, IsStorable}
 use Rattle.gm_image.specs.Term.{Term}
-use Rattle.gm_machine.specs.Expressions.{View, value, value_at}
+use Rattle.gm_machine.specs.Expressions.{View, value_at}
 use Rattle.gm_machine.specs.Machine.{nowhere, row_at}
 use Rattle.gm_batches.specs.declared.node_batches.NodeBatch.{NodeBatch}
 use Rattle.gm_batches.specs.declared.node_batches.Places.TheVariants.{Between}
@@ -97,7 +97,7 @@ zip-flags P (x ∷ xs) [] h = absurd h
 zip-flags P (x ∷ xs) (b ∷ flags) h = (h.0, zip-flags P xs flags h.1)
 
 -- a value for each row, where one column is written
-set-each : {A : Type 0} (P : A → Type 0) (xs : List A) (k : ℕ) (a : A) → (k < length xs → P a) → AllByRecursion P xs → AllByRecursion P (set xs k a)
+pub set-each : {A : Type 0} (P : A → Type 0) (xs : List A) (k : ℕ) (a : A) → (k < length xs → P a) → AllByRecursion P xs → AllByRecursion P (set xs k a)
 set-each P [] k a h all = tt
 set-each P (x ∷ xs) zero a h all = (h (omega arith), all.1)
 set-each P (x ∷ xs) (suc k) a h all = (all.0, set-each P xs k a (λ lt. h (omega (arith, lt))) all.1)

@@ -103,13 +103,19 @@ no-fault : (r : Result Value Fault) (v : Value) → unless_fault r ≡ Some v �
 no-fault (Ok w) v e = ap (λ x. Ok x) (same_Some w v e)
 no-fault (Err f) v e = absurd (none-some v e)
 
-pub row-values : (view : ℕ → View) (a : Term) (rows : List ℕ) (ys : List Value) → values_in (map view rows) a ≡ Some ys → AllZip (λ row y. value (view row) a ≡ Ok y) rows ys
+pub row-values : {A : Type 0} (view : A → View) (a : Term) (rows : List A) (ys : List Value) → values_in (map view rows) a ≡ Some ys → AllZip (λ row y. value (view row) a ≡ Ok y) rows ys
 row-values view a [] [] e = tt
 row-values view a [] (y ∷ ys) e = let same = same_Some [] (y ∷ ys) e in absurd (omega (arith, ap length same))
 row-values view a (r ∷ rows) [] e = absurd (before-nil _ _ e)
 row-values view a (r ∷ rows) (y ∷ ys) e =
     let parts = before-cons (unless_fault (value (view r) a)) (values_in (map view rows) a) y ys e in
     (no-fault (value (view r) a) y parts.0, row-values view a rows ys parts.1)
+
+pub zip-at : {A B : Type 0} (P : A → B → Type 0) (xs : List A) (ys : List B) (k : ℕ) (a : A) (b : B) → AllZip P xs ys → k < length xs → P (get_or xs k a) (get_or ys k b)
+zip-at P [] ys k a b h lt = absurd (omega (arith, lt))
+zip-at P (x ∷ xs) [] k a b h lt = absurd h
+zip-at P (x ∷ xs) (y ∷ ys) zero a b h lt = h.0
+zip-at P (x ∷ xs) (y ∷ ys) (suc k) a b h lt = zip-at P xs ys k a b h.1 (omega (arith, lt))
 
 pub zip-length : {A B : Type 0} (P : A → B → Type 0) (xs : List A) (ys : List B) → AllZip P xs ys → length ys ≡ length xs
 zip-length P [] [] h = refl

@@ -1,5 +1,5 @@
 -- The steps of the nodes of a batch, from the lines that its rows run.
-use Rattle.std.proofs.Common.{◌≡◌, ◌∙◌, ◌<◌, ◌≤◌, ◌+◌, ◌-◌, ◌⊎◌, inl, inr, ℕ, zero, List, [], ◌∷◌, ◌++◌, None, refl, ap, sym, subst, map, length, drop, get_or, replicate, arith, length-drop}
+use Rattle.std.proofs.Common.{◌≡◌, ◌∙◌, ◌<◌, ◌≤◌, ◌+◌, ◌-◌, ◌⊎◌, inl, inr, ℕ, List, [], ◌∷◌, ◌++◌, None, refl, ap, sym, subst, map, length, drop, get_or, replicate, arith, length-drop}
 use Rattle.std.specs.Prelude.{All, slice_range}
 use Rattle.std.specs.List.{AllByRecursion, flat_map, range_with_len}
 use Rattle.std.proofs.lemmas.List.{get_or-drop, get_or-replicate, get_or-take, length-map, length-replicate, length-take}
@@ -17,11 +17,12 @@ use Rattle.gm_machine.specs.Expressions.{value_at}
 use Rattle.gm_machine.specs.Faults.{lesser}
 use Rattle.gm_machine.specs.Machine.{block_at, context_at, row_at}
 use Rattle.gm_machine.specs.Taking.{Contribution, Settled}
-use Rattle.gm_machine.specs.Vertex.{VertexContext, After, begun, body_after, ended, gathered, goes_on, leaves, vertex_after}
+use Rattle.gm_machine.specs.Vertex.{Message, VertexContext, After, begun, body_after, ended, gathered, goes_on, leaves, vertex_after}
+use Rattle.gm_put_totals.specs.Settling.{SettleAs}
 use Rattle.gm_machine.proofs.SlotSteps.{settled-nothing}
 use Rattle.gm_batch_steps.specs.declared.batch_states.BatchContext.{BatchContext}
 use Rattle.gm_batch_steps.specs.declared.batch_states.BatchState.{BatchState}
-use Rattle.gm_batch_steps.specs.BatchStates.{IsFull, field_columns, register_columns, row_state}
+use Rattle.gm_batch_steps.specs.BatchStates.{IsFull, field_columns, register_columns, row_state, sent_in}
 use Rattle.gm_batch_steps.specs.BatchSteps.{BatchSteps, row_after}
 use Rattle.gm_batch_steps.specs.LineRuns.{LinesRun}
 use Rattle.gm_batch_steps.specs.Parts.{with_parts}
@@ -68,9 +69,9 @@ parts-long from n (xs ∷ columns) (ys ∷ parts) wide within long =
 -- the start of a row
 pub row-begins : (from to n row : ℕ) (types : List VType) (columns : List (List Value)) (s : BatchState) → from + n ≡ to → row < n
     → field_columns s ≡ map (λ values. slice_range values from to) columns → register_columns s ≡ map (λ t. replicate n (zero_of t)) types
-    → row_state s [] row ≡ begun types (row_at columns (from + row))
+    → row_state s [] [] row ≡ begun types (row_at columns (from + row))
 row-begins from to n row types columns s end lt fields registers =
-    λ i. state-with (fields-are i) (registers-are i) []
+    λ i. state-with (fields-are i) (registers-are i) [] []
   where
     fields-are : row_at (field_columns s) row ≡ row_at columns (from + row)
     fields-are =
@@ -90,25 +91,27 @@ flat-same f g [] h = refl
 flat-same f g (x ∷ xs) h = λ i. h.0 i ++ flat-same f g xs h.1 i
 
 -- the steps of the rows
-pub steps-are : (d : Duty) (c : BatchContext) (nodes : List ℕ) (from to : ℕ) (columns new : List (List Value)) (start end : BatchState) (body : List Line) (puts puts' : List Contribution)
+pub steps-are : (d : Duty) (c : BatchContext) (nodes : List ℕ) (from to : ℕ) (columns new : List (List Value)) (start end : BatchState) (body : List Line) (messages messages' : List Message) (puts puts' : List Contribution)
     → c.graph.now ≡ d.graph.now → c.globals.now ≡ d.globals.now → c.nodes.now ≡ nodes → from + length nodes ≡ to
     → body ≡ (block_at (program d.image.now) d.block).body
     → field_columns start ≡ map (λ values. slice_range values from to) columns
     → register_columns start ≡ map (λ t. replicate (length nodes) (zero_of t)) (program d.image.now).registers
-    → start.puts ≡ []
+    → sent_in start ≡ [] → start.puts ≡ []
     → LinesRun (length (program d.image.now).places) body c (range_with_len 0 (length nodes)) start end
     → IsFull (length nodes) end
     → All (λ values. to ≤ length values) columns
-    → new ≡ with_parts from columns (field_columns end) → puts' ≡ puts ++ end.puts
-    → BatchSteps (row_after d nodes from columns) from (length nodes) columns new puts puts'
-steps-are d c nodes from to columns new start end body puts puts' graph globals rows ends is fields registers none run full within stored put = record {
+    → new ≡ with_parts from columns (field_columns end) → messages' ≡ messages ++ sent_in end → puts' ≡ puts ++ end.puts
+    → BatchSteps (row_after d nodes from columns) from (length nodes) columns new messages messages' puts puts'
+steps-are d c nodes from to columns new start end body messages messages' puts puts' graph globals rows ends is fields registers silent none run full within stored sent put = record {
   long = ap (map length) stored ∙ parts-long from n columns (field_columns end) wide inside long;
   inside = λ row lt. ap (λ l. row_at l (from + row)) stored ∙ parts-inside from n row columns (field_columns end) wide inside long lt ∙ sym (ap (λ a. a.state.fields) (at row lt));
   outside = λ place out. ap (λ l. row_at l place) stored ∙ parts-outside from n place columns (field_columns end) wide inside long out;
-  silent = λ row lt. ap (λ a. a.state.messages) (at row lt);
   faultless = λ row lt. ap (λ a. a.fault) (at row lt);
-  put = put ∙ ap (λ l. puts ++ l) (run.puts ∙ ap (λ l. l ++ flat_map run.given (range_with_len 0 n)) none
-      ∙ flat-same run.given (λ row. (after row).state.puts) (range_with_len 0 n) (puts-of (range_with_len 0 n) all));
+  sent = sent ∙ ap (λ l. messages ++ l) (run.messages ∙ ap (λ l. l ++ flat_map run.sent (range_with_len 0 n)) silent
+      ∙ flat-same run.sent (λ row. (after row).state.messages) (range_with_len 0 n) (sent-of (range_with_len 0 n) all));
+  more = run.more;
+  put = put ∙ ap (λ l. puts ++ l) (run.puts ∙ ap (λ l. l ++ run.more) none);
+  settle = subst (λ l. SettleAs l run.more) (flat-same run.given (λ row. (after row).state.puts) (range_with_len 0 n) (puts-of (range_with_len 0 n) all)) run.settle;
 } where
   n : ℕ
   n = length nodes
@@ -116,21 +119,26 @@ steps-are d c nodes from to columns new start end body puts puts' graph globals 
   after : ℕ → After
   after row = row_after d nodes from columns row
 
-  all : AllByRecursion (λ row. row_after d nodes from columns row ≡ leaves (row_state end (run.given row) row)) (range_with_len 0 (length nodes))
+  all : AllByRecursion (λ row. row_after d nodes from columns row ≡ leaves (row_state end (run.sent row) (run.given row) row)) (range_with_len 0 (length nodes))
   all = each-both
       (λ row runs lt.
       no-messages (program d.image.now) (block_at (program d.image.now) d.block) (context_at d.graph.now d.globals.now (get_or nodes row 0)) (row_at columns (from + row))
       ∙ (λ i. body_after (length (program d.image.now).places) (context_at (sym graph i) (sym globals i) (get_or (sym rows i) row 0)) (sym is i) 0
       (sym (row-begins from to (length nodes) row (program d.image.now).registers columns start ends lt fields registers) i))
-      ∙ runs [])
+      ∙ runs [] [])
       (range_with_len 0 (length nodes)) run.runs (range-below 0 (length nodes) (length nodes) (omega arith))
 
-  at : (row : ℕ) → row < length nodes → row_after d nodes from columns row ≡ leaves (row_state end (run.given row) row)
+  at : (row : ℕ) → row < length nodes → row_after d nodes from columns row ≡ leaves (row_state end (run.sent row) (run.given row) row)
   at row lt =
-      subst (λ k. row_after d nodes from columns k ≡ leaves (row_state end (run.given k) k)) (omega arith)
-      (range-at (λ k. row_after d nodes from columns k ≡ leaves (row_state end (run.given k) k)) 0 (length nodes) row lt all)
+      subst (λ k. row_after d nodes from columns k ≡ leaves (row_state end (run.sent k) (run.given k) k)) (omega arith)
+      (range-at (λ k. row_after d nodes from columns k ≡ leaves (row_state end (run.sent k) (run.given k) k)) 0 (length nodes) row lt all)
 
-  puts-of : (ks : List ℕ) → AllByRecursion (λ row. row_after d nodes from columns row ≡ leaves (row_state end (run.given row) row)) ks
+  sent-of : (ks : List ℕ) → AllByRecursion (λ row. row_after d nodes from columns row ≡ leaves (row_state end (run.sent row) (run.given row) row)) ks
+      → AllByRecursion (λ row. run.sent row ≡ (row_after d nodes from columns row).state.messages) ks
+  sent-of [] h = tt
+  sent-of (k ∷ ks) h = (sym (ap (λ a. a.state.messages) h.0), sent-of ks h.1)
+
+  puts-of : (ks : List ℕ) → AllByRecursion (λ row. row_after d nodes from columns row ≡ leaves (row_state end (run.sent row) (run.given row) row)) ks
       → AllByRecursion (λ row. run.given row ≡ (row_after d nodes from columns row).state.puts) ks
   puts-of [] h = tt
   puts-of (k ∷ ks) h = (sym (ap (λ a. a.state.puts) h.0), puts-of ks h.1)

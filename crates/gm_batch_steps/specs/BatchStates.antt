@@ -8,7 +8,8 @@ use Rattle.gm_columns.specs.Columns.{TypedRow, IsStorable}
 use Rattle.gm_machine.specs.Expressions.{View}
 use Rattle.gm_machine.specs.Machine.{context_at, row_at}
 use Rattle.gm_machine.specs.Taking.{Contribution}
-use Rattle.gm_machine.specs.Vertex.{VertexContext, VertexState, view}
+use Rattle.gm_machine.specs.Vertex.{Message, VertexContext, VertexState, view}
+use Rattle.gm_message_columns.specs.MessageTables.{rows_if_any}
 use Rattle.gm_batches.specs.declared.node_batches.NodeBatch.{NodeBatch}
 use Rattle.gm_batches.specs.declared.node_batches.Places.TheVariants.{Between}
 use Rattle.gm_batch_steps.specs.declared.batch_states.BatchContext.{BatchContext}
@@ -26,19 +27,23 @@ register_columns s = map (λ (column : TypedRow). column.values) s.registers.ite
 abbrev pub context_in : BatchContext → ℕ → VertexContext
 context_in c row = context_at c.graph.now c.globals.now (slice_index_or c.nodes.now row 0)
 
--- what a row has that put this
-abbrev pub row_state : BatchState → List Contribution → ℕ → VertexState
-row_state s puts row = record {
+-- what a row has that sent and put this
+abbrev pub row_state : BatchState → List Message → List Contribution → ℕ → VertexState
+row_state s messages puts row = record {
   fields = row_at (field_columns s) row;
   registers = row_at (register_columns s) row;
-  messages = [];
+  messages = messages;
   puts = puts;
   folds = [];
 }
 
 -- what an expression is evaluated in
 abbrev pub view_in : BatchContext → BatchState → ℕ → View
-view_in c s row = view (context_in c row) (row_state s [] row)
+view_in c s row = view (context_in c row) (row_state s [] [] row)
+
+-- what the rows sent
+abbrev pub sent_in : BatchState → List Message
+sent_in s = rows_if_any s.sent
 
 -- a batch as expressions see it
 pub record IsBatchOf (b : NodeBatch) (c : BatchContext) (s : BatchState) : Type 0 where

@@ -1,4 +1,5 @@
 pub mod Parts
 pub mod BatchStates
 pub mod LineRuns
+pub mod Turns
 pub mod BatchSteps

@@ -13,22 +13,26 @@ use gm_columns::{Cells, Column};
 use gm_graph::Graph;
 use gm_image::Expr;
 use gm_machine::Contributions;
+use gm_message_columns::MessageColumns;
 use gm_value::Value;
 use std::alloc::Global;
 
-/// What the rows of a batch see and do not change: the graph, the globals, and the node of each row.
+/// What the rows of a batch see and do not change: the graph, the globals, and the node of each row. With them goes how many
+/// places the image has.
 #[derive(Clone, Copy)]
 pub(crate) struct BatchContext<'a> {
     pub(crate) graph: &'a Graph,
     pub(crate) globals: &'a [Value],
     pub(crate) nodes: &'a [u32],
+    pub(crate) places: usize,
 }
 
-/// What the rows of a batch change: their fields and registers, with a value for each row, and what they put.
+/// What the rows of a batch change: their fields and registers, with a value for each row, what they sent, and what they put.
 #[derive(Drop)]
 pub(crate) struct BatchState {
     pub(crate) fields: Vec<Cells>,
     pub(crate) registers: Vec<Column>,
+    pub(crate) sent: Option<MessageColumns>,
     pub(crate) puts: Contributions,
 }
 

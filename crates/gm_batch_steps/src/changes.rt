@@ -1,6 +1,6 @@
 //! Values that rows get.
 
-ghost use Rattle.std.specs.Prelude.{◌≡◌, ◌<◌, ◌++◌, ◌∷◌, [], All, IfOk, OnOk, IfSome, length, map, slice_index_or, slice_set};
+ghost use Rattle.std.specs.Prelude.{◌≡◌, ◌<◌, [], All, IfOk, OnOk, IfSome, length, map, slice_index_or, slice_set};
 ghost use Rattle.gm_value.specs.declared.values.Value as V;
 ghost use Rattle.gm_columns.specs.Cells.{values_of};
 ghost use Rattle.gm_kernels.specs.Pointwise.{written_at};
@@ -8,8 +8,6 @@ ghost use Rattle.gm_kernels.specs.Pointwise.{written_at};
 use gm_base::NoMemory;
 use gm_columns::{Cells, Column, TypedCells};
 use gm_kernels::{are_of, put_column};
-use gm_machine::Contributions;
-use gm_value::Reduce;
 use std::alloc::Global;
 
 // Writes the values of a column at some rows of cells of any type, one after another.
@@ -112,22 +110,4 @@ pub(crate) fn written(
         _ => return Ok(None),
     };
     Ok(Some(Column::of(cells)))
-}
-
-/// Puts the values of a column, one after another, each for one slot.
-pub(crate) fn give(
-    place: u32,
-    reduce: Reduce,
-    slot: u32,
-    column: &Column,
-    puts: &mut Contributions,
-) -> Result<(), NoMemory>
-    ensures { OnOk result (puts.new ≡ puts.old
-        ++ map (λ v. record { place = place; reduce = reduce; slots = slot ∷ []; values = v ∷ [] }) column.now.values) }
-{
-    let count = column.len();
-    for i in 0..count {
-        puts.add_one(place, reduce, slot, column.get(i))?;
-    }
-    Ok(())
 }

@@ -3,8 +3,12 @@
 
 mod batch_states;
 mod changes;
+mod folds;
 mod lines;
 mod parts;
+mod sends;
 mod steps;
+mod turn_values;
+mod turns;
 
 pub use steps::steps_of_batch;

@@ -1,18 +1,20 @@
 //! The lines of a body, each run for all rows that reach it.
 
-ghost use Rattle.std.specs.Prelude.{◌≡◌, ◌<◌, ◌∷◌, ℕ, [], All, IsTrue, IfOk, IfSome, length, map};
-ghost use Rattle.gm_image.specs.Program.{Put, SetField, SetRegister, Skip};
+ghost use Rattle.std.specs.Prelude.{◌≡◌, ◌<◌, ◌∷◌, [], All, IsTrue, IfOk, IfSome, length, map};
+ghost use Rattle.gm_image.specs.Program.{Each, Fold, Out, Put, SetField, SetRegister, Skip};
 ghost use Rattle.gm_image.specs.Views.{line, term};
 ghost use Rattle.gm_batch_steps.specs.BatchStates.{AreChosen, AreDistinct, IsContext, IsFull};
 ghost use Rattle.gm_batch_steps.specs.LineRuns.{ArePartedBy, LinesRun, reach, stays};
 
 use crate::batch_states::{BatchContext, BatchState, Chosen, values_of};
-use crate::changes::{give, write_field, written};
+use crate::changes::{write_field, written};
+use crate::folds::fold_rows;
+use crate::sends::run_each;
 use gm_base::NoMemory;
 use gm_image::{Expr, VertexLine};
 use gm_kernels::{Parts, flags_of, partition};
-use gm_machine::Contributions;
-use gm_value::{Reduce, VType};
+use gm_put_totals::put_values;
+use gm_value::{Reduce, VType, reductions_are_monoids};
 use std::alloc::Global;
 
 // A field of some rows becomes a value.
@@ -28,8 +30,8 @@ fn set_field(
     requires chosen { AreChosen (length context.now.nodes.now) chosen }
     requires full { IsFull (length context.now.nodes.now) state.old }
     ensures full { IfOk result (λ done. IsTrue done → IsFull (length context.now.nodes.now) state.new) }
-    ensures runs { IfOk result (λ done. IsTrue done → (places : ℕ)
-        → LinesRun places (SetField field (term a.now) ∷ []) context.now chosen.entry.rows.now state.old state.new) }
+    ensures runs { IfOk result (λ done. IsTrue done
+        → LinesRun context.now.places (SetField field (term a.now) ∷ []) context.now chosen.entry.rows.now state.old state.new) }
 {
     let Some(column) = values_of(alloc, a, chosen, context, state)? else {
         return Ok(false);
@@ -51,8 +53,8 @@ fn set_register(
     requires chosen { AreChosen (length context.now.nodes.now) chosen }
     requires full { IsFull (length context.now.nodes.now) state.old }
     ensures full { IfOk result (λ done. IsTrue done → IsFull (length context.now.nodes.now) state.new) }
-    ensures runs { IfOk result (λ done. IsTrue done → (places : ℕ)
-        → LinesRun places (SetRegister register (term a.now) ∷ []) context.now chosen.entry.rows.now state.old state.new) }
+    ensures runs { IfOk result (λ done. IsTrue done
+        → LinesRun context.now.places (SetRegister register (term a.now) ∷ []) context.now chosen.entry.rows.now state.old state.new) }
 {
     let Some(column) = values_of(alloc, a, chosen, context, state)? else {
         return Ok(false);
@@ -68,14 +70,7 @@ fn set_register(
     Ok(true)
 }
 
-// Whether nothing was put yet.
-fn put_nothing(puts: &Contributions) -> bool
-    ensures { IsTrue result → puts.now ≡ [] }
-{
-    puts.parts().is_empty()
-}
-
-// Some rows put a value for a slot. What several lines put stands by row, so that one of them alone can be done.
+// Some rows put a value for a slot, reduced to one where that can be.
 fn put(
     alloc: Global,
     place: u32,
@@ -90,16 +85,56 @@ fn put(
     requires chosen { AreChosen (length context.now.nodes.now) chosen }
     requires full { IsFull (length context.now.nodes.now) state.old }
     ensures full { IfOk result (λ done. IsTrue done → IsFull (length context.now.nodes.now) state.new) }
-    ensures runs { IfOk result (λ done. IsTrue done → (places : ℕ)
-        → LinesRun places (Put reduce place (record { slot = slot; term = term a.now } ∷ []) ∷ []) context.now chosen.entry.rows.now state.old state.new) }
+    ensures runs { IfOk result (λ done. IsTrue done
+        → LinesRun context.now.places (Put reduce place (record { slot = slot; term = term a.now } ∷ []) ∷ []) context.now chosen.entry.rows.now state.old state.new) }
 {
-    if !put_nothing(&state.puts) {
+    let Some(column) = values_of(alloc, a, chosen, context, state)? else {
+        return Ok(false);
+    };
+    put_values(place, reduce, slot, &column, &mut state.puts)?;
+    Ok(true)
+}
+
+// Whether the image has a place with this number.
+fn is_place(place: u32, context: &BatchContext) -> bool
+    ensures { IsTrue result → place < context.now.places }
+{
+    (place as usize) < context.places
+}
+
+// Each of some rows folds a value onto a field of its own.
+fn fold(
+    alloc: Global,
+    place: u32,
+    reduce: Reduce,
+    slot: u32,
+    a: &Expr,
+    chosen: Chosen,
+    context: &BatchContext,
+    state: &mut BatchState,
+) -> Result<bool, NoMemory>
+    requires context { IsContext context.now }
+    requires chosen { AreChosen (length context.now.nodes.now) chosen }
+    requires full { IsFull (length context.now.nodes.now) state.old }
+    ensures full { IfOk result (λ done. IsTrue done → IsFull (length context.now.nodes.now) state.new) }
+    ensures runs { IfOk result (λ done. IsTrue done
+        → LinesRun context.now.places (Fold reduce place (record { slot = slot; term = term a.now } ∷ []) ∷ []) context.now chosen.entry.rows.now state.old state.new) }
+{
+    reductions_are_monoids();
+    if !is_place(place, context) {
         return Ok(false);
     }
     let Some(column) = values_of(alloc, a, chosen, context, state)? else {
         return Ok(false);
     };
-    give(place, reduce, slot, &column, &mut state.puts)?;
+    let slot = slot as usize;
+    if slot >= state.fields.len() {
+        return Ok(false);
+    }
+    let Some(new) = fold_rows(alloc, reduce, &state.fields[slot], chosen.rows, &column)? else {
+        return Ok(false);
+    };
+    state.fields[slot] = new;
     Ok(true)
 }
 
@@ -115,8 +150,8 @@ fn run_line(
     requires chosen { AreChosen (length context.now.nodes.now) chosen }
     requires full { IsFull (length context.now.nodes.now) state.old }
     ensures full { IfOk result (λ done. IsTrue done → IsFull (length context.now.nodes.now) state.new) }
-    ensures runs { IfOk result (λ done. IsTrue done → (places : ℕ)
-        → LinesRun places (line l.now ∷ []) context.now chosen.entry.rows.now state.old state.new) }
+    ensures runs { IfOk result (λ done. IsTrue done
+        → LinesRun context.now.places (line l.now ∷ []) context.now chosen.entry.rows.now state.old state.new) }
     ensures next { IfOk result (λ done. IsTrue done → reach (line l.now) ≡ 0) }
 {
     match l {
@@ -130,6 +165,16 @@ fn run_line(
             slots,
         } => match slots.as_slice() {
             [only] => put(
+                alloc, *place, *reduce, only.0, &only.1, chosen, context, state,
+            ),
+            _ => Ok(false),
+        },
+        VertexLine::Fold {
+            reduce,
+            place,
+            slots,
+        } => match slots.as_slice() {
+            [only] => fold(
                 alloc, *place, *reduce, only.0, &only.1, chosen, context, state,
             ),
             _ => Ok(false),
@@ -196,8 +241,8 @@ fn run_held(
     requires distinct { AreDistinct held.now }
     requires full { IsFull (length context.now.nodes.now) state.old }
     ensures full { IfOk result (λ done. IsTrue done → IsFull (length context.now.nodes.now) state.new) }
-    ensures runs { IfOk result (λ done. IsTrue done → (places : ℕ)
-        → LinesRun places (map line lines.now) context.now held.now state.old state.new) }
+    ensures runs { IfOk result (λ done. IsTrue done
+        → LinesRun context.now.places (map line lines.now) context.now held.now state.old state.new) }
 {
     if held.is_empty() {
         return Ok(true);
@@ -223,13 +268,40 @@ fn run_skip(
     requires chosen { AreChosen (length context.now.nodes.now) chosen }
     requires full { IsFull (length context.now.nodes.now) state.old }
     ensures full { IfOk result (λ done. IsTrue done → IsFull (length context.now.nodes.now) state.new) }
-    ensures runs { IfOk result (λ done. IsTrue done → (places : ℕ)
-        → LinesRun places (Skip (length lines.now) (term a.now) ∷ map line lines.now) context.now chosen.entry.rows.now state.old state.new) }
+    ensures runs { IfOk result (λ done. IsTrue done
+        → LinesRun context.now.places (Skip (length lines.now) (term a.now) ∷ map line lines.now) context.now chosen.entry.rows.now state.old state.new) }
 {
     let Some(parts) = part_by(alloc, a, chosen, context, state)? else {
         return Ok(false);
     };
     run_held(alloc, lines, &parts.held, context, state)
+}
+
+// Runs lines that begin with an each along out-edges, of so many of the lines behind it.
+#[cycle(running)]
+fn run_from_each(
+    alloc: Global,
+    n: u32,
+    lines: &[VertexLine],
+    chosen: Chosen,
+    context: &BatchContext,
+    state: &mut BatchState,
+) -> Result<bool, NoMemory>
+    requires context { IsContext context.now }
+    requires chosen { AreChosen (length context.now.nodes.now) chosen }
+    requires full { IsFull (length context.now.nodes.now) state.old }
+    ensures full { IfOk result (λ done. IsTrue done → IsFull (length context.now.nodes.now) state.new) }
+    ensures runs { IfOk result (λ done. IsTrue done
+        → LinesRun context.now.places (Each Out n ∷ map line lines.now) context.now chosen.entry.rows.now state.old state.new) }
+{
+    let n = n as usize;
+    if n > lines.len() || !stays(&lines[..n]) {
+        return Ok(false);
+    }
+    if !run_each(alloc, &lines[..n], chosen, context, state)? {
+        return Ok(false);
+    }
+    run_lines(alloc, &lines[n..], chosen, context, state)
 }
 
 /// Runs lines for all rows that reach them, line by line. It answers whether that could be done; if not, the state is to be
@@ -246,12 +318,15 @@ pub(crate) fn run_lines(
     requires chosen { AreChosen (length context.now.nodes.now) chosen }
     requires full { IsFull (length context.now.nodes.now) state.old }
     ensures full { IfOk result (λ done. IsTrue done → IsFull (length context.now.nodes.now) state.new) }
-    ensures runs { IfOk result (λ done. IsTrue done → (places : ℕ)
-        → LinesRun places (map line lines.now) context.now chosen.entry.rows.now state.old state.new) }
+    ensures runs { IfOk result (λ done. IsTrue done
+        → LinesRun context.now.places (map line lines.now) context.now chosen.entry.rows.now state.old state.new) }
 {
     let Some((first, rest)) = lines.split_first() else {
         return Ok(true);
     };
+    if let VertexLine::EachOut(n) = first {
+        return run_from_each(alloc, *n, rest, chosen, context, state);
+    }
     let VertexLine::Skip(n, a) = first else {
         if !run_line(alloc, first, chosen, context, state)? {
             return Ok(false);

@@ -5,6 +5,9 @@ use Rattle.gm_batch_steps.proofs.lines.+running.Given as goal
 abbrev pub decreases-run_lines : goal.decreases-run_lines
 decreases-run_lines l = 3 * length l.lines.now
 
+abbrev pub decreases-run_from_each : goal.decreases-run_from_each
+decreases-run_from_each l = 3 * length l.lines.now + 2
+
 abbrev pub decreases-run_held : goal.decreases-run_held
 decreases-run_held l = 3 * length l.lines.now + 1
 

@@ -30,9 +30,10 @@ returns-clause-full c done = record {
 }
 
 pub returns-clause-runs : goal.returns-clause-runs
-returns-clause-runs c done places =
+returns-clause-runs c done =
+    let places = c.args.context.now.places in
     let view = view_in c.args.context.now c.args.state.now in
     let rows = c.args.chosen.rows.now in
     field-runs places (length c.args.context.now.nodes.now) c.args.field (term c.args.a.now) c.args.context.now rows c.in-Some.column.values c.args.state.now _
     (values-found (map view rows) (term c.args.a.now) c.in_ok-column.field-0 c.in-Some.column c.in-Some.is c.in_ok-column.ensures)
-    c.requires.full (recursion_from_All _ rows c.requires.chosen.rows_within) c.requires.chosen.distinct c.in_ok-write_field.ensures refl refl
+    c.requires.full (recursion_from_All _ rows c.requires.chosen.rows_within) c.requires.chosen.distinct c.in_ok-write_field.ensures refl refl refl

@@ -25,7 +25,8 @@ changed registers r old new rows ys o lt at is h =
     ∙ ap (λ xs. written_at xs rows ys) (ap values-of at ∙ sym (get-map values-of registers r old [] lt)))
 
 pub returns-then-register-len-clause-runs : goal.returns-then-register-len-clause-runs
-returns-then-register-len-clause-runs c done places =
+returns-then-register-len-clause-runs c done =
+    let places = c.args.context.now.places in
     let view = view_in c.args.context.now c.args.state.now in
     let rows = c.args.chosen.rows.now in
     let registers = c.args.state.now.registers.items in
@@ -33,7 +34,7 @@ returns-then-register-len-clause-runs c done places =
     (values-found (map view rows) (term c.args.a.now) c.in_ok-column.field-0 c.in-Some.column c.in-Some.is c.in_ok-column.ensures)
     c.requires.full (recursion_from_All _ rows c.requires.chosen.rows_within) c.requires.chosen.distinct
     (sym (set_past (register_columns c.args.state.now) c.args.register _
-    (omega (arith, c.if-register-len.true, c.len.ensures, c.args.state.now.registers.ok, length-map registers values-of)))) refl refl
+    (omega (arith, c.if-register-len.true, c.len.ensures, c.args.state.now.registers.ok, length-map registers values-of)))) refl refl refl
 
 pub written-requires-clause-within : goal.written-requires-clause-within
 written-requires-clause-within c k d lt =
@@ -65,7 +66,8 @@ returns-clause-full c done =
     }
 
 pub returns-clause-runs : goal.returns-clause-runs
-returns-clause-runs c done places =
+returns-clause-runs c done =
+    let places = c.args.context.now.places in
     let view = view_in c.args.context.now c.args.state.now in
     let rows = c.args.chosen.rows.now in
     let registers = c.args.state.now.registers.items in
@@ -73,4 +75,4 @@ returns-clause-runs c done places =
     (values-found (map view rows) (term c.args.a.now) c.in_ok-column.field-0 c.in-Some.column c.in-Some.is c.in_ok-column.ensures)
     c.requires.full (recursion_from_All _ rows c.requires.chosen.rows_within) c.requires.chosen.distinct
     (changed registers c.args.register c.index.result.now c.in-Some-2.new rows c.in-Some.column.values c.in_ok-new.field-0
-    (omega (arith, c.if-register-len.false, c.len.ensures, c.args.state.now.registers.ok)) c.index.ensures c.in-Some-2.is c.in_ok-new.ensures) refl refl
+    (omega (arith, c.if-register-len.false, c.len.ensures, c.args.state.now.registers.ok)) c.index.ensures c.in-Some-2.is c.in_ok-new.ensures) refl refl refl

@@ -1,6 +1,6 @@
-use Rattle.std.proofs.Common.{◌≡◌, ◌∙◌, ◌<◌, ◌≤◌, ◌+◌, ◌++◌, ℕ, List, ap, arith, length, map, refl, replicate, subst, sym}
+use Rattle.std.proofs.Common.{◌≡◌, ◌∙◌, ◌<◌, ◌≤◌, ◌+◌, ◌++◌, ℕ, List, None, ap, arith, length, map, refl, replicate, subst, sym}
 use Rattle.std.specs.Prelude.{All, slice_range}
-use Rattle.std.specs.List.{range_with_len}
+use Rattle.std.specs.List.{flat_map, range_with_len}
 use Rattle.std.proofs.lemmas.List.{length-map}
 use Rattle.std.proofs.lemmas.List.Elements.{All-from_recursion, All-map}
 use Rattle.gm_value.specs.declared.values.Value.{Value}
@@ -8,6 +8,7 @@ use Rattle.gm_value.specs.Numbers.{zero_of}
 use Rattle.gm_columns.specs.declared.cells.Cells.{Cells}
 use Rattle.gm_columns.specs.Cells.{values_of}
 use Rattle.gm_image.specs.Views.{line, program}
+use Rattle.gm_message_columns.specs.MessageTables.{message_rows}
 use Rattle.gm_batch_steps.specs.declared.batch_states.BatchContext.{BatchContext}
 use Rattle.gm_batch_steps.specs.declared.batch_states.BatchState.{BatchState}
 use Rattle.gm_batch_steps.specs.BatchStates.{AreDistinct}
@@ -42,7 +43,7 @@ run_lines-requires-clause-full c =
 
 pub store-requires-clause-wide : goal.store-requires-clause-wide
 store-requires-clause-wide c =
-    let run = c.in_ok-run_lines.ensures.runs c.if-not-branch.false 0 in
+    let run = c.in_ok-run_lines.ensures.runs c.if-not-branch.false in
     omega (
       arith,
       ap length c.deref-3.ensures.value,
@@ -67,16 +68,17 @@ returns-clause-steps c done =
     let fields = c.args.fields.now.items in
     let rows : c.deref-2.result.now ≡ range_with_len 0 n = c.deref-2.ensures.value ∙ c.in_ok-rows.ensures in
     let places : ℕ = length (program c.args.duty.now.image.now).places in
-    let context : BatchContext = record { graph = c.args.duty.now.graph; globals = c.args.duty.now.globals; nodes = c.args.nodes } in
-    let start : BatchState = record { fields = c.in_ok-fields_of.field-0; registers = c.in_ok-registers_of.field-0; puts = c.empty.result } in
+    let context : BatchContext = record { graph = c.args.duty.now.graph; globals = c.args.duty.now.globals; nodes = c.args.nodes; places = c.len.result } in
+    let start : BatchState = record { fields = c.in_ok-fields_of.field-0; registers = c.in_ok-registers_of.field-0; sent = None; puts = c.empty.result } in
     steps-are c.args.duty.now context c.args.nodes.now from (from + n) (map values_of fields) (map values_of c.store.new.fields.items) start c.run_lines.new.state
-    (map line c.body_of-body.result.now) c.args.puts.now c.add_parts.new.self
+    (map line c.body_of-body.result.now) (flat_map message_rows c.args.sent.now.items) (flat_map message_rows c.give_messages.new.sent.items) c.args.puts.now c.add_parts.new.self
     refl refl refl refl c.body_of-body.ensures
     (c.in_ok-fields_of.ensures ∙ ap (map (λ cells. slice_range (values_of cells) from (from + n))) c.deref.ensures.value
     ∙ sym (map-map (λ values. slice_range values from (from + n)) values_of fields))
-    (c.in_ok-registers_of.ensures ∙ ap (map (λ t. replicate n (zero_of t))) c.as_slice.ensures) c.empty.ensures
-    (subst (λ ks. LinesRun places (map line c.body_of-body.result.now) context ks start c.run_lines.new.state) rows (c.in_ok-run_lines.ensures.runs c.if-not-branch.false places))
+    (c.in_ok-registers_of.ensures ∙ ap (map (λ t. replicate n (zero_of t))) c.as_slice.ensures) refl c.empty.ensures
+    (subst (λ ks. LinesRun places (map line c.body_of-body.result.now) context ks start c.run_lines.new.state) rows (subst (λ n. LinesRun n (map line c.body_of-body.result.now) context c.deref-2.result.now start c.run_lines.new.state) c.len.ensures (c.in_ok-run_lines.ensures.runs c.if-not-branch.false)))
     (c.in_ok-run_lines.ensures.full c.if-not-branch.false)
     (All-map (λ values. from + n ≤ length values) values_of fields c.requires.within)
     (c.in_ok-store.ensures ∙ ap (λ (l : List Cells). with_parts from (map values_of fields) (map values_of l)) c.deref-3.ensures.value)
+    c.in_ok-give_messages.ensures
     (c.in_ok-add_parts.ensures.added ∙ ap (λ l. c.args.puts.now ++ l) c.parts.ensures.parts)
