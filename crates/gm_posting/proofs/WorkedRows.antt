@@ -3,7 +3,7 @@ use Rattle.std.specs.Prelude.{◌≡◌, ℕ, [], ◌∷◌, ◌++◌, refl}
 use Rattle.gm_base.specs.Merge.{of}
 use Rattle.gm_posting.specs.Numbers.{pass_worker, worker_pass}
 use Rattle.gm_posting.specs.Traffic.{Traffic, sends, sent_to, taken_by}
-use Rattle.gm_posting.specs.Gathering.{only_for}
+use Rattle.gm_posting.specs.Gathering.{only_for, at_places}
 
 -- the passes of worker 2's mailbox
 pass-rows : (pass_worker 2 0 ≡ 2) × (pass_worker 2 1 ≡ 0) × (pass_worker 2 2 ≡ 1) × (pass_worker 2 3 ≡ 3)
@@ -29,5 +29,9 @@ sent-rows = (refl, refl, refl, refl)
 arrives-rows : (of (taken_by (first ∷ second ∷ []) 1 ++ (0, 6) ∷ []) 0 ≡ 5 ∷ 6 ∷ []) × (of (taken_by (first ∷ second ∷ []) 1 ++ (0, 6) ∷ []) 1 ≡ 7 ∷ [])
 arrives-rows = (refl, refl)
 
-only-rows : (only_for {M = ℕ} 1 9 0 ≡ []) × (only_for {M = ℕ} 1 9 1 ≡ 9 ∷ [])
+only-rows : (only_for {M = ℕ} 1 (9 ∷ 8 ∷ []) 0 ≡ []) × (only_for {M = ℕ} 1 (9 ∷ 8 ∷ []) 1 ≡ 9 ∷ 8 ∷ [])
 only-rows = (refl, refl)
+
+-- items may be taken in any order, and one of them again
+places-rows : (at_places {M = ℕ} (5 ∷ 6 ∷ 7 ∷ []) (2 ∷ 0 ∷ 2 ∷ []) 0 ≡ 7 ∷ 5 ∷ 7 ∷ []) × (at_places {M = ℕ} (5 ∷ []) [] 0 ≡ [])
+places-rows = (refl, refl)

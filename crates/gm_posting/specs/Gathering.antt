@@ -3,9 +3,13 @@ use Rattle.std.specs.Prelude.{◌≡◌, ◌≢◌, ◌<◌, ◌≤◌, ℕ, Lis
 use Rattle.std.specs.List.{flat_map}
 use Rattle.gm_posting.specs.Traffic.{Traffic}
 
--- an item for one receiver, and nothing for the others
-abbrev pub only_for : {M : Type 0} → ℕ → M → ℕ → List M
-only_for to x w = (if w == to then x ∷ [] else [])
+-- items for one receiver, and nothing for the others
+abbrev pub only_for : {M : Type 0} → ℕ → List M → ℕ → List M
+only_for to more w = (if w == to then more else [])
+
+-- the items at some places, in the order of the places
+abbrev pub at_places : {M : Type 0} → List M → List ℕ → M → List M
+at_places items places d = map (λ place. slice_index_or items place d) places
 
 -- nothing for anyone
 abbrev pub nothing : {M : Type 0} → ℕ → List M

@@ -1,7 +1,7 @@
 // What a worker has to send, gathered for each receiver into batches.
 
-ghost use Rattle.std.specs.Prelude.{◌≡◌, ◌<◌, ◌≤◌, ℕ, List, [], ◌∷◌, ◌++◌, IfOk, OnOk, length, slice_index_or};
-ghost use Rattle.gm_posting.specs.Gathering.{GoesTo, Gathers, AreFew, NothingGathered, held, only_for, nothing};
+ghost use Rattle.std.specs.Prelude.{◌≡◌, ◌<◌, ◌≤◌, ◌+◌, ℕ, List, [], ◌++◌, All, IfOk, OnOk, length};
+ghost use Rattle.gm_posting.specs.Gathering.{GoesTo, Gathers, AreFew, NothingGathered, at_places, held, only_for, nothing};
 
 use crate::posts::{Mailboxes, Posts};
 use gm_base::NoMemory;
@@ -26,10 +26,10 @@ pub trait Bundle: Drop + Sized {
     fn len(&self) -> usize
         ensures { result ≡ length (items self.now) };
 
-    /// Adds an item of another batch, by its place there, behind the others.
-    fn add(&mut self, from: &Self, i: usize) -> Result<(), NoMemory>
-        requires { i < length (items from.now) }
-        ensures { OnOk result ((d : Item) → items self.new ≡ items self.old ++ slice_index_or (items from.now) i d ∷ []) };
+    /// Adds the items of another batch at some places, in the order of the places, behind the others.
+    fn add_rows(&mut self, from: &Self, rows: &[u32]) -> Result<(), NoMemory>
+        requires { All (λ row. row < length (items from.now)) rows.now }
+        ensures { OnOk result ((d : Item) → items self.new ≡ items self.old ++ at_places (items from.now) rows.now d) };
 }
 
 // Sends what has gathered for a receiver, if there is something.
@@ -56,8 +56,32 @@ fn send_off<B: Bundle, R: Wait>(
     }
 }
 
-// Puts one more item to what has gathered for a receiver, and sends it once there are enough.
-fn put_one<B: Bundle, R: Wait>(
+// Sends what has gathered for a receiver where so many more items do not fit behind it.
+fn make_room<B: Bundle, R: Wait>(
+    rt: &R,
+    alloc: Global,
+    mailboxes: &Mailboxes<B>,
+    posts: &mut Posts<B>,
+    to: u32,
+    gathered: &mut B,
+    more: usize,
+) -> Result<(), NoMemory>
+    requires mailboxes { posts.old.mailboxes ≡ mailboxes.now }
+    requires receiver { to < length mailboxes.now }
+    requires few { length (B.items gathered.old) < 1024 }
+    requires few_more { more ≤ 1024 }
+    ensures gone { OnOk result (GoesTo B.items to [] posts.old posts.new gathered.old gathered.new) }
+    ensures room { OnOk result (length (B.items gathered.new) + more ≤ 1024) }
+{
+    if gathered.len() + more <= FULL {
+        return Ok(());
+    }
+    send_off(rt, alloc, mailboxes, posts, to, gathered)
+}
+
+// Puts at most a batch's items to what has gathered for a receiver, which is sent first where they do not fit behind it, and
+// with them where there are enough.
+fn put_some<B: Bundle, R: Wait>(
     rt: &R,
     alloc: Global,
     mailboxes: &Mailboxes<B>,
@@ -65,19 +89,56 @@ fn put_one<B: Bundle, R: Wait>(
     to: u32,
     gathered: &mut B,
     from: &B,
-    i: usize,
+    rows: &[u32],
 ) -> Result<(), NoMemory>
     requires mailboxes { posts.old.mailboxes ≡ mailboxes.now }
     requires receiver { to < length mailboxes.now }
     requires few { length (B.items gathered.old) < 1024 }
-    requires item { i < length (B.items from.now) }
-    ensures { OnOk result ((d : B.Item) → GoesTo B.items to (slice_index_or (B.items from.now) i d ∷ []) posts.old posts.new gathered.old gathered.new) }
+    requires rows { All (λ row. row < length (B.items from.now)) rows.now }
+    requires few_rows { length rows.now ≤ 1024 }
+    ensures { OnOk result ((d : B.Item) → GoesTo B.items to (at_places (B.items from.now) rows.now d) posts.old posts.new gathered.old gathered.new) }
 {
-    gathered.add(from, i)?;
+    make_room(rt, alloc, mailboxes, posts, to, gathered, rows.len())?;
+    gathered.add_rows(from, rows)?;
     if gathered.len() < FULL {
         return Ok(());
     }
     send_off(rt, alloc, mailboxes, posts, to, gathered)
+}
+
+// Puts items to what has gathered for a receiver, a batch's at a time.
+fn put_to<B: Bundle, R: Wait>(
+    rt: &R,
+    alloc: Global,
+    mailboxes: &Mailboxes<B>,
+    posts: &mut Posts<B>,
+    to: u32,
+    gathered: &mut B,
+    from: &B,
+    rows: &[u32],
+) -> Result<(), NoMemory>
+    requires mailboxes { posts.old.mailboxes ≡ mailboxes.now }
+    requires receiver { to < length mailboxes.now }
+    requires few { length (B.items gathered.old) < 1024 }
+    requires rows { All (λ row. row < length (B.items from.now)) rows.now }
+    ensures { OnOk result ((d : B.Item) → GoesTo B.items to (at_places (B.items from.now) rows.now d) posts.old posts.new gathered.old gathered.new) }
+{
+    let mut next = 0;
+    while next < rows.len() {
+        let end = next + FULL.min(rows.len() - next);
+        put_some(
+            rt,
+            alloc,
+            mailboxes,
+            posts,
+            to,
+            gathered,
+            from,
+            &rows[next..end],
+        )?;
+        next = end;
+    }
+    Ok(())
 }
 
 /// What has gathered for so many workers before anything does: an empty batch for each.
@@ -91,9 +152,10 @@ pub fn gather_nothing<B: Bundle>(alloc: Global, workers: u32) -> Result<Vec<B>, 
     Ok(gathered)
 }
 
-/// Puts one more item, which stands in another batch at a place, to what has gathered for a receiver, and sends a batch
-/// of 1,024 once there are so many. Where there is not enough memory, the item or the batch is lost, and the run is given up.
-pub fn put<B: Bundle, R: Wait>(
+/// Puts the items at some places of another batch, in the order of the places, to what has gathered for a receiver, and
+/// sends what has gathered before it is more than 1,024, and once it is so many. Where there is not enough memory, some of
+/// the items or a batch are lost, and the run is given up.
+pub fn put_rows<B: Bundle, R: Wait>(
     rt: &R,
     alloc: Global,
     mailboxes: &Mailboxes<B>,
@@ -101,16 +163,16 @@ pub fn put<B: Bundle, R: Wait>(
     gathered: &mut [B],
     to: u32,
     from: &B,
-    i: usize,
+    rows: &[u32],
 ) -> Result<(), NoMemory>
     requires mailboxes { posts.old.mailboxes ≡ mailboxes.now }
     requires wide { length gathered.old ≡ length mailboxes.now }
     requires few { AreFew B.items gathered.old }
     requires receiver { to < length mailboxes.now }
-    requires item { i < length (B.items from.now) }
-    ensures { OnOk result ((d : B.Item) → Gathers B.items (only_for to (slice_index_or (B.items from.now) i d)) posts.old posts.new gathered.old gathered.new) }
+    requires rows { All (λ row. row < length (B.items from.now)) rows.now }
+    ensures { OnOk result ((d : B.Item) → Gathers B.items (only_for to (at_places (B.items from.now) rows.now d)) posts.old posts.new gathered.old gathered.new) }
 {
-    put_one(
+    put_to(
         rt,
         alloc,
         mailboxes,
@@ -118,7 +180,7 @@ pub fn put<B: Bundle, R: Wait>(
         to,
         &mut gathered[to as usize],
         from,
-        i,
+        rows,
     )
 }
 

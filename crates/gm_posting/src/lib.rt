@@ -13,8 +13,8 @@
 //! occurs. So nothing is lost, nothing comes twice, and nothing comes to another worker. Between two senders there is
 //! no order. Nothing is said of when a batch comes, nor which batches are taken early.
 //!
-//! A worker may also gather items for each receiver by [`put`], which sends a batch of 1,024 once there are so many, and
-//! send the rest by [`flush`]. Then what comes to a receiver from a sender are the items that were put for it there, in
+//! A worker may also gather items for each receiver by [`put_rows`], which sends batches of at most 1,024, and send the
+//! rest by [`flush`]. Then what comes to a receiver from a sender are the items that were put for it there, in
 //! order: this is the law [`what_is_put_arrives`].
 //!
 //! Where a worker runs out of memory the run is given up: mailboxes and passes may be dropped at any time, with the
@@ -34,7 +34,7 @@ mod passes;
 mod posts;
 
 pub use closing::close;
-pub use gathering::{Bundle, flush, gather_nothing, put};
+pub use gathering::{Bundle, flush, gather_nothing, put_rows};
 pub use laws::what_is_put_arrives;
 pub use opening::open;
 pub use posts::{Mailboxes, Posts};

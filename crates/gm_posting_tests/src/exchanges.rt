@@ -7,7 +7,7 @@ ghost use Rattle.gm_posting_tests.specs.Exchanges.{IsSame, numbers_of};
 use crate::letters::{Letters, add_letters, letters_to, one_letter, receiver_of};
 use crate::meetings::Meeting;
 use gm_base::{Gate, NoMemory, OpenGate};
-use gm_posting::{Mailboxes, Posts, close, flush, gather_nothing, open, put};
+use gm_posting::{Mailboxes, Posts, close, flush, gather_nothing, open, put_rows};
 use gm_shifts::{Task, Turn, run_all};
 use std::alloc::Global;
 use std::sync::Wait;
@@ -54,7 +54,7 @@ fn send_letter<R: Wait>(
 {
     let letter = one_letter(alloc, number)?;
     let to = receiver_of(posts.worker(), number, posts.workers());
-    put(rt, alloc, mailboxes, posts, gathered, to, &letter, 0)?;
+    put_rows(rt, alloc, mailboxes, posts, gathered, to, &letter, &[0])?;
     take_all(rt, mailboxes, posts, early)?;
     Ok(())
 }

@@ -29,8 +29,10 @@ impl Bundle for Letters {
         self.numbers.len()
     }
 
-    fn add(&mut self, from: &Self, i: usize) -> Result<(), NoMemory> {
-        self.numbers.push(from.numbers[i])?;
+    fn add_rows(&mut self, from: &Self, rows: &[u32]) -> Result<(), NoMemory> {
+        for row in rows {
+            self.numbers.push(from.numbers[*row as usize])?;
+        }
         Ok(())
     }
 }

@@ -10,7 +10,7 @@ use Rattle.gm_model.specs.Graphs.{NumberedGraph, HasNode, node_count}
 use Rattle.gm_image.specs.Program.{Program, Block}
 use Rattle.gm_image.specs.Views.{program}
 use Rattle.gm_machine.specs.declared.node_steps.Duty.{Duty}
-use Rattle.gm_machine.specs.declared.steps.Sent.{Sent}
+use Rattle.gm_node_batches.specs.declared.steps.Sent.{Sent}
 use Rattle.gm_machine.specs.Machine.{Control, inbox, block_at, context_at}
 use Rattle.gm_machine.specs.Steps.{step_after}
 use Rattle.gm_machine.specs.Vertex.{Message, VertexContext, After, vertex_after, goes_on, folded, gathered, begun, handler_run, body_after}

@@ -5,9 +5,12 @@ use Rattle.std.specs.List.{range_with_len}
 use Rattle.std.proofs.lemmas.Bool.{cases_eq, cases_lt, eq-eqb, ne_eqb}
 use Rattle.std.proofs.lemmas.List.{append-nil, map-append, get_or-set_same, get_or-set_other, length-set, length_push, get_or_append_left, get_or_push, get_or-map, get_or_past, length-map, get_or-replicate, length-replicate}
 use Rattle.std.proofs.lemmas.List.Elements.{filter-append}
+use Rattle.gm_machine.specs.Vertex.{Message}
 use Rattle.gm_core.specs.Cores.{owner, below}
 use Rattle.gm_core.specs.Supersteps.{own}
-use Rattle.gm_workers.specs.Dealings.{place_in}
+use Rattle.gm_message_columns.specs.MessageTables.{directed}
+use Rattle.gm_workers.specs.declared.dealing.Dealing.{Dealing}
+use Rattle.gm_workers.specs.Dealings.{place_in, place_for, placed}
 
 -- one more number
 range-more : (a n : ℕ) → range_with_len a (suc n) ≡ range_with_len a n ++ (a + n) ∷ []
@@ -203,3 +206,8 @@ module _ (owners : List ℕ) where
       ap (λ b. nat_eq (cond b (slice_index_or places t none) none) k) (ne_eqb (owner owners t) w other)
       ∙ never (λ e. other (ap (owner owners) e ∙ at.owned)) (λ e. omega arith))
       (cases_eq (owner owners t) w)
+
+-- messages to the places of their nodes
+pub directed-placed : (d : Dealing) (w : ℕ) (ms : List Message) → directed (map (λ m. place_for d w m.to) ms) ms ≡ map (placed d w) ms
+directed-placed d w [] = refl
+directed-placed d w (m ∷ ms) = ap (λ l. placed d w m ∷ l) (directed-placed d w ms)

@@ -1,3 +1,4 @@
+pub mod PartingLemmas
 pub mod PostLemmas
 pub mod PartLemmas
 pub mod Sharing
@@ -8,3 +9,5 @@ pub mod CrewLemmas
 pub mod StandLemmas
 pub mod FirstLemmas
 pub mod RunLemmas
+pub mod SettledPuts
+pub mod SameSteps

@@ -9,13 +9,17 @@ use Rattle.gm_value.specs.declared.values.Value.{Value}
 use Rattle.gm_image.specs.Views.{program}
 use Rattle.gm_machine.specs.declared.faults.Fault.{Fault}
 use Rattle.gm_machine.specs.declared.node_steps.Duty.{Duty}
-use Rattle.gm_machine.specs.declared.steps.Sent.{Sent}
-use Rattle.gm_machine.specs.Duties.{between, StepsTo}
+use Rattle.gm_machine.specs.Duties.{between}
 use Rattle.gm_machine.specs.Faults.{lesser, least_fault}
 use Rattle.gm_machine.specs.Fields.{HeldFields}
 use Rattle.gm_machine.specs.Steps.{step_after}
+use Rattle.gm_machine.specs.Taking.{Contribution}
 use Rattle.gm_machine.specs.Vertex.{Message, After}
 use Rattle.gm_machine.proofs.LeastLaws.{lesser-assoc, least_right, least_from-right}
+use Rattle.gm_put_totals.specs.Settling.{SettleAs}
+use Rattle.gm_put_totals.proofs.SettlingLemmas.{settles-itself, settles-through, settles-together}
+use Rattle.gm_node_batches.specs.declared.steps.Sent.{Sent}
+use Rattle.gm_node_batches.specs.Taken.{StepsTaken}
 use Rattle.gm_posting.specs.Traffic.{Traffic}
 use Rattle.gm_posting.specs.Gathering.{AreFew, GoesOn, held, sent_by_worker}
 use Rattle.gm_core.specs.Cores.{owner, for_worker}
@@ -47,7 +51,7 @@ length-range a (suc n) = ap suc (length-range (a + 1) n)
 pub length-between : {A : Type 0} (f : ℕ → A) (k : ℕ) → length (map f (between 0 k)) ≡ k
 length-between f k = length-map (between 0 k) f ∙ length-range 0 (k - 0) ∙ (let e : k - 0 ≡ k = omega arith in e)
 
-map-range : {A : Type 0} (f f' : ℕ → A) (a n : ℕ) → ((i : ℕ) → a ≤ i → i < a + n → f i ≡ f' i) → map f (range_with_len a n) ≡ map f' (range_with_len a n)
+pub map-range : {A : Type 0} (f f' : ℕ → A) (a n : ℕ) → ((i : ℕ) → a ≤ i → i < a + n → f i ≡ f' i) → map f (range_with_len a n) ≡ map f' (range_with_len a n)
 map-range f f' a zero same = refl
 map-range f f' a (suc n) same =
     ap (λ x. x ∷ map f (range_with_len (a + 1) n)) (same a (omega arith) (omega arith))
@@ -99,14 +103,14 @@ part-none d owners nodes boxes fields t gathered came s few none puts fault = re
   fields_are = refl;
   hands = hands-none t gathered came few;
   none = none;
-  puts = puts;
+  puts = subst (SettleAs []) (sym puts) (settles-itself []);
   fault = fault;
 }
 
 -- some more nodes have computed
 pub part-more : (d : Duty) (owners nodes : List ℕ) (boxes : List (List Message)) (from to : ℕ) (fields : List (List Value)) (now new : HeldFields) (t t' t'' : Traffic Mail) (before middle after : List Mail) (came came' came'' : List (ℕ × Mail)) (s s' s'' : Sent) →
     PartTo d owners nodes boxes from fields now.rows t t' before middle came came' s →
-    StepsTo (step_at d nodes boxes now.rows) from to now new s s' → Hands (λ w. for_worker owners w s'.messages) t' t'' middle after came' came'' →
+    StepsTaken (step_at d nodes boxes now.rows) from to now new s s' → Hands (λ w. for_worker owners w s'.messages) t' t'' middle after came' came'' →
     length fields ≡ length now.rows → s''.messages ≡ [] → s''.puts ≡ s'.puts → s''.fault ≡ s'.fault →
     PartTo d owners nodes boxes to fields new.rows t t'' before after came came'' s''
 part-more d owners nodes boxes from to fields now new t t' t'' before middle after came came' came'' s s' s'' part steps hands long none puts_is fault_is =
@@ -118,20 +122,24 @@ part-more d owners nodes boxes from to fields now new t t' t'' before middle aft
     let same : (i : ℕ) → from ≤ i → f' i ≡ f i =
     λ i low. ap (λ l. step_after (program d.image.now) d.block d.globals.now d.graph.now (slice_index nodes i) (slice_index_or boxes i []) l)
     (ap (λ l. slice_index_or l i []) rows ∙ behind done fields [] i (omega (arith, many, low))) in
-    let split : between 0 to ≡ between 0 from ++ between from to = between-split from to (omega (arith, steps.ahead)) in
+    let split : between 0 to ≡ between 0 from ++ between from to = between-split from to (omega (arith, steps.steps.ahead)) in
     let sent : s'.messages ≡ messages_of f (between from to) =
-    steps.taken.messages ∙ ap (λ l. l ++ messages_of f' (between from to)) part.none
+    steps.steps.taken.messages ∙ ap (λ l. l ++ messages_of f' (between from to)) part.none
     ∙ flat-range (λ i. (f' i).state.messages) (λ i. (f i).state.messages) from (to - from) (λ i low high. ap (λ (a : After). a.state.messages) (same i low)) in
+    let put : (ℕ → After) → List ℕ → List Contribution = λ g is. flat_map (λ i. (g i).state.puts) is in
+    let given : steps.puts ≡ s.puts ++ put f (between from to) =
+    steps.steps.taken.puts
+    ∙ ap (λ l. s.puts ++ l) (flat-range (λ i. (f' i).state.puts) (λ i. (f i).state.puts) from (to - from) (λ i low high. ap (λ (a : After). a.state.puts) (same i low))) in
     let all : messages_of f (between 0 from) ++ s'.messages ≡ messages_of f (between 0 to) =
     ap (λ l. messages_of f (between 0 from) ++ l) sent
     ∙ sym (ap (messages_of f) split ∙ flat_map-append (λ i. (f i).state.messages) (between 0 from) (between from to)) in
     record {
-      within = omega (arith, steps.within, long);
+      within = omega (arith, steps.steps.within, long);
       fields_are =
-          steps.taken.fields
+          steps.steps.taken.fields
           ∙ ap (λ l. l ++ (map (λ i. (f' i).state.fields) (between from to) ++ drop to now.rows)) (ap (take from) rows ∙ ap (λ k. take k (done ++ drop (length done) fields)) (sym many) ∙ front done (drop (length done) fields))
           ∙ ap (λ l. done ++ (l ++ drop to now.rows)) (map-range (λ i. (f' i).state.fields) (λ i. (f i).state.fields) from (to - from) (λ i low high. ap (λ (a : After). a.state.fields) (same i low)))
-          ∙ ap (λ l. done ++ (map (λ i. (f i).state.fields) (between from to) ++ l)) (ap (drop to) rows ∙ past done fields to (omega (arith, many, steps.ahead)))
+          ∙ ap (λ l. done ++ (map (λ i. (f i).state.fields) (between from to) ++ l)) (ap (drop to) rows ∙ past done fields to (omega (arith, many, steps.steps.ahead)))
           ∙ sym (append_assoc done (map (λ i. (f i).state.fields) (between from to)) (drop to fields))
           ∙ ap (λ l. l ++ drop to fields) (sym (ap (map (λ i. (f i).state.fields)) split ∙ map-append (λ i. (f i).state.fields) (between 0 from) (between from to)));
       hands =
@@ -140,15 +148,14 @@ part-more d owners nodes boxes from to fields now new t t' t'' before middle aft
           part.hands hands;
       none = none;
       puts =
-          puts_is
-          ∙ steps.taken.puts
-          ∙ ap (λ l. l ++ flat_map (λ i. (f' i).state.puts) (between from to)) part.puts
-          ∙ ap (λ l. flat_map (λ i. (f i).state.puts) (between 0 from) ++ l)
-          (flat-range (λ i. (f' i).state.puts) (λ i. (f i).state.puts) from (to - from) (λ i low high. ap (λ (a : After). a.state.puts) (same i low)))
-          ∙ sym (ap (flat_map (λ i. (f i).state.puts)) split ∙ flat_map-append (λ i. (f i).state.puts) (between 0 from) (between from to));
+          subst (SettleAs (put f (between 0 to))) (sym puts_is)
+          (settles-through (put f (between 0 to)) (s.puts ++ put f (between from to)) s'.puts
+          (subst (λ l. SettleAs l (s.puts ++ put f (between from to))) (sym (ap (put f) split ∙ flat_map-append (λ i. (f i).state.puts) (between 0 from) (between from to)))
+          (settles-together (put f (between 0 from)) s.puts (put f (between from to)) (put f (between from to)) part.puts (settles-itself (put f (between from to)))))
+          (subst (λ l. SettleAs l s'.puts) given steps.settle));
       fault =
           fault_is
-          ∙ steps.taken.fault
+          ∙ steps.steps.taken.fault
           ∙ ap (λ x. lesser x (least_fault (map (λ i. (f' i).fault) (between from to)))) part.fault
           ∙ ap (λ xs. lesser (least_fault (map (λ i. (f i).fault) (between 0 from))) (least_fault xs))
           (map-range (λ i. (f' i).fault) (λ i. (f i).fault) from (to - from) (λ i low high. ap (λ (a : After). a.fault) (same i low)))

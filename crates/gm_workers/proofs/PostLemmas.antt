@@ -1,14 +1,11 @@
 -- What a worker sends and takes, piece by piece.
-use Rattle.std.proofs.Common.{◌≡◌, ◌<◌, ◌+◌, ℕ, cond, nat_eq, List, [], ◌∷◌, ◌++◌, length, take, sym, ap, ◌∙◌, subst, arith, append_assoc, ⊎_elim}
-use Rattle.std.specs.Prelude.{slice_index_or}
-use Rattle.std.proofs.lemmas.Bool.{cases_eq, eq-eqb, ne_eqb}
-use Rattle.std.proofs.lemmas.List.{append-nil, take_more}
-use Rattle.std.proofs.lemmas.List.Elements.{filter-append}
+use Rattle.std.proofs.Common.{◌≡◌, ◌<◌, ◌≤◌, ◌+◌, ℕ, cond, nat_lt, List, [], ◌∷◌, ◌++◌, length, sym, ap, ◌∙◌, subst, arith, append_assoc, ⊎_elim, lt-ltb, le-ltb}
+use Rattle.std.proofs.lemmas.Bool.{cases_eq, cases_lt, eq-eqb, ne_eqb}
+use Rattle.std.proofs.lemmas.List.{append-nil}
 use Rattle.gm_machine.specs.Vertex.{Message}
 use Rattle.gm_posting.specs.Traffic.{Traffic}
 use Rattle.gm_posting.specs.Gathering.{only_for, held, sent_by_worker, GoesOn, Gathers, AreFew}
 use Rattle.gm_posting.proofs.GatheringLemmas.{goes-then, gathers-then, gathers-nothing}
-use Rattle.gm_core.specs.Cores.{owner, for_worker}
 use Rattle.gm_workers.specs.declared.mail.Mail.{Mail}
 use Rattle.gm_workers.specs.Parts.{items_of, Takes, Hands}
 
@@ -21,30 +18,49 @@ gathers-as more more' old new before after same g = record {
   each = λ to low. subst (λ m. GoesOn items_of (held items_of before to) m (sent_by_worker old to) (sent_by_worker new to) (held items_of after to)) (same to) (g.each to low);
 }
 
--- a message goes to the worker that owns its node
-for-one : (owners : List ℕ) (m : Message) (w to : ℕ) → w ≡ owner owners m.to → only_for w m to ≡ for_worker owners to (m ∷ [])
-for-one owners m w to is =
-    ⊎_elim
-    (λ (here : to ≡ w).
-    ap (λ b. let l : List Message = cond b (m ∷ []) [] in l) (eq-eqb to w here)
-    ∙ sym (ap (λ b. let l : List Message = cond b (m ∷ []) [] in l) (eq-eqb (owner owners m.to) to (sym is ∙ sym here))))
-    (λ (other : to ≡ w → ⊥).
-    ap (λ b. let l : List Message = cond b (m ∷ []) [] in l) (ne_eqb to w other)
-    ∙ sym (ap (λ b. let l : List Message = cond b (m ∷ []) [] in l) (ne_eqb (owner owners m.to) to (λ e. other (sym e ∙ sym is)))))
-    (cases_eq to w)
+-- what goes to the workers below a number
+abbrev pub to_first : ℕ → (ℕ → List Message) → ℕ → List Message
+to_first k more to = cond (nat_lt to k) (more to) []
 
-pub posts-one : (owners : List ℕ) (ms : List Message) (i w : ℕ) (d : Message) (old now new : Traffic Mail) (before middle after : List Mail) → i < length ms → w ≡ owner owners (slice_index_or ms i d).to →
-    Gathers items_of (λ to. for_worker owners to (take i ms)) old now before middle →
-    ((d : Message) → Gathers items_of (only_for w (slice_index_or ms i d)) now new middle after) →
-    Gathers items_of (λ to. for_worker owners to (take (i + 1) ms)) old new before after
-posts-one owners ms i w d old now new before middle after low is first second =
-    let m : Message = slice_index_or ms i d in
-    gathers-as (λ to. for_worker owners to (take i ms) ++ only_for w m to) (λ to. for_worker owners to (take (i + 1) ms)) old new before after
+first-below : (k : ℕ) (more : ℕ → List Message) (to : ℕ) → to < k → to_first k more to ≡ more to
+first-below k more to low = ap (λ b. let l : List Message = cond b (more to) [] in l) (lt-ltb to k low)
+
+first-past : (k : ℕ) (more : ℕ → List Message) (to : ℕ) → k ≤ to → to_first k more to ≡ []
+first-past k more to high = ap (λ b. let l : List Message = cond b (more to) [] in l) (le-ltb to k high)
+
+pub posts-none : (more : ℕ → List Message) (old : Traffic Mail) (gathered : List Mail) → AreFew items_of gathered → Gathers items_of (to_first 0 more) old old gathered gathered
+posts-none more old gathered few = gathers-as (λ to. []) (to_first 0 more) old old gathered gathered (λ to. sym (first-past 0 more to (omega arith))) (gathers-nothing items_of old gathered few)
+
+-- and to the next one
+pub posts-next : (k : ℕ) (more : ℕ → List Message) (x : List Message) (old now new : Traffic Mail) (before middle after : List Mail) → x ≡ more k →
+    Gathers items_of (to_first k more) old now before middle → Gathers items_of (only_for k x) now new middle after → Gathers items_of (to_first (k + 1) more) old new before after
+posts-next k more x old now new before middle after is first second =
+    gathers-as (λ to. to_first k more to ++ only_for k x to) (to_first (k + 1) more) old new before after
     (λ to.
-    ap (λ l. for_worker owners to (take i ms) ++ l) (for-one owners m w to is)
-    ∙ sym (filter-append (λ x. nat_eq (owner owners x.to) to) (take i ms) (m ∷ []))
-    ∙ ap (for_worker owners to) (sym (take_more ms i d low)))
-    (gathers-then items_of (λ to. for_worker owners to (take i ms)) (only_for w m) old now new before middle after first (second d))
+    ⊎_elim
+    (λ (here : to ≡ k).
+    ap (λ l. l ++ only_for k x to) (first-past k more to (omega arith))
+    ∙ ap (λ b. let l : List Message = cond b x [] in l) (eq-eqb to k here)
+    ∙ is
+    ∙ ap more (sym here)
+    ∙ sym (first-below (k + 1) more to (omega arith)))
+    (λ (other : to ≡ k → ⊥).
+    ap (λ l. to_first k more to ++ l) (ap (λ b. let l : List Message = cond b x [] in l) (ne_eqb to k other))
+    ∙ append-nil (to_first k more to)
+    ∙ ⊎_elim
+    (λ (low : to < k). first-below k more to low ∙ sym (first-below (k + 1) more to (omega arith)))
+    (λ (high : k ≤ to). first-past k more to high ∙ sym (first-past (k + 1) more to (omega arith)))
+    (cases_lt to k))
+    (cases_eq to k))
+    (gathers-then items_of (to_first k more) (only_for k x) old now new before middle after first second)
+
+pub posts-all : (k : ℕ) (more : ℕ → List Message) (old new : Traffic Mail) (before after : List Mail) → length before ≤ k → Gathers items_of (to_first k more) old new before after → Gathers items_of more old new before after
+posts-all k more old new before after all g = record {
+  kept = g.kept;
+  wide = g.wide;
+  wide_sent = g.wide_sent;
+  each = λ to low. subst (λ m. GoesOn items_of (held items_of before to) m (sent_by_worker old to) (sent_by_worker new to) (held items_of after to)) (first-below k more to (omega arith)) (g.each to low);
+}
 
 -- batches were taken, and more
 pub takes-none : (old : Traffic Mail) (came : List (ℕ × Mail)) → Takes old old came came

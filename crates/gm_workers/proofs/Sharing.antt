@@ -14,9 +14,10 @@ use Rattle.gm_value.proofs.values.VType.TheSendSync as vtype
 use Rattle.gm_value.proofs.values.Value.TheSendSync as value
 use Rattle.gm_base.proofs.places.Place.TheSendSync as place
 use Rattle.gm_graph.proofs.graphs.Graph.TheSendSync as graph
+use Rattle.gm_graph.proofs.in_rows.InRows.TheSendSync as in_rows
 use Rattle.gm_machine.specs.contracts.node_steps.Duty as duty
 use Rattle.gm_machine.proofs.fields.Fields.TheSendSync as fields
-use Rattle.gm_machine.proofs.steps.Sent.TheSendSync as sent
+use Rattle.gm_node_batches.proofs.steps.Sent.TheSendSync as sent
 use Rattle.gm_posting.proofs.posts.Posts.TheSendSync as posts
 use Rattle.gm_posting.proofs.posts.Mailboxes.TheSendSync as mailboxes
 use Rattle.gm_workers.proofs.mail.Mail.TheSendSync as mail
@@ -65,7 +66,7 @@ image_sync = declared_sync (declared image.struct image.the_propositions) (
 )
 
 pub duty_send : (ℓ : NamedLft) → IsSend (duty.the_row ℓ)
-duty_send ℓ = search (image_sync, graph.the_sync, value.the_sync, as_row_send, declared_send, as_row_sync, declared_sync, sendable, crosses) depth 30
+duty_send ℓ = search (image_sync, graph.the_sync, in_rows.the_sync, value.the_sync, as_row_send, declared_send, as_row_sync, declared_sync, sendable, crosses) depth 30
 
 pub part_send : (ℓ : NamedLft) (R : RattleType) → IsSync R → IsSend (part.the_row ℓ R)
 part_send ℓ R s = search (duty_send, dealing.the_sync, mailboxes.the_sync, mail.the_send, mail.the_sync, slot.the_send, posts.the_send, sent.the_send, fields.the_send, as_row_send, declared_send, as_row_sync, declared_sync, sendable, crosses) depth 30

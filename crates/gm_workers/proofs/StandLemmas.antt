@@ -14,7 +14,6 @@ use Rattle.gm_image.specs.Soundness.{is_sound}
 use Rattle.gm_image.specs.Views.{program}
 use Rattle.gm_machine.specs.declared.faults.Fault.{Fault}
 use Rattle.gm_machine.specs.declared.node_steps.Duty.{Duty}
-use Rattle.gm_machine.specs.declared.steps.Sent.{Sent}
 use Rattle.gm_machine.specs.Faults.{lesser, least_fault}
 use Rattle.gm_machine.specs.Laws.{SameStep}
 use Rattle.gm_machine.specs.Machine.{Control, Nodes, Stepped, Steps, inbox, context_at, block_at, step_of, all_steps, superstep}
@@ -24,7 +23,8 @@ use Rattle.gm_machine.proofs.BagLemmas.{same_as, SameBag-length, flat_map-map, m
 use Rattle.gm_machine.proofs.LeastLaws.{least_right, lesser-assoc, least_from-right, least-permuted}
 use Rattle.gm_machine.proofs.OrderLaws.{vertex-permuted}
 use Rattle.gm_machine.proofs.SoundFolds.{reduction_in, sound-folds}
-use Rattle.gm_machine.proofs.SoundPuts.{steps-settle}
+use Rattle.gm_put_totals.specs.Settling.{SettleAs}
+use Rattle.gm_node_batches.specs.declared.steps.Sent.{Sent}
 use Rattle.gm_posting.proofs.WorkerLemmas.{some-of}
 use Rattle.gm_core.specs.declared.events.Event.{Event}
 use Rattle.gm_core.specs.Cores.{Core, owner, for_worker, below, rested, effects}
@@ -39,6 +39,7 @@ use Rattle.gm_workers.specs.Threads.{Worked}
 use Rattle.gm_workers.specs.Crews.{batches_at, IsCrew, Shows, StandFor, StandForStep}
 use Rattle.gm_workers.proofs.DealingLemmas.{length-below}
 use Rattle.gm_workers.proofs.WorkerBags.{flat-equal, flat-bags, flat-places, dealt-bag, dealt-messages}
+use Rattle.gm_workers.proofs.SettledPuts.{settle-places, settled-as}
 use Rattle.gm_workers.proofs.CrewLemmas.{crew_step, worker-flat, taken, take-all, show-after}
 
 -- the messages to a node are among those to its owner's nodes
@@ -117,23 +118,27 @@ module _ (p : Program) (g : NumberedGraph) (q : ℕ) (vs : List Value) (dealing 
     some-slot w low = some-of old (omega (arith, low, worked.many))
 
     -- what all put
-    puts-are : flat_map (λ (s : Sent). s.puts) sent ≡ flat_map (λ w. flat_map (λ n. (crew' n).state.puts) (own owners w (node_count g))) (below workers)
-    puts-are =
-        flat-places (λ (s : Sent). s.puts) sent (λ w. flat_map (λ n. (crew' n).state.puts) (own owners w (node_count g)))
-        (λ w s low.
-        (worked.computed w (some-slot w low) s (omega (arith, low, worked.many))).puts
-        ∙ worker-flat p g q vs dealing workers old crew u image_is block_is graph_is globals_is (λ a. a.state.puts) w (some-slot w low) (omega (arith, low, worked.many, crew.count)))
-        ∙ ap (λ n. flat_map (λ w. flat_map (λ n. (crew' n).state.puts) (own owners w (node_count g))) (below n)) (worked.many ∙ crew.count)
+    abbrev put_by_all : List Contribution
+    put_by_all = flat_map (λ w. flat_map (λ n. (crew' n).state.puts) (own owners w (node_count g))) (below workers)
 
-    puts-bag : SameBag (flat_map (λ (s : Sent). s.puts) sent) (flat_map (λ n. (own_step n).state.puts) (below (node_count g)))
+    puts-settle : SettleAs put_by_all (flat_map (λ (s : Sent). s.puts) sent)
+    puts-settle =
+        subst (λ n. SettleAs (flat_map (λ w. flat_map (λ n. (crew' n).state.puts) (own owners w (node_count g))) (below n)) (flat_map (λ (s : Sent). s.puts) sent)) (worked.many ∙ crew.count)
+        (settle-places (λ (s : Sent). s.puts) sent (λ w. flat_map (λ n. (crew' n).state.puts) (own owners w (node_count g)))
+        (λ w s low.
+        let t : Sent = slice_index_or sent w s in
+        subst (λ l. SettleAs l t.puts)
+        (worker-flat p g q vs dealing workers old crew u image_is block_is graph_is globals_is (λ a. a.state.puts) w (some-slot w low) (omega (arith, low, worked.many, crew.count)))
+        (worked.computed w (some-slot w low) s (omega (arith, low, worked.many))).puts))
+
+    puts-bag : SameBag put_by_all (flat_map (λ n. (own_step n).state.puts) (below (node_count g)))
     puts-bag =
-        same_trans (same_as puts-are)
-        (same_trans (SameBag-sym (dealt-bag owners workers few (λ n. (crew' n).state.puts) (node_count g)))
-        (flat-bags (λ n. (crew' n).state.puts) (λ n. (own_step n).state.puts) 0 (node_count g) (λ n low high. (same-step n (omega arith)).puts)))
+        same_trans (SameBag-sym (dealt-bag owners workers few (λ n. (crew' n).state.puts) (node_count g)))
+        (flat-bags (λ n. (crew' n).state.puts) (λ n. (own_step n).state.puts) 0 (node_count g) (λ n low high. (same-step n (omega arith)).puts))
 
     settled-same : settled (length p.places) (flat_map (λ (s : Sent). s.puts) sent) vs ≡ settled (length p.places) (flat_map (λ a. a.state.puts) all) vs
     settled-same =
-        steps-settle p q sound (λ n. context_at g vs n) (λ n. inbox d.sent n) (λ n. slice_index_or d.fields n []) (below (node_count g)) (flat_map (λ (s : Sent). s.puts) sent) vs puts-bag
+        settled-as p q sound (λ n. context_at g vs n) (λ n. inbox d.sent n) (λ n. slice_index_or d.fields n []) (below (node_count g)) put_by_all (flat_map (λ (s : Sent). s.puts) sent) vs puts-bag puts-settle
         ∙ ap (λ ps. settled (length p.places) ps vs) (sym (ap (flat_map (λ a. a.state.puts)) all-are ∙ flat_map-map own_step (λ a. a.state.puts) (below (node_count g))))
 
     -- the least fault of all

@@ -8,7 +8,7 @@ use Rattle.std.proofs.lemmas.List.{get_or-set_same, get_or-set_other, length-set
 use Rattle.gm_base.specs.Merge.{of}
 use Rattle.gm_model.specs.Graphs.{HasNode}
 use Rattle.gm_machine.specs.declared.node_steps.Duty.{Duty}
-use Rattle.gm_machine.specs.declared.steps.Sent.{Sent}
+use Rattle.gm_node_batches.specs.declared.steps.Sent.{Sent}
 use Rattle.gm_machine.specs.Duties.{IsDuty}
 use Rattle.gm_mailbox.specs.Sender.{MailboxId}
 use Rattle.gm_posting.specs.Traffic.{Traffic, unused, AreOpen, AreWorkers, ArriveAll, sent_to, taken_by}
@@ -16,7 +16,7 @@ use Rattle.gm_posting.specs.Gathering.{sent_by_worker, AreSized}
 use Rattle.gm_posting.proofs.WorkerLemmas.{some-of, next-within, next-is, index-none}
 use Rattle.gm_core.specs.Cores.{owner}
 use Rattle.gm_workers.specs.declared.dealing.Dealing.{Dealing}
-use Rattle.gm_workers.specs.Parts.{items_of, IsReady, Did}
+use Rattle.gm_workers.specs.Parts.{items_of, slot_step, places_of, PutsStand, IsReady, Did}
 use Rattle.gm_workers.specs.declared.mail.Mail.{Mail}
 use Rattle.gm_workers.specs.declared.crews.Slot.{Slot}
 use Rattle.gm_workers.specs.Threads.{Shares, CanWork, WaitsMore, AddsLate, Worked}
@@ -159,7 +159,7 @@ module _ {A : Type 0} (slot : A → Slot) (posts : A → Traffic Mail) (sent : A
             record {
               nodes = more.nodes ∙ own.nodes;
               fields = ap (λ f. f.rows) more.fields ∙ own.fields;
-              puts = ap (λ (z : Sent). z.puts) sent_is ∙ own.puts;
+              puts = subst (PutsStand (slot_step d dealing w (slice_index_or old w x)) (places_of (slice_index_or old w x))) (sym sent_is) own.puts;
               fault = ap (λ (z : Sent). z.fault) sent_is ∙ own.fault;
             };
         came = λ from to x low here.

@@ -1,4 +1,5 @@
 pub mod Dealings
+pub mod Partings
 pub mod Parts
 pub mod Threads
 pub mod Crews

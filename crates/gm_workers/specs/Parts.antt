@@ -5,12 +5,13 @@ use Rattle.gm_value.specs.declared.values.Value.{Value}
 use Rattle.gm_model.specs.Graphs.{HasNode}
 use Rattle.gm_image.specs.Views.{program}
 use Rattle.gm_machine.specs.declared.node_steps.Duty.{Duty}
-use Rattle.gm_machine.specs.declared.steps.Sent.{Sent}
 use Rattle.gm_machine.specs.Duties.{between, IsDuty}
 use Rattle.gm_machine.specs.Faults.{least_fault}
 use Rattle.gm_machine.specs.Machine.{inbox}
 use Rattle.gm_machine.specs.Steps.{step_after}
 use Rattle.gm_machine.specs.Vertex.{Message, After}
+use Rattle.gm_put_totals.specs.Settling.{SettleAs}
+use Rattle.gm_node_batches.specs.declared.steps.Sent.{Sent}
 use Rattle.gm_mailbox.specs.Sender.{MailboxId}
 use Rattle.gm_posting.specs.Traffic.{Traffic}
 use Rattle.gm_posting.specs.Gathering.{GoesOn, held, sent_by_worker}
@@ -50,6 +51,10 @@ abbrev pub step_at : Duty → List ℕ → List (List Message) → List (List Va
 step_at d nodes boxes fields place =
     step_after (program d.image.now) d.block d.globals.now d.graph.now (slice_index nodes place) (slice_index_or boxes place []) (slice_index_or fields place [])
 
+-- what is put settles as what the nodes at some places put
+abbrev pub PutsStand : (ℕ → After) → List ℕ → Sent → Type 0
+PutsStand after places s = SettleAs (flat_map (λ place. (after place).state.puts) places) s.puts
+
 abbrev pub messages_of : (ℕ → After) → List ℕ → List Message
 messages_of after places = flat_map (λ place. (after place).state.messages) places
 
@@ -59,7 +64,7 @@ pub record PartTo (d : Duty) (owners nodes : List ℕ) (boxes : List (List Messa
   pub fields_are : fields' ≡ map (λ place. (step_at d nodes boxes fields place).state.fields) (between 0 k) ++ drop k fields
   pub hands : Hands (λ to. for_worker owners to (messages_of (step_at d nodes boxes fields) (between 0 k))) old new before after came came'
   pub none : s.messages ≡ []
-  pub puts : s.puts ≡ flat_map (λ place. (step_at d nodes boxes fields place).state.puts) (between 0 k)
+  pub puts : PutsStand (step_at d nodes boxes fields) (between 0 k) s
   pub fault : s.fault ≡ least_fault (map (λ place. (step_at d nodes boxes fields place).fault) (between 0 k))
 
 -- all nodes have computed, all that they sent has gone out, and batches were taken
@@ -72,7 +77,7 @@ pub record IsDone (d : Duty) (owners nodes : List ℕ) (boxes : List (List Messa
   pub batches : List (ℕ × Mail)
   pub taken : new.taken ≡ old.taken ++ batches
   pub kept : came' ≡ came ++ batches
-  pub puts : s.puts ≡ flat_map (λ place. (step_at d nodes boxes fields place).state.puts) (between 0 (length nodes))
+  pub puts : PutsStand (step_at d nodes boxes fields) (between 0 (length nodes)) s
   pub fault : s.fault ≡ least_fault (map (λ place. (step_at d nodes boxes fields place).fault) (between 0 (length nodes)))
 
 -- the messages that wait for a worker's nodes, by their places
@@ -108,5 +113,5 @@ pub record Did (d : Duty) (dealing : Dealing) (x x' : Slot) (t t' : Traffic Mail
   pub sent : (to : ℕ) → to < length t.mailboxes →
       GoesOn items_of [] (for_worker dealing.owners.items to (messages_of (slot_step d dealing t.worker x) (places_of x))) (sent_by_worker t to) (sent_by_worker t' to) []
   pub taken : t'.taken ≡ t.taken ++ x'.waiting.items
-  pub puts : s'.puts ≡ flat_map (λ place. (slot_step d dealing t.worker x place).state.puts) (places_of x)
+  pub puts : PutsStand (slot_step d dealing t.worker x) (places_of x) s'
   pub fault : s'.fault ≡ least_fault (map (λ place. (slot_step d dealing t.worker x place).fault) (places_of x))

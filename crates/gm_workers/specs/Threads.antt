@@ -5,7 +5,7 @@ use Rattle.std.specs.declared.alloc.Global.{Global}
 use Rattle.gm_base.specs.Merge.{of}
 use Rattle.gm_model.specs.Graphs.{HasNode}
 use Rattle.gm_machine.specs.declared.node_steps.Duty.{Duty}
-use Rattle.gm_machine.specs.declared.steps.Sent.{Sent}
+use Rattle.gm_node_batches.specs.declared.steps.Sent.{Sent}
 use Rattle.gm_machine.specs.Faults.{least_fault}
 use Rattle.gm_mailbox.specs.Sender.{MailboxId}
 use Rattle.gm_posting.specs.Gathering.{AreSized}
@@ -13,7 +13,7 @@ use Rattle.gm_core.specs.Cores.{owner, for_worker}
 use Rattle.gm_workers.specs.declared.dealing.Dealing.{Dealing}
 use Rattle.gm_workers.specs.declared.mail.Mail.{Mail}
 use Rattle.gm_workers.specs.declared.crews.Slot.{Slot}
-use Rattle.gm_workers.specs.Parts.{items_of, messages_of, slot_step, places_of}
+use Rattle.gm_workers.specs.Parts.{items_of, messages_of, PutsStand, slot_step, places_of}
 
 -- a worker's part has the shared duty, dealing and mailboxes, and its nodes have put nothing yet
 pub record Shares (d : Duty) (dealing : Dealing) (ids : List MailboxId) (own_d : Duty) (own_dealing : Dealing) (own_ids : List MailboxId) (s : Sent) : Type 0 where
@@ -46,7 +46,7 @@ pub record AddsLate (k : ℕ) (late : List (Vec (ℕ × Mail) Global)) (old new 
 pub record Computed (d : Duty) (dealing : Dealing) (w : ℕ) (x x' : Slot) (s' : Sent) : Type 0 where
   pub nodes : x'.nodes ≡ x.nodes
   pub fields : x'.fields.rows ≡ map (λ place. (slot_step d dealing w x place).state.fields) (places_of x)
-  pub puts : s'.puts ≡ flat_map (λ place. (slot_step d dealing w x place).state.puts) (places_of x)
+  pub puts : PutsStand (slot_step d dealing w x) (places_of x) s'
   pub fault : s'.fault ≡ least_fault (map (λ place. (slot_step d dealing w x place).fault) (places_of x))
 
 -- what waits in a slot from a worker: all that the worker's nodes sent to this one's nodes, in order, in batches of 1 to 1,024 messages

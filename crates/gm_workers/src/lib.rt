@@ -19,12 +19,14 @@
 //!
 //! The image and the graph are shared. A worker keeps 4 bytes for each of its nodes, and all of them together 8 bytes
 //! for each node of the graph. A superstep opens one mailbox for each worker, and a worker gathers fewer than 1,024
-//! messages for each other worker. A batch is kept as it came until its messages are read in the next superstep.
+//! messages for each other worker. What its nodes send is parted by receivers once, and goes column by column. A batch is
+//! kept as it came until its messages are read in the next superstep.
 #![tactic(auto)]
 
 mod crews;
 mod dealing;
 mod mail;
+mod parting;
 mod parts;
 mod runs;
 mod supersteps;

@@ -3,14 +3,14 @@
 ghost use Rattle.std.specs.Prelude.{◌≡◌, ◌<◌, [], ◌∷◌, ◌++◌, OnOk};
 
 use gm_base::NoMemory;
-use gm_machine::Batch;
+use gm_message_columns::Messages;
 use gm_posting::Bundle;
 use std::alloc::Global;
 
 /// Messages that go from a worker to a worker at once.
 #[derive(Drop)]
 pub struct Mail {
-    pub messages: Batch,
+    pub messages: Messages,
 }
 
 impl Bundle for Mail {
@@ -22,15 +22,15 @@ impl Bundle for Mail {
 
     fn empty(alloc: Global) -> Self {
         Mail {
-            messages: Batch::empty(alloc),
+            messages: Messages::empty(alloc),
         }
     }
 
     fn len(&self) -> usize {
-        self.messages.messages()
+        self.messages.len()
     }
 
-    fn add(&mut self, from: &Self, i: usize) -> Result<(), NoMemory> {
-        self.messages.add_from(&from.messages, i)
+    fn add_rows(&mut self, from: &Self, rows: &[u32]) -> Result<(), NoMemory> {
+        self.messages.add_rows(&from.messages, rows)
     }
 }

@@ -2,22 +2,22 @@
 //! goes, and what comes is taken.
 
 ghost use Rattle.std.specs.Prelude.{◌≡◌, ◌<◌, ◌≤◌, ℕ, [], ◌++◌, None, OnOk, IfOk, length, map, slice_index};
-ghost use Rattle.std.specs.List.{range_with_len};
 ghost use Rattle.gm_model.specs.Graphs.{HasNode};
 ghost use Rattle.gm_machine.specs.Duties.{IsDuty};
-ghost use Rattle.gm_machine.specs.Machine.{inbox};
 ghost use Rattle.gm_posting.specs.Gathering.{Gathers, AreFew, held};
 ghost use Rattle.gm_core.specs.Cores.{owner, for_worker};
-ghost use Rattle.gm_workers.specs.Dealings.{placed};
+ghost use Rattle.gm_workers.specs.Dealings.{place_for, placed};
 ghost use Rattle.gm_workers.specs.Parts.{messages_in, items_of, Takes, Hands, PartTo, IsDone, IsReady, Did};
 
 use crate::crews::Slot;
 use crate::dealing::{Dealing, place_at};
 use crate::mail::Mail;
+use crate::parting::{no_places, part_mail};
 use gm_base::NoMemory;
-use gm_core::owner_in;
-use gm_machine::{Batch, Duty, Fields, Inbox, Nodes, Sent, steps_of_nodes};
-use gm_posting::{Mailboxes, Posts, flush, gather_nothing, put};
+use gm_machine::{Duty, Fields, Nodes};
+use gm_message_columns::{Joining, Messages};
+use gm_node_batches::{Inbox, Sent, open, steps_of_nodes};
+use gm_posting::{Mailboxes, Posts, flush, gather_nothing, put_rows};
 use gm_shifts::Task;
 use std::alloc::Global;
 use std::mem;
@@ -26,25 +26,36 @@ use std::sync::Wait;
 // As many messages are gathered before they are dealt out.
 const ENOUGH: usize = 1024;
 
-// Puts each message to what has gathered for the worker that owns the node to which it goes.
+// Puts the messages to what has gathered for the workers that own the nodes to which they go.
 fn post_all<R: Wait>(
     rt: &R,
     alloc: Global,
     mailboxes: &Mailboxes<Mail>,
     posts: &mut Posts<Mail>,
     gathered: &mut [Mail],
+    parts: &mut [Vec<u32>],
     owners: &[u32],
     mail: &Mail,
 ) -> Result<(), NoMemory>
     requires mailboxes { posts.old.mailboxes ≡ mailboxes.now }
     requires wide { length gathered.old ≡ length mailboxes.now }
     requires few { AreFew items_of gathered.old }
+    requires parts { length parts.old ≡ length mailboxes.now }
     requires owners { (n : ℕ) → owner owners.now n < length mailboxes.now }
     ensures { OnOk result (Gathers items_of (λ to. for_worker owners.now to mail.now.messages) posts.old posts.new gathered.old gathered.new) }
 {
-    for i in 0..mail.messages.messages() {
-        let to = owner_in(owners, mail.messages.to(i));
-        put(rt, alloc, mailboxes, posts, gathered, to, mail, i)?;
+    part_mail(owners, mail, parts)?;
+    for to in 0..posts.workers() {
+        put_rows(
+            rt,
+            alloc,
+            mailboxes,
+            posts,
+            gathered,
+            to,
+            mail,
+            &parts[to as usize],
+        )?;
     }
     Ok(())
 }
@@ -75,6 +86,7 @@ fn hand_over<R: Wait>(
     mailboxes: &Mailboxes<Mail>,
     posts: &mut Posts<Mail>,
     gathered: &mut [Mail],
+    parts: &mut [Vec<u32>],
     owners: &[u32],
     mail: &Mail,
     came: &mut Vec<(u32, Mail)>,
@@ -82,10 +94,11 @@ fn hand_over<R: Wait>(
     requires mailboxes { posts.old.mailboxes ≡ mailboxes.now }
     requires wide { length gathered.old ≡ length mailboxes.now }
     requires few { AreFew items_of gathered.old }
+    requires parts { length parts.old ≡ length mailboxes.now }
     requires owners { (n : ℕ) → owner owners.now n < length mailboxes.now }
     ensures { OnOk result (Hands (λ to. for_worker owners.now to mail.now.messages) posts.old posts.new gathered.old gathered.new came.old.items came.new.items) }
 {
-    post_all(rt, alloc, mailboxes, posts, gathered, owners, mail)?;
+    post_all(rt, alloc, mailboxes, posts, gathered, parts, owners, mail)?;
     take_all(rt, mailboxes, posts, came)?;
     Ok(())
 }
@@ -122,6 +135,7 @@ fn compute_all<R: Wait>(
     fields: &mut Fields,
     posts: &mut Posts<Mail>,
     gathered: &mut [Mail],
+    parts: &mut [Vec<u32>],
     came: &mut Vec<(u32, Mail)>,
     sent: &mut Sent,
 ) -> Result<(), NoMemory>
@@ -132,6 +146,7 @@ fn compute_all<R: Wait>(
     requires mailboxes { posts.old.mailboxes ≡ mailboxes.now }
     requires wide { length gathered.old ≡ length mailboxes.now }
     requires few { AreFew items_of gathered.old }
+    requires parts { length parts.old ≡ length mailboxes.now }
     requires owners { (n : ℕ) → owner owners.now n < length mailboxes.now }
     requires messages { sent.old.messages ≡ [] }
     requires puts { sent.old.puts ≡ [] }
@@ -143,9 +158,11 @@ fn compute_all<R: Wait>(
     'nodes: while next < nodes.len() {
         next = steps_of_nodes(alloc, duty, &places, inbox, fields, next, ENOUGH, sent)?;
         let mail = Mail {
-            messages: mem::replace(&mut sent.messages, Batch::empty(alloc)),
+            messages: mem::replace(&mut sent.messages, Messages::empty(alloc)),
         };
-        hand_over(rt, alloc, mailboxes, posts, gathered, owners, &mail, came)?;
+        hand_over(
+            rt, alloc, mailboxes, posts, gathered, parts, owners, &mail, came,
+        )?;
     }
     Ok(())
 }
@@ -162,6 +179,7 @@ fn compute_and_send<R: Wait>(
     fields: &mut Fields,
     posts: &mut Posts<Mail>,
     gathered: &mut [Mail],
+    parts: &mut [Vec<u32>],
     came: &mut Vec<(u32, Mail)>,
     sent: &mut Sent,
 ) -> Result<(), NoMemory>
@@ -172,6 +190,7 @@ fn compute_and_send<R: Wait>(
     requires mailboxes { posts.old.mailboxes ≡ mailboxes.now }
     requires wide { length gathered.old ≡ length mailboxes.now }
     requires few { AreFew items_of gathered.old }
+    requires parts { length parts.old ≡ length mailboxes.now }
     requires owners { (n : ℕ) → owner owners.now n < length mailboxes.now }
     requires messages { sent.old.messages ≡ [] }
     requires puts { sent.old.puts ≡ [] }
@@ -179,43 +198,59 @@ fn compute_and_send<R: Wait>(
     ensures { OnOk result (IsDone duty.now owners.now nodes.now inbox.now fields.old.rows fields.new.rows posts.old posts.new gathered.old came.old.items came.new.items sent.new) }
 {
     compute_all(
-        rt, alloc, duty, owners, mailboxes, nodes, inbox, fields, posts, gathered, came, sent,
+        rt, alloc, duty, owners, mailboxes, nodes, inbox, fields, posts, gathered, parts, came,
+        sent,
     )?;
     hand_rest(rt, alloc, mailboxes, posts, gathered, came)?;
     Ok(())
 }
 
-// Adds messages behind others, by the places of the nodes to which they go among a worker's nodes.
-fn add_placed(
-    dealing: &Dealing,
-    worker: u32,
-    mail: &Mail,
-    messages: &mut Batch,
-) -> Result<(), NoMemory>
-    ensures { OnOk result (messages.new ≡ messages.old ++ map (placed dealing.now worker) mail.now.messages) }
-{
-    for i in 0..mail.messages.messages() {
-        let place = place_at(dealing, worker, mail.messages.to(i));
-        messages.add_to(place, &mail.messages, i)?;
-    }
-    Ok(())
-}
-
-// The messages that wait for a worker's nodes, by their places. Each batch is let go once it is read.
-fn sorted(
+// The places of the nodes to which messages go, among a worker's nodes.
+fn placed_nodes(
     alloc: Global,
     dealing: &Dealing,
     worker: u32,
-    places: usize,
-    waiting: Vec<(u32, Mail)>,
-) -> Result<Inbox, NoMemory>
-    ensures { IfOk result (λ boxes. boxes ≡ map (inbox (map (placed dealing.now worker) (messages_in waiting.items))) (range_with_len 0 places)) }
+    mail: &Mail,
+) -> Result<Vec<u32>, NoMemory>
+    ensures { IfOk result (λ places. places.items ≡ map (λ m. place_for dealing.now worker m.to) mail.now.messages) }
 {
-    let mut messages = Batch::empty(alloc);
-    for (_, mail) in waiting {
-        add_placed(dealing, worker, &mail, &mut messages)?;
+    let count = mail.messages.len();
+    let mut places = Vec::with_capacity(alloc, count)?;
+    for i in 0..count {
+        places.push(place_at(dealing, worker, mail.messages.to(i)))?;
     }
-    Inbox::sort(alloc, messages, places)
+    Ok(places)
+}
+
+// Messages behind others, each to its node's place among a worker's nodes.
+fn add_placed(
+    alloc: Global,
+    dealing: &Dealing,
+    worker: u32,
+    mail: &Mail,
+    joining: Joining,
+) -> Result<Joining, NoMemory>
+    ensures { IfOk result (λ all. all ≡ joining ++ map (placed dealing.now worker) mail.now.messages) }
+{
+    let places = placed_nodes(alloc, dealing, worker, mail)?;
+    let all = joining.with(&places, &mail.messages)?;
+    Ok(all)
+}
+
+// The messages that wait for a worker's nodes, each to its node's place among them. Each batch is let go once it is read.
+fn placed_all(
+    alloc: Global,
+    dealing: &Dealing,
+    worker: u32,
+    waiting: Vec<(u32, Mail)>,
+) -> Result<Messages, NoMemory>
+    ensures { IfOk result (λ messages. messages ≡ map (placed dealing.now worker) (messages_in waiting.items)) }
+{
+    let mut joining = Joining::empty(alloc);
+    for (_, mail) in waiting {
+        joining = add_placed(alloc, dealing, worker, &mail, joining)?;
+    }
+    joining.into_messages()
 }
 
 /// What a worker has in a superstep: what all workers share, its slot, its passes, and what its nodes put.
@@ -246,8 +281,10 @@ fn work<R: Wait>(
     ensures { OnOk result (Did duty.now dealing.now slot.old slot.new posts.old posts.new sent.new) }
 {
     let waiting = mem::replace(&mut slot.waiting, Vec::new(alloc));
-    let inbox = sorted(alloc, dealing, posts.worker(), slot.nodes.len(), waiting)?;
+    let messages = placed_all(alloc, dealing, posts.worker(), waiting)?;
+    let inbox = open(alloc, duty, &slot.nodes, messages, &mut slot.fields)?;
     let mut gathered = gather_nothing(alloc, posts.workers())?;
+    let mut parts = no_places(alloc, posts.workers())?;
     compute_and_send(
         rt,
         alloc,
@@ -259,6 +296,7 @@ fn work<R: Wait>(
         &mut slot.fields,
         posts,
         gathered.as_mut_slice(),
+        parts.as_mut_slice(),
         &mut slot.waiting,
         sent,
     )?;

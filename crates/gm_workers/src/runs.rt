@@ -4,6 +4,7 @@ ghost use Rattle.std.specs.Prelude.{◌≡◌, ◌≤◌, ◌<◌, ◌∷◌, �
 ghost use Rattle.gm_model.specs.Graphs.{node_count};
 ghost use Rattle.gm_image.specs.Views.{program};
 ghost use Rattle.gm_machine.specs.Machine.{Nodes, machine, ends, superstep as superstep_of};
+ghost use Rattle.gm_machine.specs.Asking.{IsServed};
 ghost use Rattle.gm_machine.specs.Masters.{FitsGraph, control_of};
 ghost use Rattle.gm_machine.specs.Notes.{note_of, noted};
 ghost use Rattle.gm_machine.specs.States.{most_supersteps};
@@ -17,9 +18,9 @@ use crate::dealing::place_at;
 use crate::supersteps::{StepEnd, sum, superstep};
 use gm_base::{Gate, NoMemory};
 use gm_core::owner_in;
-use gm_graph::Graph;
+use gm_graph::{Graph, InRows};
 use gm_image::Sound;
-use gm_machine::{Master, MasterStop, end_of_lists, master_run};
+use gm_machine::{Master, MasterStop, end_of_lists, master_run, rows_for};
 use gm_model::RunEnd;
 use gm_observe::{Note, Observer, tell_all};
 use gm_partition::Owner;
@@ -97,12 +98,14 @@ fn step<G: Gate, R: Threads + Wait + Sync>(
     alloc: Global,
     image: &Sound,
     graph: &Graph,
+    in_rows: &Option<InRows>,
     block: u32,
     globals: &mut Vec<Value>,
     progress: &mut Progress,
     gate: &G,
 ) -> Result<StepEnd, NoMemory>
     requires columns { FitsGraph image.now graph.now }
+    requires served { IsServed (program image.now) graph.now in_rows.now }
     requires crew { IsCrew (node_count graph.now) (length progress.old.crew.slots.items) progress.old.crew.dealing progress.old.crew.slots.items }
     ensures crew { OnOk result (IsCrew (node_count graph.now) (length progress.new.crew.slots.items) progress.new.crew.dealing progress.new.crew.slots.items) }
     ensures step { IfOk result (λ end. (d : Nodes) → IsAt (node_count graph.now) progress.old d →
@@ -110,7 +113,9 @@ fn step<G: Gate, R: Threads + Wait + Sync>(
 {
     let number = sum(progress.supersteps, 1)?;
     let crew = &mut progress.crew;
-    let end = superstep(rt, alloc, image, graph, crew, globals, block, number, gate)?;
+    let end = superstep(
+        rt, alloc, image, graph, in_rows, crew, globals, block, number, gate,
+    )?;
     let messages = sum(progress.messages, end.messages)?;
     progress.supersteps = number;
     progress.messages = messages;
@@ -123,6 +128,7 @@ fn step_and_tell<G: Gate, R: Threads + Wait + Sync>(
     alloc: Global,
     image: &Sound,
     graph: &Graph,
+    in_rows: &Option<InRows>,
     block: u32,
     globals: &mut Vec<Value>,
     progress: &mut Progress,
@@ -130,6 +136,7 @@ fn step_and_tell<G: Gate, R: Threads + Wait + Sync>(
     observers: &mut [Box<dyn Observer>],
 ) -> Result<StepEnd, NoMemory>
     requires columns { FitsGraph image.now graph.now }
+    requires served { IsServed (program image.now) graph.now in_rows.now }
     requires crew { IsCrew (node_count graph.now) (length progress.old.crew.slots.items) progress.old.crew.dealing progress.old.crew.slots.items }
     ensures crew { OnOk result (IsCrew (node_count graph.now) (length progress.new.crew.slots.items) progress.new.crew.dealing progress.new.crew.slots.items) }
     ensures step { IfOk result (λ end. (d : Nodes) → IsAt (node_count graph.now) progress.old d →
@@ -142,7 +149,9 @@ fn step_and_tell<G: Gate, R: Threads + Wait + Sync>(
         IsToldInPart (note_of graph.now block (superstep_of (program image.now) graph.now block globals.old.items d).nodes ∷ []) (map (λ o. seen o) observers.old) (map (λ o. seen o) observers.new)) }
     ensures same_ways { map (λ o. says_of o) observers.new ≡ map (λ o. says_of o) observers.old }
 {
-    let end = step(rt, alloc, image, graph, block, globals, progress, gate)?;
+    let end = step(
+        rt, alloc, image, graph, in_rows, block, globals, progress, gate,
+    )?;
     let note = Note {
         step: progress.supersteps,
         block,
@@ -159,6 +168,7 @@ fn run_to_end<G: Gate, R: Threads + Wait + Sync>(
     alloc: Global,
     image: &Sound,
     graph: &Graph,
+    in_rows: &Option<InRows>,
     args: &[Value],
     owner: Owner,
     workers: u32,
@@ -167,6 +177,7 @@ fn run_to_end<G: Gate, R: Threads + Wait + Sync>(
     observers: &mut [Box<dyn Observer>],
 ) -> Result<RunEnd, NoMemory>
     requires columns { FitsGraph image.now graph.now }
+    requires served { IsServed (program image.now) graph.now in_rows.now }
     requires some_worker { 1 ≤ workers }
     requires few_workers { workers ≤ 64 }
     ensures end { IfOk result (λ end. end ≡ machine (program image.now) graph.now args.now turns) }
@@ -183,7 +194,7 @@ fn run_to_end<G: Gate, R: Threads + Wait + Sync>(
         messages: 0,
     };
     'steps: loop {
-        match master_run(plain, graph, &mut master) {
+        match master_run(plain, graph, in_rows, &mut master) {
             MasterStop::Step(block) => {
                 let globals = &mut master.globals;
                 let done = step_and_tell(
@@ -191,6 +202,7 @@ fn run_to_end<G: Gate, R: Threads + Wait + Sync>(
                     alloc,
                     image,
                     graph,
+                    in_rows,
                     block,
                     globals,
                     &mut progress,
@@ -251,8 +263,9 @@ pub fn run<G: Gate, R: Threads + Wait + Sync>(
     ensures part { OnErr result (IsToldInPart (noted (program image.now) graph.now args.now turns) (map (λ o. seen o) observers.old) (map (λ o. seen o) observers.new)) }
     ensures same_ways { map (λ o. says_of o) observers.new ≡ map (λ o. says_of o) observers.old }
 {
+    let in_rows = rows_for(alloc, image.image(), graph)?;
     let end = run_to_end(
-        rt, alloc, image, graph, args, owner, workers, turns, gate, observers,
+        rt, alloc, image, graph, &in_rows, args, owner, workers, turns, gate, observers,
     )?;
     Ok(end)
 }

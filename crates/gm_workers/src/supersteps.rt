@@ -6,6 +6,7 @@ ghost use Rattle.gm_model.specs.Graphs.{node_count};
 ghost use Rattle.gm_image.specs.Views.{program};
 ghost use Rattle.gm_machine.specs.Faults.{least_fault};
 ghost use Rattle.gm_machine.specs.Machine.{Nodes, superstep as superstep_of};
+ghost use Rattle.gm_machine.specs.Asking.{IsServed};
 ghost use Rattle.gm_machine.specs.Masters.{FitsGraph};
 ghost use Rattle.gm_workers.specs.Parts.{messages_in};
 ghost use Rattle.gm_workers.specs.Crews.{IsCrew, StandFor, StandForStep, GoBySuperstep, AreSmall, deliveries_to, deliveries_from};
@@ -14,9 +15,10 @@ use crate::crews::{Crew, Slot};
 use crate::threads::work_all;
 use gm_base::{Gate, NoMemory};
 use gm_core::Event;
-use gm_graph::Graph;
+use gm_graph::{Graph, InRows};
 use gm_image::Sound;
-use gm_machine::{Contributions, Duty, Fault, Sent, lesser, settle_puts};
+use gm_machine::{Contributions, Duty, Fault, lesser, settle_puts};
+use gm_node_batches::Sent;
 use gm_value::Value;
 use std::alloc::Global;
 use std::mem;
@@ -54,7 +56,7 @@ fn add_deliveries(to: u32, slot: &Slot, delivered: &mut Vec<Event>) -> Result<()
         delivered.push(Event::Deliver {
             from: batch.0,
             to,
-            count: batch.1.messages.messages() as u64,
+            count: batch.1.messages.len() as u64,
         })?;
     }
     Ok(())
@@ -99,7 +101,7 @@ fn count_one(slot: &Slot, before: u64) -> Result<u64, NoMemory>
 {
     let mut count = before;
     for batch in &slot.waiting {
-        count = sum(count, batch.1.messages.messages() as u64)?;
+        count = sum(count, batch.1.messages.len() as u64)?;
     }
     Ok(count)
 }
@@ -122,6 +124,7 @@ pub fn superstep<G: Gate, R: Threads + Wait + Sync>(
     alloc: Global,
     image: &Sound,
     graph: &Graph,
+    in_rows: &Option<InRows>,
     crew: &mut Crew,
     globals: &mut Vec<Value>,
     block: u32,
@@ -129,6 +132,7 @@ pub fn superstep<G: Gate, R: Threads + Wait + Sync>(
     gate: &G,
 ) -> Result<StepEnd, NoMemory>
     requires columns { FitsGraph image.now graph.now }
+    requires served { IsServed (program image.now) graph.now in_rows.now }
     requires crew { IsCrew (node_count graph.now) (length crew.old.slots.items) crew.old.dealing crew.old.slots.items }
     ensures dealing { OnOk result (crew.new.dealing ≡ crew.old.dealing) }
     ensures crew { OnOk result (IsCrew (node_count graph.now) (length crew.old.slots.items) crew.new.dealing crew.new.slots.items) }
@@ -138,7 +142,7 @@ pub fn superstep<G: Gate, R: Threads + Wait + Sync>(
     ensures stands { IfOk result (λ end. (d : Nodes) → StandFor (node_count graph.now) crew.old.dealing.owners.items crew.old.slots.items d →
         StandForStep (node_count graph.now) crew.old.dealing.owners.items crew.new.slots.items globals.new.items end.messages end.fault (superstep_of (program image.now) graph.now block globals.old.items d)) }
 {
-    let duty = Duty::of(image, block, graph, globals.as_slice());
+    let duty = Duty::of(image, block, graph, in_rows, globals.as_slice());
     let before = mem::replace(&mut crew.slots, Vec::new(alloc));
     let (after, sent) = work_all(rt, alloc, duty, &crew.dealing, before, step, gate)?;
     let (puts, least) = gather(alloc, sent.as_slice())?;

@@ -1,7 +1,7 @@
 use Rattle.std.proofs.Common.{List, refl, sym, ◌∙◌, subst}
-use Rattle.gm_machine.specs.declared.steps.Sent.{Sent}
+use Rattle.gm_node_batches.specs.declared.steps.Sent.{Sent}
 use Rattle.gm_machine.specs.Vertex.{Message}
-use Rattle.gm_machine.proofs.NodeSteps.{steps-long}
+use Rattle.gm_node_batches.proofs.TakenLaws.{taken-long}
 use Rattle.gm_core.specs.Cores.{for_worker}
 use Rattle.gm_workers.specs.Parts.{Hands, step_at}
 use Rattle.gm_workers.proofs.PartLemmas.{part-more}
@@ -19,6 +19,6 @@ nodes-preserved g c =
           c.replace.ensures.value c.in_ok-hand_over.ensures)
           (c.requires.fields ∙ sym c.nodes.invariant.long) (c.replace.ensures.after ∙ c.empty.ensures) refl refl;
       long =
-          steps-long (step_at c.args.duty.now c.args.nodes.now c.args.inbox.now c.nodes.fields.rows) c.nodes.next c.in_ok-next.next c.nodes.fields c.steps_of_nodes.new.fields c.nodes.sent c.steps_of_nodes.new.sent c.in_ok-next.ensures.steps
+          taken-long (step_at c.args.duty.now c.args.nodes.now c.args.inbox.now c.nodes.fields.rows) c.nodes.next c.in_ok-next.next c.nodes.fields c.steps_of_nodes.new.fields c.nodes.sent c.steps_of_nodes.new.sent c.in_ok-next.ensures.steps
           ∙ c.nodes.invariant.long;
     }

@@ -3,6 +3,7 @@ use Rattle.std.proofs.Common.{◌≡◌, ◌-◌, ◌∙◌, [], refl, ap, arith
 use Rattle.gm_model.specs.Graphs.{node_count}
 use Rattle.gm_image.specs.declared.images.Image.{Image}
 use Rattle.gm_image.specs.Views.{program}
+use Rattle.gm_machine.specs.Asking.{IsServed}
 use Rattle.gm_machine.specs.Machine.{Ended, Faulted, Cut, pause, start_control}
 use Rattle.gm_machine.specs.Masters.{FitsGraph, control_of}
 use Rattle.gm_observe.specs.Audience.{to_all}
@@ -41,6 +42,9 @@ steps-preserved g c = record {
 
 pub master_run-requires-clause-columns : goal.master_run-requires-clause-columns
 master_run-requires-clause-columns g c = subst (λ (i : Image). FitsGraph i c.args.graph.now) (sym c.image-plain.ensures.same) c.requires.columns
+
+pub master_run-requires-clause-served : goal.master_run-requires-clause-served
+master_run-requires-clause-served g c = subst (λ (i : Image). IsServed (program i) c.args.graph.now c.args.in_rows.now) (sym c.image-plain.ensures.same) c.requires.served
 
 pub returns-in_err-master-clause-part : goal.returns-in_err-master-clause-part
 returns-in_err-master-clause-part g c = part-on_err _ _ _ _ (to_all _ (up_to-start _ _ _ refl))

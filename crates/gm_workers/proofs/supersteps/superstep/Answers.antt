@@ -6,7 +6,7 @@ use Rattle.gm_model.specs.Graphs.{node_count}
 use Rattle.gm_image.specs.declared.images.Image.{Image}
 use Rattle.gm_image.specs.Soundness.{is_sound}
 use Rattle.gm_image.specs.Views.{program}
-use Rattle.gm_machine.specs.declared.steps.Sent.{Sent}
+use Rattle.gm_node_batches.specs.declared.steps.Sent.{Sent}
 use Rattle.gm_machine.specs.Faults.{least_fault}
 use Rattle.gm_machine.specs.Taking.{settled}
 use Rattle.gm_core.specs.Supersteps.{superstep_events}

@@ -1,7 +1,7 @@
 -- All workers do their parts.
 use Rattle.std.proofs.Common.{◌≡◌, List, ◌++◌, All, length, map, take, drop, sym, ap, ◌∙◌, subst, arith}
 use Rattle.std.proofs.lemmas.List.{length-map}
-use Rattle.gm_machine.specs.declared.steps.Sent.{Sent}
+use Rattle.gm_node_batches.specs.declared.steps.Sent.{Sent}
 use Rattle.gm_mailbox.specs.Sender.{MailboxId}
 use Rattle.gm_shifts.specs.declared.Turn.{Turn}
 use Rattle.gm_posting.specs.Traffic.{Traffic, AreOpen, AreWorkers, ArriveAll}

@@ -1,0 +1,4 @@
+pub mod Inboxes
+pub mod Sents
+pub mod Openings
+pub mod Taken
