@@ -1,10 +1,12 @@
-//! Tests of operations on whole columns.
+//! Tests of operations on whole columns, and of messages in columns.
 #![tactic(auto)]
 
 #[cfg(test)]
 mod calls;
 #[cfg(test)]
 mod foldings;
+#[cfg(test)]
+mod messages;
 #[cfg(test)]
 mod operations;
 #[cfg(test)]

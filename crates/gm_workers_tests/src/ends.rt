@@ -47,7 +47,10 @@ fn values_of(alloc: Global, outcome: &Outcome) -> Result<String, AllocError> {
             result: value,
             turns,
             ..
-        } => format!(in alloc; "{scalars:?} {value:?} {turns}\n"),
+        } => {
+            let list = scalars.as_slice();
+            format!(in alloc; "{list:?} {value:?} {turns}\n")
+        }
         _ => Ok(String::new(alloc)),
     }
 }
@@ -58,4 +61,60 @@ pub(crate) fn written(alloc: Global, end: &RunEnd) -> Result<String, AllocError>
     let values = values_of(alloc, &end.outcome)?;
     let (supersteps, messages) = (end.supersteps, end.messages);
     format!(in alloc; "{outputs}{values}{supersteps} {messages}")
+}
+
+// A fault's kind and line; of an outcome that is neither a fault nor a whole run the outcome itself.
+fn fault_of(alloc: Global, outcome: &Outcome) -> Result<String, AllocError> {
+    match outcome {
+        Outcome::Done { .. } => Ok(String::new(alloc)),
+        Outcome::Fault { kind, place } => {
+            let line = place.line;
+            format!(in alloc; "{kind:?} {line}\n")
+        }
+        other => format!(in alloc; "{other:?}\n"),
+    }
+}
+
+/// A run's end without the output properties of nodes, written out.
+pub(crate) fn without_nodes(alloc: Global, end: &RunEnd) -> Result<String, AllocError> {
+    let fault = fault_of(alloc, &end.outcome)?;
+    let values = values_of(alloc, &end.outcome)?;
+    let (supersteps, messages) = (end.supersteps, end.messages);
+    format!(in alloc; "{fault}{values}{supersteps} {messages}")
+}
+
+// Whether two columns have the same values.
+fn same_column(found: &Values, wanted: &Values) -> bool {
+    if found.len() != wanted.len() {
+        return false;
+    }
+    for i in 0..found.len() {
+        if found.get(i) != wanted.get(i) {
+            return false;
+        }
+    }
+    true
+}
+
+// Whether columns have the same values, one by one.
+fn same_columns(found: &[Values], wanted: &[Values]) -> bool {
+    if found.len() != wanted.len() {
+        return false;
+    }
+    for i in 0..found.len() {
+        if !same_column(&found[i], &wanted[i]) {
+            return false;
+        }
+    }
+    true
+}
+
+/// Whether two whole runs have the same output properties of nodes. Of other outcomes nothing is compared.
+pub(crate) fn same_nodes(found: &Outcome, wanted: &Outcome) -> bool {
+    match (found, wanted) {
+        (Outcome::Done { nodes: found, .. }, Outcome::Done { nodes: wanted, .. }) => {
+            same_columns(found.as_slice(), wanted.as_slice())
+        }
+        _ => true,
+    }
 }

@@ -8,6 +8,7 @@ use crate::samples::{GROWTH, HOPS, LOOPS, NEAREST, TOTAL, TRIANGLE, chance, grap
 use gm_base::OpenGate;
 use gm_graph::Graph;
 use gm_image::Sound;
+use gm_model::RunEnd;
 use gm_observe::{Counter, Observer, report_all};
 use gm_partition::Owner;
 use std::alloc::Global;
@@ -27,15 +28,15 @@ pub(crate) fn end_alone(alloc: Global, image: &Sound, graph: &Graph) -> Result<S
     Ok(written(alloc, &end)?)
 }
 
-// The end of a run by workers, written out.
-fn end_of<R: Threads + Wait + Sync>(
+/// The end of a run by workers.
+pub(crate) fn end_by<R: Threads + Wait + Sync>(
     rt: &R,
     alloc: Global,
     image: &Sound,
     graph: &Graph,
     owner: Owner,
     workers: u32,
-) -> Result<String, Fail>
+) -> Result<RunEnd, Fail>
     requires no_columns { image.now.columns ≡ [] }
     requires none { graph.now.edge_columns ≡ [] }
     requires some { 1 ≤ workers }
@@ -54,6 +55,24 @@ fn end_of<R: Threads + Wait + Sync>(
         &OpenGate,
         &mut nobody,
     )?;
+    Ok(end)
+}
+
+// The end of a run by workers, written out.
+fn end_of<R: Threads + Wait + Sync>(
+    rt: &R,
+    alloc: Global,
+    image: &Sound,
+    graph: &Graph,
+    owner: Owner,
+    workers: u32,
+) -> Result<String, Fail>
+    requires no_columns { image.now.columns ≡ [] }
+    requires none { graph.now.edge_columns ≡ [] }
+    requires some { 1 ≤ workers }
+    requires few { workers ≤ 64 }
+{
+    let end = end_by(rt, alloc, image, graph, owner, workers)?;
     Ok(written(alloc, &end)?)
 }
 

@@ -7,6 +7,7 @@ use gm_base::OpenGate;
 use gm_core::Event;
 use gm_graph::Graph;
 use gm_image::Sound;
+use gm_machine::rows_for;
 use gm_partition::Owner;
 use gm_workers::{StepEnd, slots, superstep};
 use std::alloc::Global;
@@ -26,11 +27,13 @@ fn first_step<R: Threads + Wait + Sync>(
 {
     let mut crew = slots(alloc, image, graph, Owner::Mod, 2)?;
     let mut globals = Vec::new(alloc);
+    let in_rows = rows_for(alloc, image.image(), graph)?;
     let end = superstep(
         rt,
         alloc,
         image,
         graph,
+        &in_rows,
         &mut crew,
         &mut globals,
         0,
