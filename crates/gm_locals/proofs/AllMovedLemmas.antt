@@ -1,5 +1,5 @@
 -- Locals that go to properties one after another go there at once.
-use Rattle.std.proofs.Common.{◌≡◌, ℕ, suc, Bool, true, false, cond, List, [], ◌∷◌, map, refl, sym, ap, ◌∙◌, Option, Some, None}
+use Rattle.std.proofs.Common.{◌≡◌, ℕ, suc, Bool, true, false, cond, List, [], ◌∷◌, ◌++◌, map, refl, sym, ap, ◌∙◌, Option, Some, None}
 use Rattle.std.specs.Prelude.{nat_eq, option_map}
 use Rattle.std.proofs.lemmas.Bool.{eqb-true}
 use Rattle.gm_base.specs.declared.places.Place.{Place}
@@ -12,8 +12,8 @@ use Rattle.gm_ast.specs.declared.tree.Target.TheVariants as T
 use Rattle.gm_ast.specs.Program.{Expr, Const, Var, Property, Unary, Binary, Both, Either, Choose, Stmt, Then, Declare, Assign, Defer, Combine, Foreach, If, sequence}
 use Rattle.gm_loop_laws.specs.Localised.{moved_in, moved_target, moved_declared, moved}
 use Rattle.gm_dissect.specs.Locals.{set_to}
-use Rattle.gm_locals.specs.Groups.{locals_loop}
-use Rattle.gm_locals.specs.AllMoved.{property_of, first_values, read_from, all_moved_in, aimed_at, all_moved_target, declared_at, all_moved, set_before}
+use Rattle.gm_locals.specs.Groups.{locals_row, locals_loop}
+use Rattle.gm_locals.specs.AllMoved.{property_of, first_values, read_from, all_moved_in, aimed_at, all_moved_target, declared_at, all_moved, settings, set_before}
 
 -- n: the loop's iterator; at: the place of writes; zero: the first values
 module _ (n : ℕ) (at : Place) (zero : ℕ → Value) where
@@ -121,16 +121,27 @@ module _ (n : ℕ) (at : Place) (zero : ℕ → Value) where
     more-moved (Foreach k place h test body) = rw (more-in test, more-moved body) refl
     more-moved s = refl
 
--- the loops that keep the locals
+-- the loop that keeps the locals, and those that set their properties
+pub row-at-once : (ds : List Declaration) (xs : List ℕ) (q : ℕ) (k : Key) (at : Place) (h : Head) (test : Expr) (body : Stmt) →
+    locals_row ds xs q k at h test body
+    ≡ settings q xs at h ++ (Foreach k at h (all_moved_in (property_of q xs) h.iterator test) (all_moved (property_of q xs) h.iterator at (first_values ds) body) ∷ [])
+row-at-once ds [] q k at h test body =
+    let zero = first_values ds in
+    let n = h.iterator in
+    sym (ap (λ e. Foreach k at h e (all_moved (none n at zero) n at zero body) ∷ []) (none-in n at zero test) ∙ ap (λ s. Foreach k at h test s ∷ []) (none-moved n at zero body))
+row-at-once ds (x ∷ xs) q k at h test body =
+    let zero = first_values ds in
+    let n = h.iterator in
+    ap (λ l. set_to q x at h ∷ l) (row-at-once ds xs (suc q) k at h (moved_in x q n at (zero x) test) (moved x q n at (zero x) body)
+    ∙ ap (λ s. settings (suc q) xs at h ++ (s ∷ []))
+    (sym (ap (λ e. Foreach k at h e (all_moved (property_of q (x ∷ xs)) n at zero body)) (more-in n at zero x q xs test) ∙ ap (Foreach k at h (all_moved_in (property_of (suc q) xs) n (moved_in x q n at (zero x) test))) (more-moved n at zero x q xs body))))
+
+-- as one statement
 pub loop-at-once : (ds : List Declaration) (xs : List ℕ) (q : ℕ) (k : Key) (at : Place) (h : Head) (test : Expr) (body : Stmt) →
     locals_loop ds xs q k at h test body
     ≡ set_before q xs at h (Foreach k at h (all_moved_in (property_of q xs) h.iterator test) (all_moved (property_of q xs) h.iterator at (first_values ds) body))
 loop-at-once ds [] q k at h test body =
     let zero = first_values ds in
-    sym (ap (λ e. Foreach k at h e (all_moved (none h.iterator at zero) h.iterator at zero body)) (none-in h.iterator at zero test) ∙ ap (Foreach k at h test) (none-moved h.iterator at zero body))
-loop-at-once ds (x ∷ xs) q k at h test body =
-    let zero = first_values ds in
     let n = h.iterator in
-    ap (λ s. sequence (set_to q x at h ∷ s ∷ [])) (loop-at-once ds xs (suc q) k at h (moved_in x q n at (zero x) test) (moved x q n at (zero x) body)
-    ∙ ap (set_before (suc q) xs at h)
-    (sym (ap (λ e. Foreach k at h e (all_moved (property_of q (x ∷ xs)) n at zero body)) (more-in n at zero x q xs test) ∙ ap (Foreach k at h (all_moved_in (property_of (suc q) xs) n (moved_in x q n at (zero x) test))) (more-moved n at zero x q xs body))))
+    sym (ap (λ e. Foreach k at h e (all_moved (none n at zero) n at zero body)) (none-in n at zero test) ∙ ap (Foreach k at h test) (none-moved n at zero body))
+loop-at-once ds (x ∷ xs) q k at h test body = ap sequence (row-at-once ds (x ∷ xs) q k at h test body)

@@ -42,7 +42,7 @@ use Rattle.gm_dissect.proofs.Moved.{named-in, named-moved, has-type-moved, typed
 use Rattle.gm_dissect.proofs.MovedOrder.{loop-moved}
 use Rattle.gm_dissect.proofs.Setting.{set-stands}
 use Rattle.gm_dissect.proofs.Undeferred.{append-true}
-use Rattle.gm_locals.specs.Groups.{may_move_within, may_keep, keeps_locals, locals_loop, kept_loop}
+use Rattle.gm_locals.specs.Groups.{may_move_within, may_keep, keeps_locals, locals_row, locals_loop, kept_loop}
 use Rattle.gm_locals.proofs.TargetKinds.{kinds, kinds-first, kinds-stay, kinds-alike}
 use Rattle.gm_locals.proofs.SharesBeside.{shares_with, shares-beside, shares-again, shares-beside-moved}
 use Rattle.gm_locals.proofs.Staying.{reads-below, names-below-moved}
@@ -189,20 +189,26 @@ module _ (ds dt : List Declaration) (same : (x : ℕ) → x < length ds → vari
       kind = kinds-stay x q n at (first_of x) xs body stands.names stands.kind;
     }
 
-  locals-sound : (xs : List ℕ) (q : ℕ) (test : Expr) (body : Stmt) → Stands q xs test body → AllGo xs → Added ds dt q xs → Sound dt res (locals_loop ds xs q key at hd test body)
-  locals-sound [] q test body stands all added = record {
+  loop-sound : (q : ℕ) (test : Expr) (body : Stmt) → Stands q [] test body → Sound dt res (Foreach key at hd test body)
+  loop-sound q test body stands = record {
     named = append-true (suits dt) (uses_of_head hd) (uses_in test ++ uses_of body) head (append-true (suits dt) (uses_in test) (uses_of body) stands.told stands.named);
     typed = and-true (has_type dt V.Flag test) (is_typed_in dt res body) stands.flag stands.typed;
     order = stands.order;
     share = shares-again dt n test body stands.share (kinds-alike n body stands.kind);
     form = and-true (is_nodes hd.domain) (is_flat (n ∷ []) false test && is_outer_body dt false n body) range (and-true (is_flat (n ∷ []) false test) (is_outer_body dt false n body) stands.flat stands.form);
   }
-  locals-sound (x ∷ xs) q test body stands all added =
+
+  row-sound : (xs : List ℕ) (q : ℕ) (test : Expr) (body : Stmt) → Stands q xs test body → AllGo xs → Added ds dt q xs → Sound dt res (sequence (locals_row ds xs q key at hd test body))
+  row-sound [] q test body stands all added = sound-then dt res (Foreach key at hd test body) Skip (loop-sound q test body stands) (sound-skip dt res)
+  row-sound (x ∷ xs) q test body stands all added =
       let asks = moved_in x q n at (first_of x) test in
       let does = moved x q n at (first_of x) body in
-      let rest = locals_loop ds xs (suc q) key at hd asks does in
-      sound-then dt res (set_to q x at hd) (sequence (rest ∷ [])) (first-sound q x xs test body stands all.0 added)
-      (sound-then dt res rest Skip (locals-sound xs (suc q) asks does (stands-still q x xs test body stands all.0 added) all.1 added.1.1) (sound-skip dt res))
+      sound-then dt res (set_to q x at hd) (sequence (locals_row ds xs (suc q) key at hd asks does)) (first-sound q x xs test body stands all.0 added)
+      (row-sound xs (suc q) asks does (stands-still q x xs test body stands all.0 added) all.1 added.1.1)
+
+  locals-sound : (xs : List ℕ) (q : ℕ) (test : Expr) (body : Stmt) → Stands q xs test body → AllGo xs → Added ds dt q xs → Sound dt res (locals_loop ds xs q key at hd test body)
+  locals-sound [] q test body stands all added = loop-sound q test body stands
+  locals-sound (x ∷ xs) q test body stands all added = row-sound (x ∷ xs) q test body stands all added
 
 -- a loop that keeps locals keeps what it should, in a longer table that has their properties
 module _ (ds dt : List Declaration) (same : (x : ℕ) → x < length ds → variable_at dt x ≡ variable_at ds x) (more : length ds ≤ length dt) (res : Option VType) where

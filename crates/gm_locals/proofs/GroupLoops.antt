@@ -17,14 +17,14 @@ use Rattle.gm_ast.specs.declared.tree.Target.{Target}
 use Rattle.gm_ast.specs.declared.tree.Target.TheVariants as T
 use Rattle.gm_ast.specs.declared.tree.Variable.{Variable}
 use Rattle.gm_ast.specs.Names.{sort_eq}
-use Rattle.gm_ast.specs.Program.{Expr, Var, always, Stmt, Skip, Then, Declare, Assign, Defer, Combine, Foreach, If, sequence}
+use Rattle.gm_ast.specs.Program.{Expr, Var, always, Stmt, Then, Declare, Assign, Defer, Combine, Foreach, If, sequence}
 use Rattle.gm_semantics.specs.declared.faults.Fault.{Fault}
 use Rattle.gm_semantics.specs.Stores.{Store}
 use Rattle.gm_semantics.specs.Faults.{then_with}
 use Rattle.gm_semantics.specs.Levels.{no_levels}
 use Rattle.gm_semantics.specs.Iterations.{Loop}
 use Rattle.gm_semantics.specs.Loops.{pushes}
-use Rattle.gm_semantics.specs.Statements.{Run, State, variable_at, loop_of, sequential, with_value, with_store, then_do}
+use Rattle.gm_semantics.specs.Statements.{Run, State, variable_at, loop_of, sequential, with_value, with_store}
 use Rattle.gm_semantics.specs.Frames.{Agree, ReadsBelow, NamesBelow, AlikeStores, AlikeStates, AlikeCourses}
 use Rattle.gm_semantics.proofs.StatementFrames.{sequential-alike}
 use Rattle.gm_forms.specs.Forms.{depth_at, is_flat, is_outer_body}
@@ -45,7 +45,7 @@ use Rattle.gm_dissect.proofs.DeferredLoops.{may_be_written, never-iterates, use-
 use Rattle.gm_dissect.proofs.LocalLoops.{pushes-fresh, IsLocal, declared-local}
 use Rattle.gm_dissect.proofs.Phases.{KnownLoop, Rewrites}
 use Rattle.gm_locals.specs.Beside.{is_mine, may_move_beside}
-use Rattle.gm_locals.specs.Groups.{is_among, may_move_within, may_keep, keeps_locals, locals_loop, kept_loop}
+use Rattle.gm_locals.specs.Groups.{is_among, may_move_within, may_keep, keeps_locals, locals_row, locals_loop, kept_loop}
 use Rattle.gm_locals.proofs.MovesBeside.{locals-move-beside}
 use Rattle.gm_locals.proofs.Staying.{reads-below, names-below-moved, plain-stays, beside-stays}
 use Rattle.gm_locals.proofs.UpTo.{reads-up-to, names-up-to}
@@ -226,14 +226,17 @@ module _ (ds : List Declaration) (run : Run) (same : (x : ℕ) → x < length ds
       (step j q x least test body fits known.0 s t agree) (same-behind j (suc q) up (setting q x) (alone asks does) behind rest t)
 
   -- the statements do these changes
-  changes-do : (xs : List ℕ) (q : ℕ) (test : Expr) (body : Stmt) (v : State) → with_value (changes xs q test body v.store) (with_store v) ≡ sequential (locals_loop ds xs q key at h test body) run v
-  changes-do [] q test body v = refl
-  changes-do (x ∷ xs) q test body v =
+  row-does : (xs : List ℕ) (q : ℕ) (test : Expr) (body : Stmt) (v : State) → with_value (changes xs q test body v.store) (with_store v) ≡ sequential (sequence (locals_row ds xs q key at h test body)) run v
+  row-does [] q test body v = last-do run v (alone test body v.store)
+  row-does (x ∷ xs) q test body v =
       let asks = moved_in x q n at (first_of x) test in
       let does = moved x q n at (first_of x) body in
-      let rest = locals_loop ds xs (suc q) key at h asks does in
-      turns-do (setting q x) (changes xs (suc q) asks does) (sequential (sequence (rest ∷ [])) run) v
-      (λ w. last-do run (record v { store = w }) (changes xs (suc q) asks does w) ∙ ap (λ c. then_do c (sequential Skip run)) (changes-do xs (suc q) asks does (record v { store = w })))
+      turns-do (setting q x) (changes xs (suc q) asks does) (sequential (sequence (locals_row ds xs (suc q) key at h asks does)) run) v
+      (λ w. row-does xs (suc q) asks does (record v { store = w }))
+
+  changes-do : (xs : List ℕ) (q : ℕ) (test : Expr) (body : Stmt) (v : State) → with_value (changes xs q test body v.store) (with_store v) ≡ sequential (locals_loop ds xs q key at h test body) run v
+  changes-do [] q test body v = refl
+  changes-do (x ∷ xs) q test body v = row-does (x ∷ xs) q test body v
 
   locals-alike : (xs : List ℕ) (j q : ℕ) → j ≤ q → (test : Expr) (body : Stmt) → Fits j test body → AllMovable j test body xs → (u v : State) → AlikeStates j u v →
       AlikeCourses j (sequential (Foreach key at h test body) run u) (sequential (locals_loop ds xs q key at h test body) run v)

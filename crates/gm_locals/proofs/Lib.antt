@@ -17,7 +17,6 @@ pub mod InPlace
 pub mod Partly
 pub mod AllGroupsWalk
 pub mod Rounds
-pub mod SetBefore
 pub mod KeptLoops
 pub mod AllGroupsAlike
 pub mod AllGroupsKept

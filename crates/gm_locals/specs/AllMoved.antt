@@ -1,5 +1,5 @@
 -- Several locals of a loop's body, kept in properties of the loop's node at once.
-use Rattle.std.specs.Prelude.{◌≡◌, ℕ, suc, nat_eq, if◌then◌else◌, List, [], ◌∷◌, map, Option, Some, None, option_map}
+use Rattle.std.specs.Prelude.{◌≡◌, ℕ, suc, nat_eq, if◌then◌else◌, List, [], ◌∷◌, ◌++◌, map, Option, Some, None, option_map}
 use Rattle.gm_base.specs.declared.places.Place.{Place}
 use Rattle.gm_value.specs.declared.values.Value.{Value}
 use Rattle.gm_value.specs.Numbers.{zero_of}
@@ -70,10 +70,15 @@ module _ (home : ℕ → Option ℕ) (n : ℕ) where
   all_moved at zero (Foreach k place h test body) = Foreach k place h (all_moved_in test) (all_moved at zero body)
   all_moved at zero s = s
 
--- a statement behind the loops that set properties to locals, the first of them q
+-- the loops that set properties to locals, the first of them q
+abbrev pub settings : ℕ → List ℕ → Place → Head → List Stmt
+settings q [] at h = []
+settings q (x ∷ xs) at h = set_to q x at h ∷ settings (suc q) xs at h
+
+-- a statement behind them, in one row, if there are some
 abbrev pub set_before : ℕ → List ℕ → Place → Head → Stmt → Stmt
 set_before q [] at h s = s
-set_before q (x ∷ xs) at h s = sequence (set_to q x at h ∷ set_before (suc q) xs at h s ∷ [])
+set_before q (x ∷ xs) at h s = sequence (settings q (x ∷ xs) at h ++ (s ∷ []))
 
 -- a loop that keeps locals one after another keeps them at once
 abbrev pub LocalsGoAtOnce : Type 0

@@ -44,13 +44,18 @@ may_keep ds xs n test body x = sort_eq Scalar (variable_at ds x).sort && (declar
 abbrev pub keeps_locals : List Declaration → List ℕ → ℕ → Expr → Stmt → Bool
 keeps_locals ds xs n test body = holds_cut n body && list_all (may_keep ds xs n test body) xs
 
--- a loop that keeps locals in properties, the first of them q: it sets each property to its local first
-abbrev pub locals_loop : List Declaration → List ℕ → ℕ → Key → Place → Head → Expr → Stmt → Stmt
-locals_loop ds [] q k at h test body = Foreach k at h test body
-locals_loop ds (x ∷ xs) q k at h test body =
+-- a loop that keeps locals in properties, the first of them q, in a row behind the loops that set each property to its local
+abbrev pub locals_row : List Declaration → List ℕ → ℕ → Key → Place → Head → Expr → Stmt → List Stmt
+locals_row ds [] q k at h test body = Foreach k at h test body ∷ []
+locals_row ds (x ∷ xs) q k at h test body =
     let n = h.iterator in
     let zero = zero_of (variable_at ds x).vtype in
-    sequence (set_to q x at h ∷ locals_loop ds xs (suc q) k at h (moved_in x q n at zero test) (moved x q n at zero body) ∷ [])
+    set_to q x at h ∷ locals_row ds xs (suc q) k at h (moved_in x q n at zero test) (moved x q n at zero body)
+
+-- the same as one statement: where there are no locals, the loop alone
+abbrev pub locals_loop : List Declaration → List ℕ → ℕ → Key → Place → Head → Expr → Stmt → Stmt
+locals_loop ds [] q k at h test body = Foreach k at h test body
+locals_loop ds (x ∷ xs) q k at h test body = sequence (locals_row ds (x ∷ xs) q k at h test body)
 
 -- a loop that keeps some locals so, and any other as it is
 abbrev pub kept_loop : List Declaration → List ℕ → ℕ → Key → Place → Head → Expr → Stmt → Stmt

@@ -4,7 +4,7 @@
 //! keeps it in a fresh property of its node. A loop before it sets the property to what the local holds there. Locals
 //! that are reduced together go together.
 
-ghost use Rattle.std.specs.Prelude.{◌≡◌, ◌+◌, ◌<◌, ◌^◌, ◌∷◌, [], ◌++◌, IfOk, OnOk, length, map};
+ghost use Rattle.std.specs.Prelude.{◌≡◌, ◌+◌, ◌<◌, ◌^◌, ◌++◌, IfOk, OnOk, length, map};
 ghost use Rattle.gm_ast.specs.Program.{sequence};
 ghost use Rattle.gm_ast.specs.Tree.{expr_of, program_of, stmt_of};
 ghost use Rattle.gm_forms.specs.Meanings.{SameMeaning};
@@ -20,7 +20,7 @@ use crate::rewriting::{Kept, move_in, move_inner};
 use gm_ast::forms::Work;
 use gm_ast::tree::{Declaration, Expr, Head, Key, Sort, Stage, Stmt, Target, Tree, Variable};
 use gm_base::{Items, NoMemory, Place};
-use gm_trees::places::{finish, in_turn, put, taken};
+use gm_trees::places::{finish, put, taken};
 use gm_value::{VType, Value};
 use std::alloc::{AllocError, Global};
 
@@ -142,24 +142,6 @@ fn setting(
     })
 }
 
-// Puts a statement behind the loop that sets a property to a local.
-fn set_first(
-    alloc: Global,
-    property: u32,
-    local: u32,
-    place: Place,
-    head: Head,
-    s: &mut Stmt,
-) -> Result<(), AllocError>
-    ensures { OnOk result (stmt_of s.new ≡ sequence (set_to property local place head ∷ stmt_of s.old ∷ [])) }
-{
-    let first = setting(alloc, property, local, place, head)?;
-    let second = taken(alloc, s);
-    let both = in_turn(alloc, first, second)?;
-    put(s, both);
-    Ok(())
-}
-
 // The number of the property that stands behind so many others, the first of which is given.
 fn property_behind(first: u32, before: usize) -> Result<u32, AllocError>
     ensures { IfOk result (λ p. p ≡ first + before) }
@@ -173,26 +155,46 @@ fn property_behind(first: u32, before: usize) -> Result<u32, AllocError>
     }
 }
 
-// Puts a statement behind the loops that set properties to locals.
+// The loops that set properties to locals.
+fn settings(
+    alloc: Global,
+    first: u32,
+    locals: &[u32],
+    place: Place,
+    head: Head,
+) -> Result<Vec<Stmt>, AllocError>
+    ensures { IfOk result (λ r. map stmt_of r.items ≡ AllMoved.settings first locals.now place head) }
+{
+    let mut stmts = Vec::new(alloc);
+    for local in locals {
+        let property = property_behind(first, stmts.len())?;
+        stmts.push(setting(alloc, property, *local, place, head)?)?;
+    }
+    Ok(stmts)
+}
+
+// Puts a statement behind the loops that set properties to locals, if there are some.
 fn set_before(
     alloc: Global,
     first: u32,
-    locals: Vec<u32>,
+    locals: &[u32],
     place: Place,
     head: Head,
     s: &mut Stmt,
 ) -> Result<(), AllocError>
-    ensures { OnOk result (stmt_of s.new ≡ AllMoved.set_before first locals.items place head (stmt_of s.old)) }
+    ensures { OnOk result (stmt_of s.new ≡ AllMoved.set_before first locals.now place head (stmt_of s.old)) }
 {
-    let mut locals = locals;
-    'setting: while let Some(local) = locals.pop() {
-        let property = property_behind(first, locals.len())?;
-        set_first(alloc, property, local, place, head, s)?;
+    if locals.is_empty() {
+        return Ok(());
     }
+    let mut stmts = settings(alloc, first, locals, place, head)?;
+    stmts.push(taken(alloc, s))?;
+    put(s, Stmt::Block(stmts));
     Ok(())
 }
 
 // The locals that a loop keeps, and the first of their properties.
+#[derive(Drop)]
 struct Group {
     first: u32,
     locals: Vec<u32>,
@@ -208,8 +210,7 @@ fn set_group(
 ) -> Result<(), AllocError>
     ensures { OnOk result (stmt_of s.new ≡ AllMoved.set_before group.first group.locals.items place head (stmt_of s.old)) }
 {
-    let Group { first, locals } = group;
-    set_before(alloc, first, locals, place, head, s)
+    set_before(alloc, group.first, &group.locals, place, head, s)
 }
 
 // A loop keeps its locals in properties behind those that are kept so far.

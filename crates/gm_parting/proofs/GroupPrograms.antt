@@ -8,7 +8,7 @@ use Rattle.gm_value.specs.Numbers.{zero_of}
 use Rattle.gm_ast.specs.declared.tree.Declaration.{Declaration}
 use Rattle.gm_ast.specs.declared.tree.Head.{Head}
 use Rattle.gm_ast.specs.declared.tree.Key.{Key}
-use Rattle.gm_ast.specs.Program.{Expr, Stmt, Skip, Then, Foreach, For, If, While, Do, Program}
+use Rattle.gm_ast.specs.Program.{Expr, Stmt, Skip, Then, Foreach, For, If, While, Do, Program, sequence}
 use Rattle.gm_semantics.specs.Statements.{variable_at}
 use Rattle.gm_forms.specs.Cut.{is_own_loop, touched}
 use Rattle.gm_forms.specs.Forms.{depth_at}
@@ -26,8 +26,8 @@ use Rattle.gm_dissect.specs.Loops.{each_loop}
 use Rattle.gm_dissect.proofs.DeferredLaws.{variable-longer}
 use Rattle.gm_dissect.proofs.Kept.{Sound}
 use Rattle.gm_locals.specs.AllGroups.{group_of, groups_in, with_groups, with_groups_kept}
-use Rattle.gm_locals.specs.AllMoved.{property_of, first_values, all_moved_in, all_moved, set_before}
-use Rattle.gm_locals.specs.Groups.{locals_loop}
+use Rattle.gm_locals.specs.AllMoved.{property_of, first_values, all_moved_in, all_moved, settings, set_before}
+use Rattle.gm_locals.specs.Groups.{locals_row, locals_loop}
 use Rattle.gm_locals.proofs.AllGroupsKept.{groups-kept}
 use Rattle.gm_locals.proofs.AllGroupsLaws.{groups-same, groups-ready}
 use Rattle.gm_locals.proofs.AllMovedLemmas.{loop-at-once}
@@ -62,31 +62,43 @@ of G k at h test body = is_own_loop h.iterator body || G h.iterator test body
 
 -- ---- a loop
 
-own-group : (G : ℕ → Expr → Stmt → Bool) (ds : List Declaration) (xs : List ℕ) (q : ℕ) (k : Key) (at : Place) (h : Head) (test : Expr) (body : Stmt) → is_own_loop h.iterator body ≡ true → each_passes (of G) (locals_loop ds xs q k at h test body) ≡ true
-own-group G ds [] q k at h test body o = ap (λ b. b || G h.iterator test body) o
-own-group G ds (x ∷ xs) q k at h test body o =
+own-row : (G : ℕ → Expr → Stmt → Bool) (ds : List Declaration) (xs : List ℕ) (q : ℕ) (k : Key) (at : Place) (h : Head) (test : Expr) (body : Stmt) → is_own_loop h.iterator body ≡ true → each_passes (of G) (sequence (locals_row ds xs q k at h test body)) ≡ true
+own-row G ds [] q k at h test body o = and-true (of G k at h test body) true (ap (λ b. b || G h.iterator test body) o) refl
+own-row G ds (x ∷ xs) q k at h test body o =
     let n = h.iterator in
     let t = (variable_at ds x).vtype in
-    let rest = locals_loop ds xs (suc q) k at h (moved_in x q n at (zero_of t) test) (moved x q n at (zero_of t) body) in
-    and-true (each_passes (of G) rest) true (own-group G ds xs (suc q) k at h (moved_in x q n at (zero_of t) test) (moved x q n at (zero_of t) body) (own-moved x q n at t body ∙ o)) refl
+    own-row G ds xs (suc q) k at h (moved_in x q n at (zero_of t) test) (moved x q n at (zero_of t) body) (own-moved x q n at t body ∙ o)
+
+own-group : (G : ℕ → Expr → Stmt → Bool) (ds : List Declaration) (xs : List ℕ) (q : ℕ) (k : Key) (at : Place) (h : Head) (test : Expr) (body : Stmt) → is_own_loop h.iterator body ≡ true → each_passes (of G) (locals_loop ds xs q k at h test body) ≡ true
+own-group G ds [] q k at h test body o = ap (λ b. b || G h.iterator test body) o
+own-group G ds (x ∷ xs) q k at h test body o = own-row G ds (x ∷ xs) q k at h test body o
+
+row-defers : (ds : List Declaration) (xs : List ℕ) (q : ℕ) (k : Key) (at : Place) (h : Head) (test : Expr) (body : Stmt) → is_empty (deferred_of body) ≡ true → each_passes defers_nothing (sequence (locals_row ds xs q k at h test body)) ≡ true
+row-defers ds [] q k at h test body o = and-true (is_empty (deferred_of body)) true o refl
+row-defers ds (x ∷ xs) q k at h test body o =
+    let n = h.iterator in
+    let t = (variable_at ds x).vtype in
+    row-defers ds xs (suc q) k at h (moved_in x q n at (zero_of t) test) (moved x q n at (zero_of t) body) (ap is_empty (deferred-of-moved x q n at t body) ∙ o)
 
 group-defers : (ds : List Declaration) (xs : List ℕ) (q : ℕ) (k : Key) (at : Place) (h : Head) (test : Expr) (body : Stmt) → is_empty (deferred_of body) ≡ true → each_passes defers_nothing (locals_loop ds xs q k at h test body) ≡ true
 group-defers ds [] q k at h test body o = o
-group-defers ds (x ∷ xs) q k at h test body o =
-    let n = h.iterator in
-    let t = (variable_at ds x).vtype in
-    let rest = locals_loop ds xs (suc q) k at h (moved_in x q n at (zero_of t) test) (moved x q n at (zero_of t) body) in
-    and-true (each_passes defers_nothing rest) true (group-defers ds xs (suc q) k at h (moved_in x q n at (zero_of t) test) (moved x q n at (zero_of t) body) (ap is_empty (deferred-of-moved x q n at t body) ∙ o)) refl
+group-defers ds (x ∷ xs) q k at h test body o = row-defers ds (x ∷ xs) q k at h test body o
+
+row-passes : (G : ℕ → Expr → Stmt → Bool) (q : ℕ) (xs : List ℕ) (at : Place) (h : Head) (s : Stmt) → each_passes (of G) s ≡ true → each_passes (of G) (sequence (settings q xs at h ++ (s ∷ []))) ≡ true
+row-passes G q [] at h s p = and-true (each_passes (of G) s) true p refl
+row-passes G q (x ∷ xs) at h s p = row-passes G (suc q) xs at h s p
 
 set-passes : (G : ℕ → Expr → Stmt → Bool) (q : ℕ) (xs : List ℕ) (at : Place) (h : Head) (s : Stmt) → each_passes (of G) s ≡ true → each_passes (of G) (set_before q xs at h s) ≡ true
 set-passes G q [] at h s p = p
-set-passes G q (x ∷ xs) at h s p = and-true (each_passes (of G) (set_before (suc q) xs at h s)) true (set-passes G (suc q) xs at h s p) refl
+set-passes G q (x ∷ xs) at h s p = row-passes G q (x ∷ xs) at h s p
+
+row-last : (ds : List Declaration) (res : Option VType) (q : ℕ) (xs : List ℕ) (at : Place) (h : Head) (s : Stmt) → Sound ds res (sequence (settings q xs at h ++ (s ∷ []))) → Sound ds res s
+row-last ds res q [] at h s p = (sound-both ds res s Skip p).0
+row-last ds res q (x ∷ xs) at h s p = row-last ds res (suc q) xs at h s (sound-both ds res (set_to q x at h) (sequence (settings (suc q) xs at h ++ (s ∷ []))) p).1
 
 set-sound : (ds : List Declaration) (res : Option VType) (q : ℕ) (xs : List ℕ) (at : Place) (h : Head) (s : Stmt) → Sound ds res (set_before q xs at h s) → Sound ds res s
 set-sound ds res q [] at h s p = p
-set-sound ds res q (x ∷ xs) at h s p =
-    let rest = set_before (suc q) xs at h s in
-    set-sound ds res (suc q) xs at h s (sound-both ds res rest Skip (sound-both ds res (set_to q x at h) (Then rest Skip) p).1).0
+set-sound ds res q (x ∷ xs) at h s p = row-last ds res q (x ∷ xs) at h s p
 
 -- the facts before, as one test
 abbrev pub before_test : List Declaration → ℕ → Expr → Stmt → Bool

@@ -26,7 +26,7 @@ use Rattle.gm_loop_laws.specs.Pieces.{Piece, piece, pieces_of}
 use Rattle.gm_loop_laws.proofs.Chosen.{disjoint-apart, apart-disjoint}
 use Rattle.gm_dissect.proofs.DeferredLaws.{variable-longer}
 use Rattle.gm_dissect.proofs.Kept.{Sound}
-use Rattle.gm_cut.specs.Lean.{can_be_lean, in_lean_slices, reads_no_given, gives_apart, has_slices_that_go}
+use Rattle.gm_cut.specs.Lean.{can_be_lean, reads_no_given, gives_apart, has_slices_that_go}
 use Rattle.gm_cut.specs.Parts.{goes_any_way, in_pieces, parts_of, parted_loop, piece_loop, IsPartedBy, each_passes}
 use Rattle.gm_cut.specs.Runs.{with_runs, joins_run}
 use Rattle.gm_cut.specs.Slices.{goes_one_way}
@@ -36,7 +36,7 @@ use Rattle.gm_cut.proofs.LoopLaws.{parted-flat}
 use Rattle.gm_cut.proofs.Shared.{Under, shares-alike, listed-first, listed-second, shared-split, kept-split, anywhere-split, elsewhere-split}
 use Rattle.gm_parting.specs.Apart.{under, apart, apart_loop, most_ifs, inner_flags, with_statements_apart}
 use Rattle.gm_parting.specs.Numbers.{count_ifs}
-use Rattle.gm_parting.specs.Passes.{prepared, MayBePrepared}
+use Rattle.gm_parting.specs.Passes.{prepared, dissected, MayBePrepared}
 use Rattle.gm_parting.specs.Tuples.{is_scalar_at, are_even, reduces_evenly, has_even_tuples}
 use Rattle.gm_parting.proofs.ApartLaws.{same-apart}
 use Rattle.gm_parting.proofs.Loops.{each-kept, sound-of}
@@ -329,8 +329,8 @@ module _ (p : Program) (r : Ready2 p) (f : MayBePrepared p) where
       let cut = apart-cut p r f in
       parted-leans a cut (givens-apart a.declarations a.body cut.sane.race_free even) g
 
-  pub lean-same : has_slices_that_go (with_statements_apart (in_pieces (prepared p))) ≡ true → SameMeaning p (in_lean_slices (with_statements_apart (in_pieces (prepared p))))
-  lean-same g = same-trans p q (in_lean_slices a) (pieces-same p r f) (same-trans q a (in_lean_slices a) (same-apart q (pieces-cut p r f)) (same-lean a (apart-cut p r f) (may-lean g)))
+  pub lean-same : has_slices_that_go (with_statements_apart (in_pieces (prepared p))) ≡ true → SameMeaning p (dissected p)
+  lean-same g = same-trans p q (dissected p) (pieces-same p r f) (same-trans q a (dissected p) (same-apart q (pieces-cut p r f)) (same-lean a (apart-cut p r f) (may-lean g)))
 
-  pub lean-ready : has_slices_that_go (with_statements_apart (in_pieces (prepared p))) ≡ true → Ready3 (in_lean_slices (with_statements_apart (in_pieces (prepared p))))
+  pub lean-ready : has_slices_that_go (with_statements_apart (in_pieces (prepared p))) ≡ true → Ready3 (dissected p)
   lean-ready g = ready-lean a (apart-cut p r f) (may-lean g)

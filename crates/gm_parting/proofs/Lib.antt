@@ -45,5 +45,5 @@ pub mod PlacedFacts
 pub mod PlacedRuns
 pub mod PlacedLaws
 pub mod PlacedNames
-mod LeanPrograms
+pub mod LeanPrograms
 mod Samples

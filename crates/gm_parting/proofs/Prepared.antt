@@ -2,22 +2,20 @@
 use Rattle.std.proofs.Common.{◌≡◌, true}
 use Rattle.gm_ast.specs.Program.{Program}
 use Rattle.gm_forms.specs.Meanings.{SameMeaning}
-use Rattle.gm_forms.specs.Ready.{Ready2, Ready3}
+use Rattle.gm_forms.specs.Ready.{Ready2}
 use Rattle.gm_forms.proofs.Meanings.{same-trans}
 use Rattle.gm_dissect.specs.AllDeferred.{without_deferred}
 use Rattle.gm_dissect.proofs.AllDeferred as Deferred
 use Rattle.gm_cut.specs.Parts.{goes_any_way, in_pieces, IsPartedBy}
-use Rattle.gm_cut.specs.Slices.{can_be_sliced}
 use Rattle.gm_cut.proofs.PartLaws.{same-parted, ready-parted}
-use Rattle.gm_cut.proofs.SlicesLaws.{same-sliced, ready-sliced}
 use Rattle.gm_parting.specs.Apart.{with_statements_apart}
 use Rattle.gm_parting.specs.Declared.{with_locals_declared}
 use Rattle.gm_parting.specs.Filters.{with_saved_filters}
 use Rattle.gm_parting.specs.Iterators.{with_iterators_placed}
 use Rattle.gm_parting.specs.Numbers.{with_conditions_apart}
-use Rattle.gm_parting.specs.Passes.{prepared, dissected, MayBePrepared}
+use Rattle.gm_parting.specs.Passes.{prepared, MayBePrepared}
 use Rattle.gm_parting.specs.Prepared.{IsPrepared}
-use Rattle.gm_parting.proofs.ApartLaws.{same-apart, parted-apart-still}
+use Rattle.gm_parting.proofs.ApartLaws.{parted-apart-still}
 use Rattle.gm_parting.proofs.DeclaredFacts.{all-declared, checks-declared, tuples-declared, iterators-declared}
 use Rattle.gm_parting.proofs.DeclaredLaws.{same-declared, ready-declared}
 use Rattle.gm_parting.proofs.DeferredFacts.{facts-stay}
@@ -85,13 +83,3 @@ pieces-cut p r f = let s = prepared-ready p r in ready-parted goes_any_way (prep
 -- the statements of inner loops stand apart
 pub apart-cut : (p : Program) → Ready2 p → MayBePrepared p → IsPartedBy goes_any_way (with_statements_apart (in_pieces (prepared p)))
 apart-cut p r f = parted-apart-still (in_pieces (prepared p)) (pieces-cut p r f)
-
--- and inner loops go to slices where they may
-pub slices-same : (p : Program) → Ready2 p → MayBePrepared p → can_be_sliced (with_statements_apart (in_pieces (prepared p))) ≡ true → SameMeaning p (dissected p)
-slices-same p r f h =
-    let q = in_pieces (prepared p) in
-    let a = with_statements_apart q in
-    same-trans p q (dissected p) (pieces-same p r f) (same-trans q a (dissected p) (same-apart q (pieces-cut p r f)) (same-sliced a (apart-cut p r f) h))
-
-pub slices-ready : (p : Program) → Ready2 p → MayBePrepared p → can_be_sliced (with_statements_apart (in_pieces (prepared p))) ≡ true → Ready3 (dissected p)
-slices-ready p r f h = ready-sliced (with_statements_apart (in_pieces (prepared p))) (apart-cut p r f) h

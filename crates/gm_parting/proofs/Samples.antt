@@ -31,8 +31,7 @@ use Rattle.gm_locals.specs.AllLocals.{has_moved_locals}
 use Rattle.gm_locals.specs.Groups.{with_locals_kept}
 use Rattle.gm_cut.specs.Parts.{goes_any_way, in_pieces, can_be_parted}
 use Rattle.gm_cut.specs.Runs.{with_runs, grouped}
-use Rattle.gm_cut.specs.Lean.{can_be_lean, has_slices_that_go, has_statements_that_go, in_lean_slices}
-use Rattle.gm_cut.specs.Slices.{can_be_sliced}
+use Rattle.gm_cut.specs.Lean.{can_be_lean, has_slices_that_go, has_statements_that_go}
 use Rattle.gm_parting.specs.Apart.{with_statements_apart}
 use Rattle.gm_parting.specs.Declared.{declared_first, with_locals_declared, has_no_strangers}
 use Rattle.gm_parting.specs.Filters.{filter_saved, with_saved_filters}
@@ -335,7 +334,7 @@ behind-prepared : may (prepared behind) ≡ true
 behind-prepared = refl
 
 -- what can fault behind the Sum stands in another slice then
-behind-slices : can_be_sliced (in_pieces (prepared behind)) ≡ true
+behind-slices : has_slices_that_go (in_pieces (prepared behind)) ≡ true
 behind-slices = refl
 
 asking-prepared : may (prepared asking) ≡ true
@@ -347,7 +346,7 @@ later-needs = refl
 later-prepared : may (prepared later) ≡ true
 later-prepared = refl
 
-later-slices : can_be_sliced (in_pieces (prepared later)) ≡ true
+later-slices : has_slices_that_go (in_pieces (prepared later)) ≡ true
 later-slices = refl
 
 inside-needs : needs inside ≡ true ∷ true ∷ true ∷ []
@@ -356,7 +355,7 @@ inside-needs = refl
 inside-prepared : may (prepared inside) ≡ true
 inside-prepared = refl
 
-inside-slices : can_be_sliced (in_pieces (prepared inside)) ≡ true
+inside-slices : has_slices_that_go (in_pieces (prepared inside)) ≡ true
 inside-slices = refl
 
 twice-needs : needs twice ≡ true ∷ true ∷ true ∷ []
@@ -365,7 +364,7 @@ twice-needs = refl
 twice-prepared : may (prepared twice) ≡ true
 twice-prepared = refl
 
-twice-slices : can_be_sliced (in_pieces (prepared twice)) ≡ true
+twice-slices : has_slices_that_go (in_pieces (prepared twice)) ≡ true
 twice-slices = refl
 
 -- its Ifs get numbers of their own
@@ -443,10 +442,10 @@ several = program (each always (along 2 (If (key 3) (is-zero 3 (own 4 3)) (seque
 several-row : (is_ready several && may (prepared several)) ≡ true
 several-row = refl
 
-several-together : can_be_sliced (in_pieces (prepared several)) ≡ false
+several-together : has_slices_that_go (in_pieces (prepared several)) ≡ false
 several-together = refl
 
-several-slices : can_be_sliced (pieces several) ≡ true
+several-slices : has_slices_that_go (pieces several) ≡ true
 several-slices = refl
 
 -- Foreach (t: n.Nbrs) { Bool y = n.b == 0; If (y) { t.c += n.b; } } and then Foreach (t: n.Nbrs) { Bool y = n.b == 0; If (y) { n.a min= t.b; } }
@@ -461,7 +460,7 @@ abbrev nested : Program
 nested =
     program (each always (along 2 (If (key 3) (is-zero 3 (own 4 3)) (sequence (push-line 4 ∷ If (key 5) (is-zero 5 (Property 2 4 (at 5))) (pull 6) Skip ∷ [])) (sequence (pull 7 ∷ [])) ∷ []) ∷ []))
 
-nested-row : (is_ready nested && can_be_sliced (pieces nested)) ≡ true
+nested-row : (is_ready nested && has_slices_that_go (pieces nested)) ≡ true
 nested-row = refl
 
 -- a body that goes one way stays
@@ -475,10 +474,10 @@ again = program (each always (along 2 (push-line 3 ∷ pull 4 ∷ push-line 5 �
 again-row : (is_ready again && may (prepared again)) ≡ true
 again-row = refl
 
-again-slices : can_be_sliced (pieces again) ≡ true
+again-slices : has_slices_that_go (pieces again) ≡ true
 again-slices = refl
 
--- what can fault at the edge is evaluated again in the slice behind, which goes no way then: Edge e = t.ToEdge(); Int x = t.b / e.w; t.c += x; n.a += 1;
+-- what can fault at the edge is not evaluated again in the slice behind, which needs none of it: Edge e = t.ToEdge(); Int x = t.b / e.w; t.c += x; n.a += 1;
 abbrev repeated : Program
 repeated =
     record (program (each always (along 2 (DeclareEdge 12 2 (at 3) ∷ Declare (key 4) 14 (Some (Binary Div (at 4) (Property 2 4 (at 4)) (EdgeProperty 12 13 (at 4))))
@@ -489,10 +488,6 @@ repeated =
 repeated-row : (is_ready repeated && may (prepared repeated)) ≡ true
 repeated-row = refl
 
-repeated-slices : can_be_sliced (pieces repeated) ≡ false
-repeated-slices = refl
-
--- a slice that evaluates only what it needs does not evaluate it again
 repeated-lean : (has_statements_that_go (pieces repeated) && (has_slices_that_go (pieces repeated) && can_be_lean (pieces repeated))) ≡ true
 repeated-lean = refl
 
@@ -504,10 +499,6 @@ nested-lean = refl
 
 again-lean : (has_statements_that_go (pieces again) && (has_slices_that_go (pieces again) && can_be_lean (pieces again))) ≡ true
 again-lean = refl
-
--- where nothing can fault, both kinds of slices are the same
-several-leans : (in_lean_slices (pieces several)).body ≡ (dissected several).body
-several-leans = refl
 
 -- each of these lacks one, and may not be cut then
 both-row : is_ready both ≡ true

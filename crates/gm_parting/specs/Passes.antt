@@ -3,8 +3,8 @@ use Rattle.std.specs.Prelude.{◌≡◌, true}
 use Rattle.gm_ast.specs.Program.{Program}
 use Rattle.gm_dissect.specs.AllDeferred.{without_deferred}
 use Rattle.gm_locals.specs.AllGroups.{with_groups_kept}
+use Rattle.gm_cut.specs.Lean.{in_lean_slices}
 use Rattle.gm_cut.specs.Parts.{in_pieces}
-use Rattle.gm_cut.specs.Slices.{in_slices}
 use Rattle.gm_parting.specs.Apart.{with_statements_apart}
 use Rattle.gm_parting.specs.Declared.{with_locals_declared}
 use Rattle.gm_parting.specs.Filters.{with_saved_filters}
@@ -20,7 +20,7 @@ prepared p = with_groups_kept (with_nodes_read (with_conditions_apart (with_save
 
 -- and then bodies go to pieces, the statements of inner loops that go several ways stand apart, and these go to slices
 abbrev pub dissected : Program → Program
-dissected p = in_slices (with_statements_apart (in_pieces (prepared p)))
+dissected p = in_lean_slices (with_statements_apart (in_pieces (prepared p)))
 
 -- no variable iterates a loop over nodes and an inner loop, and in each loop that is not of own statements no node variable is checked, and tuples are even
 pub record MayBePrepared (p : Program) : Type 0 where

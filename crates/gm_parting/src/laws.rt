@@ -7,9 +7,8 @@ ghost use Rattle.gm_forms.specs.Meanings.{SameMeaning};
 ghost use Rattle.gm_dissect.specs.AllDeferred.{has_no_deferred};
 ghost use Rattle.gm_dissect.specs.Conditions.{with_saved_conditions};
 ghost use Rattle.gm_dissect.specs.Locals.{with_kept_locals};
-ghost use Rattle.gm_cut.specs.Lean.{has_slices_that_go, in_lean_slices};
+ghost use Rattle.gm_cut.specs.Lean.{has_slices_that_go};
 ghost use Rattle.gm_cut.specs.Parts.{can_be_parted, goes_any_way, in_pieces, IsPartedBy};
-ghost use Rattle.gm_cut.specs.Slices.{can_be_sliced};
 ghost use Rattle.gm_parting.specs.Apart.{with_statements_apart};
 ghost use Rattle.gm_parting.specs.Declared.{has_no_strangers, with_locals_declared};
 ghost use Rattle.gm_parting.specs.Filters.{with_saved_filters};
@@ -118,17 +117,10 @@ pub fn statements_stand_apart()
     ensures cut { (p : Program) → IsPartedBy goes_any_way p → IsPartedBy goes_any_way (with_statements_apart p) }
 {}
 
-/// Its inner loops go to slices then, where they may once their statements stand apart: the program means the same, for
-/// every graph, all arguments and every bound, and is ready for flipping.
+/// Its inner loops go to slices then, where each slice goes one way once their statements stand apart: order, sharing and
+/// what is needed need not be asked. The program means the same, for every graph, all arguments and every bound, and is
+/// ready for flipping.
 pub fn prepared_programs_are_dissected()
-    ensures same { (p : Program) → Ready2 p → MayBePrepared p → can_be_sliced (with_statements_apart (in_pieces (prepared p))) ≡ true → SameMeaning p (dissected p) }
-    ensures ready { (p : Program) → Ready2 p → MayBePrepared p → can_be_sliced (with_statements_apart (in_pieces (prepared p))) ≡ true → Ready3 (dissected p) }
-{}
-
-/// They may go to slices that evaluate only what they need, where each of these goes one way: order, sharing and what is
-/// needed need not be asked. The program means the same, for every graph, all arguments and every bound, and is ready for
-/// flipping.
-pub fn prepared_programs_go_to_lean_slices()
-    ensures same { (p : Program) → Ready2 p → MayBePrepared p → has_slices_that_go (with_statements_apart (in_pieces (prepared p))) ≡ true → SameMeaning p (in_lean_slices (with_statements_apart (in_pieces (prepared p)))) }
-    ensures ready { (p : Program) → Ready2 p → MayBePrepared p → has_slices_that_go (with_statements_apart (in_pieces (prepared p))) ≡ true → Ready3 (in_lean_slices (with_statements_apart (in_pieces (prepared p)))) }
+    ensures same { (p : Program) → Ready2 p → MayBePrepared p → has_slices_that_go (with_statements_apart (in_pieces (prepared p))) ≡ true → SameMeaning p (dissected p) }
+    ensures ready { (p : Program) → Ready2 p → MayBePrepared p → has_slices_that_go (with_statements_apart (in_pieces (prepared p))) ≡ true → Ready3 (dissected p) }
 {}

@@ -11,8 +11,8 @@ use Rattle.gm_bfs.specs.Levelled.{levelled}
 use Rattle.gm_dissect.specs.AllDeferred.{without_deferred}
 use Rattle.gm_dissect.specs.Conditions.{with_saved_conditions}
 use Rattle.gm_dissect.specs.Locals.{with_kept_locals}
+use Rattle.gm_cut.specs.Lean.{in_lean_slices}
 use Rattle.gm_cut.specs.Parts.{in_pieces}
-use Rattle.gm_cut.specs.Slices.{in_slices}
 use Rattle.gm_flip.specs.Flipped.{without_pulls}
 use Rattle.gm_parting.specs.Apart.{with_statements_apart}
 use Rattle.gm_parting.specs.Passes.{dissected, prepared}
@@ -121,10 +121,10 @@ pieces-shallow it tree p h e =
     let same : nesting r.body ≤ nesting q.body = ready-nest q in
     let ready : all_within 259 r.body ≡ true = ready-keep 259 q (omega arith) (both-add 257 p (omega arith) few) in
     let pieces : all_within 325 (in_pieces r).body ≡ true = pieces-add 259 65 r (omega arith) ready in
-    let slices : all_within 325 (in_slices (in_pieces r)).body ≡ true = slices-keep 325 (in_pieces r) (omega arith) pieces in
-    let pulls : all_within 326 (without_pulls (in_slices (in_pieces r))).body ≡ true = pulls-add 325 (in_slices (in_pieces r)) (omega arith) slices in (
+    let slices : all_within 325 (in_lean_slices (in_pieces r)).body ≡ true = slices-keep 325 (in_pieces r) (omega arith) pieces in
+    let pulls : all_within 326 (without_pulls (in_lean_slices (in_pieces r))).body ≡ true = pulls-add 325 (in_lean_slices (in_pieces r)) (omega arith) slices in (
       within-images 259 r (omega arith) ready,
-      (within-images 325 (in_pieces r) (omega arith) pieces, (within-images 325 (in_slices (in_pieces r)) (omega arith) slices, within-images 326 (without_pulls (in_slices (in_pieces r))) (omega arith) pulls)),
+      (within-images 325 (in_pieces r) (omega arith) pieces, (within-images 325 (in_lean_slices (in_pieces r)) (omega arith) slices, within-images 326 (without_pulls (in_lean_slices (in_pieces r))) (omega arith) pulls)),
     )
 
 -- ---- programs that are dissected

@@ -10,7 +10,7 @@ use Rattle.gm_ast.specs.declared.tree.Key.{Key}
 use Rattle.gm_ast.specs.declared.tree.Target.{Target}
 use Rattle.gm_ast.specs.declared.tree.Target.TheVariants as T
 use Rattle.gm_ast.specs.declared.tree.TotalKey.{TotalKey}
-use Rattle.gm_ast.specs.Program.{Expr, Var, Unary, Stmt, Skip, Then, Combine, Foreach, For, If, While, Do, Program}
+use Rattle.gm_ast.specs.Program.{Expr, Var, Unary, Stmt, Skip, Then, Combine, Foreach, For, If, While, Do, Program, sequence}
 use Rattle.gm_semantics.specs.Statements.{variable_at}
 use Rattle.gm_forms.specs.Cut.{is_own_loop}
 use Rattle.gm_loop_laws.specs.Localised.{moved_in, moved}
@@ -18,7 +18,7 @@ use Rattle.gm_dissect.specs.AllDeferred.{without_deferred}
 use Rattle.gm_dissect.specs.Conditions.{with_saved_conditions}
 use Rattle.gm_dissect.specs.Loops.{each_loop}
 use Rattle.gm_locals.specs.AllGroups.{group_of, groups_in, with_groups, with_groups_kept}
-use Rattle.gm_locals.specs.Groups.{locals_loop}
+use Rattle.gm_locals.specs.Groups.{locals_row, locals_loop}
 use Rattle.gm_cut.specs.Slices.{goes_one_way}
 use Rattle.gm_parting.specs.Apart.{under, apart, apart_loop, with_statements_apart}
 use Rattle.gm_parting.specs.Declared.{names_of, is_undeclared, declared_first, declared_loop, with_locals_declared}
@@ -223,22 +223,30 @@ nodes-nest p =
 -- ---- groups of locals
 
 module _ (ds : List Declaration) where
-  group-within : (n : ℕ) → 1 ≤ n → (xs : List ℕ) (q : ℕ) (k : Key) (at : Place) (hd : Head) (test : Expr) (body : Stmt) → Within n test → AllWithin n body → AllWithin n (locals_loop ds xs q k at hd test body)
-  group-within n one [] q k at hd test body h x = (h, x)
-  group-within n one (y ∷ ys) q k at hd test body h x =
+  row-within : (n : ℕ) → 1 ≤ n → (xs : List ℕ) (q : ℕ) (k : Key) (at : Place) (hd : Head) (test : Expr) (body : Stmt) → Within n test → AllWithin n body → AllWithin n (sequence (locals_row ds xs q k at hd test body))
+  row-within n one [] q k at hd test body h x = ((h, x), tt)
+  row-within n one (y ∷ ys) q k at hd test body h x =
       let i = hd.iterator in
       let zero = zero_of (variable_at ds y).vtype in
-      ((one, one), (group-within n one ys (suc q) k at hd (moved_in y q i at zero test) (moved y q i at zero body) (moved-within y q i at zero n one test h) (body-within y q i at zero n one body x), tt))
+      ((one, one), row-within n one ys (suc q) k at hd (moved_in y q i at zero test) (moved y q i at zero body) (moved-within y q i at zero n one test h) (body-within y q i at zero n one body x))
+
+  group-within : (n : ℕ) → 1 ≤ n → (xs : List ℕ) (q : ℕ) (k : Key) (at : Place) (hd : Head) (test : Expr) (body : Stmt) → Within n test → AllWithin n body → AllWithin n (locals_loop ds xs q k at hd test body)
+  group-within n one [] q k at hd test body h x = (h, x)
+  group-within n one (y ∷ ys) q k at hd test body h x = row-within n one (y ∷ ys) q k at hd test body h x
+
+  row-nests : (xs : List ℕ) (q : ℕ) (k : Key) (at : Place) (hd : Head) (test : Expr) (body : Stmt) → nesting (sequence (locals_row ds xs q k at hd test body)) ≤ body_nesting body
+  row-nests [] q k at hd test body = omega arith
+  row-nests (y ∷ ys) q k at hd test body =
+      let i = hd.iterator in
+      let zero = zero_of (variable_at ds y).vtype in
+      let rest = sequence (locals_row ds ys (suc q) k at hd (moved_in y q i at zero test) (moved y q i at zero body)) in
+      let u : nesting rest ≤ body_nesting (moved y q i at zero body) = row-nests ys (suc q) k at hd (moved_in y q i at zero test) (moved y q i at zero body) in
+      let v : body_nesting (moved y q i at zero body) ≤ body_nesting body = body-nests y q i at zero body in
+      omega arith
 
   group-nests : (xs : List ℕ) (q : ℕ) (k : Key) (at : Place) (hd : Head) (test : Expr) (body : Stmt) → nesting (locals_loop ds xs q k at hd test body) ≤ body_nesting body
   group-nests [] q k at hd test body = omega arith
-  group-nests (y ∷ ys) q k at hd test body =
-      let i = hd.iterator in
-      let zero = zero_of (variable_at ds y).vtype in
-      let rest = locals_loop ds ys (suc q) k at hd (moved_in y q i at zero test) (moved y q i at zero body) in
-      let u : nesting rest ≤ body_nesting (moved y q i at zero body) = group-nests ys (suc q) k at hd (moved_in y q i at zero test) (moved y q i at zero body) in
-      let v : body_nesting (moved y q i at zero body) ≤ body_nesting body = body-nests y q i at zero body in
-      omega arith
+  group-nests (y ∷ ys) q k at hd test body = row-nests (y ∷ ys) q k at hd test body
 
   groups-within : (n : ℕ) → 1 ≤ n → (q : ℕ) (s : Stmt) → AllWithin n s → AllWithin n (with_groups ds q s)
   groups-within n one q (Then a b) h = (groups-within n one q a h.0, groups-within n one (q + length (groups_in ds a)) b h.1)

@@ -21,8 +21,8 @@ use Rattle.gm_bfs.specs.Levelled.{levelled}
 use Rattle.gm_dissect.specs.AllDeferred.{without_deferred}
 use Rattle.gm_dissect.specs.Conditions.{with_saved_conditions}
 use Rattle.gm_dissect.specs.Locals.{with_kept_locals}
+use Rattle.gm_cut.specs.Lean.{in_lean_slices}
 use Rattle.gm_cut.specs.Parts.{in_pieces}
-use Rattle.gm_cut.specs.Slices.{in_slices}
 use Rattle.gm_flip.specs.Flipped.{without_pulls}
 use Rattle.gm_locals.specs.AllGroups.{with_groups_kept}
 use Rattle.gm_parting.specs.Apart.{with_statements_apart}
@@ -78,7 +78,7 @@ pub record CuttingAddsFewLevels : Type 0 where
   pub saved_conditions : KeepsLevels 1 with_saved_conditions
   pub kept_locals : KeepsLevels 1 with_kept_locals
   pub pieces : AddsLevelForEachIf in_pieces
-  pub slices : KeepsLevels 0 in_slices
+  pub slices : KeepsLevels 0 in_lean_slices
   pub pulls : AddsLevel 0 without_pulls
 
 -- those that prepare a program for pieces, and those behind
@@ -134,7 +134,7 @@ abbrev pub TextsStayShallowInPieces : Type 0
 TextsStayShallowInPieces =
     (it : Listing) (tree : SurfaceProcedure) (p : Program) → IsAcceptedTree it tree → (elaborated tree).part ≡ Some p →
     let pieces = in_pieces (ready_to_cut p) in
-    (is_shallow (ready_to_cut p) ≡ true) × ((is_shallow pieces ≡ true) × ((is_shallow (in_slices pieces) ≡ true) × (is_shallow (without_pulls (in_slices pieces)) ≡ true)))
+    (is_shallow (ready_to_cut p) ≡ true) × ((is_shallow pieces ≡ true) × ((is_shallow (in_lean_slices pieces) ≡ true) × (is_shallow (without_pulls (in_lean_slices pieces)) ≡ true)))
 
 -- it leaves one more, that of a node that is read first
 abbrev pub PreparedNestsOneMore : Type 0

@@ -1,0 +1,4 @@
+pub mod Parted
+pub mod Laws
+pub mod Parameters
+pub mod Kept

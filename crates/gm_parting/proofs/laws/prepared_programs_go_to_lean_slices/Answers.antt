@@ -1,8 +1,0 @@
-use Rattle.gm_parting.proofs.LeanPrograms.{lean-same, lean-ready}
-use Rattle.gm_parting.proofs.laws.prepared_programs_go_to_lean_slices.Goals as goal
-
-pub returns-clause-same : goal.returns-clause-same
-returns-clause-same c = lean-same
-
-pub returns-clause-ready : goal.returns-clause-ready
-returns-clause-ready c = lean-ready
