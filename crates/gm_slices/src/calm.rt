@@ -1,22 +1,48 @@
-//! What can fault in a body, within its inner loops too.
+//! What can fault in an expression, and in a body, within its inner loops too.
 
 ghost use Rattle.std.specs.Prelude.{◌≡◌, ◌∷◌, ◌||◌, not, IfOk, map};
 ghost use Rattle.std.specs.List.{list_all};
 ghost use Rattle.gm_ast.specs.Program.{sequence};
-ghost use Rattle.gm_ast.specs.Tree.{stmt_of};
+ghost use Rattle.gm_ast.specs.Tree.{expr_of, stmt_of};
 ghost use Rattle.gm_forms.specs.Cut as Cut;
+ghost use Rattle.gm_loop_laws.specs.Masks as Masks;
 
-use gm_ast::tree::{Head, Stmt, Target};
-use gm_facts::faults::{can_overflow, cannot_fail, none_fails};
+use gm_ast::tree::{Expr, Head, Stmt, Target};
+use gm_facts::faults::{can_fail1, can_fail2, can_overflow, cannot_fail, none_fails};
 use gm_trees::variables::is_in;
 use std::alloc::{AllocError, Global};
 
+/// Whether an expression cannot fault where some iterators hold nodes. It takes time linear in it.
+pub(crate) fn is_certain(iterators: &[u32], e: &Expr) -> bool
+    ensures { result ≡ Masks.is_certain iterators.now (expr_of e.now) }
+{
+    match e {
+        Expr::Const(_)
+        | Expr::Var { .. }
+        | Expr::EdgeProperty { .. }
+        | Expr::NodeCount
+        | Expr::EdgeCount => true,
+        Expr::Property { owner, .. } | Expr::Degree { owner, .. } => is_in(iterators, *owner),
+        Expr::Live { variable, .. } => is_in(iterators, *variable),
+        Expr::Unary { op, inner, .. } => !can_fail1(*op) && is_certain(iterators, inner),
+        Expr::Binary {
+            op,
+            left,
+            right,
+            ..
+        } => !can_fail2(*op) && (is_certain(iterators, left) && is_certain(iterators, right)),
+        Expr::Both(left, right) | Expr::Either(left, right) => {
+            is_certain(iterators, left) && is_certain(iterators, right)
+        }
+        Expr::Choose(test, yes, no) => {
+            is_certain(iterators, test) && (is_certain(iterators, yes) && is_certain(iterators, no))
+        }
+        Expr::Fold { .. } => false,
+    }
+}
+
 // Some variables, and one before them.
-pub(crate) fn with_front(
-    alloc: Global,
-    variable: u32,
-    variables: &[u32],
-) -> Result<Vec<u32>, AllocError>
+fn with_front(alloc: Global, variable: u32, variables: &[u32]) -> Result<Vec<u32>, AllocError>
     ensures { IfOk result (λ r. r.items ≡ variable ∷ variables.now) }
 {
     let mut list = Vec::new(alloc);

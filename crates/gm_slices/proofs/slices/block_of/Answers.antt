@@ -5,8 +5,4 @@ use Rattle.gm_dissect.proofs.Trees.{stmt_of-Block}
 use Rattle.gm_slices.proofs.slices.block_of.Goals as goal
 
 pub returns : goal.returns
-returns c =
-    stmt_of-Block c.in_ok-both.both
-    ∙ ap sequence
-    (c.in_ok-both.ensures
-    ∙ ap (λ l. l ++ map stmt_of c.args.behind.now.items) (c.in_ok-first.ensures ∙ ap (λ l. map stmt_of l ++ map stmt_of c.args.before.now.items) c.new.ensures.items))
+returns c = stmt_of-Block c.in_ok-copies.copies ∙ ap sequence (c.in_ok-copies.ensures ∙ ap (λ l. map stmt_of l ++ map stmt_of c.args.stmts.now.items) c.new.ensures.items)

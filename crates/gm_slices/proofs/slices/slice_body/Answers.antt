@@ -12,4 +12,4 @@ returns c =
     stmt_of-Block c.in_ok-loops.loops
     ∙ ap sequence
     (c.in_ok-loops.ensures
-    ∙ ap (loops_behind c.args.declarations.now (nest_of c.args.nest.now) true [] []) (c.in_ok-stmts.ensures ∙ ap (λ l. map stmt_of l ++ statements_of (stmt_of c.args.body)) c.new.ensures.items))
+    ∙ ap (loops_behind c.args.declarations.now (nest_of c.args.nest.now) true [] [] []) (c.in_ok-stmts.ensures ∙ ap (λ l. map stmt_of l ++ statements_of (stmt_of c.args.body)) c.new.ensures.items))
