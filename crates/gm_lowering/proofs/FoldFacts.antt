@@ -122,28 +122,28 @@ module _ (c : Layout) (its : List ℕ) (edge : Bool) (i j : ℕ) (loop : Loop) (
       subst (λ out. Left c its edge loop m home out (spots_in_all es k ++ reduce_spots false its (way_of c.declarations i (t ∷ ts)) k total (t ∷ ts))) (sym (does-fold k total r t ts es it x.0 a e))
       (fold-left-by total r (node_slots j (t ∷ ts)) (evaluated_all es (view_in loop m it k)).rest it (spots_in_all es k) (reduce_spots false its (way_of c.declarations i (t ∷ ts)) k total (t ∷ ts)) n h (all-within (view_in loop m it k) es a))
 
-  fold-gives-by : (all : List Spot) (total : TotalKey) (r : Reduce) (ss : List Slot) (answer : Result (List Value) Fault) (it : Iteration)
-      → ((vs : List Value) → IsReceived c j all (contribution total r (ss, vs))) → Gives (IsReceived c j all) it
-      → Gives (IsReceived c j all) (with_ok it (then_with answer (λ vs. Ok (ss, vs))) (λ p. gave_outermost it (contribution total r p)))
-  fold-gives-by all total r ss (Ok vs) it good h = record { outermost = λ x z. last it.with_outermost x h.outermost z; inner = h.inner } where
-    last : (xs : List Contribution) (x : Contribution) → ((y : Contribution) → IsIn y xs → IsReceived c j all y) → IsIn x (xs ++ contribution total r (ss, vs) ∷ []) → IsReceived c j all x
-    last [] x g z = ⊎_elim (λ (e : x ≡ contribution total r (ss, vs)). subst (IsReceived c j all) (sym e) (good vs)) (λ (w : ⊥). absurd w) z
+  fold-gives-by : (Good : Contribution → Type 0) (total : TotalKey) (r : Reduce) (ss : List Slot) (answer : Result (List Value) Fault) (it : Iteration)
+      → ((vs : List Value) → Good (contribution total r (ss, vs))) → Gives Good it
+      → Gives Good (with_ok it (then_with answer (λ vs. Ok (ss, vs))) (λ p. gave_outermost it (contribution total r p)))
+  fold-gives-by Good total r ss (Ok vs) it good h = record { outermost = λ x z. last it.with_outermost x h.outermost z; inner = h.inner } where
+    last : (xs : List Contribution) (x : Contribution) → ((y : Contribution) → IsIn y xs → Good y) → IsIn x (xs ++ contribution total r (ss, vs) ∷ []) → Good x
+    last [] x g z = ⊎_elim (λ (e : x ≡ contribution total r (ss, vs)). subst Good (sym e) (good vs)) (λ (w : ⊥). absurd w) z
     last (y ∷ xs) x g z = ⊎_elim (λ (e : x ≡ y). g x (inl e)) (λ (w : IsIn x (xs ++ contribution total r (ss, vs) ∷ [])). last xs x (λ a b. g a (inr b)) w) z
-  fold-gives-by all total r ss (Err f) it good h = record { outermost = h.outermost; inner = h.inner }
+  fold-gives-by Good total r ss (Err f) it good h = record { outermost = h.outermost; inner = h.inner }
 
-  pub fold-gives : (all : List Spot) (k : Key) (total : TotalKey) (r : Reduce) (ts : List Target) (es : List Expr) (it : Iteration) → folds_to c i (finds c its edge) r ts es ≡ true → HoldNodes loop.graph its home it
+  pub fold-gives : (all : List Spot) (Good : Contribution → Type 0) → ((y : Contribution) → IsReceived c j all y → Good y) → (k : Key) (total : TotalKey) (r : Reduce) (ts : List Target) (es : List Expr) (it : Iteration) → folds_to c i (finds c its edge) r ts es ≡ true → HoldNodes loop.graph its home it
       → node_in loop.graph (it.store.scalar i) ≡ Some j
       → ((f : Spot) → HasSpot f (reduce_spots false its (way_of c.declarations i ts) k total ts) → HasSpot f all)
-      → Gives (IsReceived c j all) it → Gives (IsReceived c j all) (does (S.Combine k total r ts es) m loop it)
-  fold-gives all k total r [] es it o n e z h = absurd (both_ways false refl o)
-  fold-gives all k total r (t ∷ ts) es it o n e z h =
+      → Gives Good it → Gives Good (does (S.Combine k total r ts es) m loop it)
+  fold-gives all Good of k total r [] es it o n e z h = absurd (both_ways false refl o)
+  fold-gives all Good of k total r (t ∷ ts) es it o n e z h =
       let x = both-true (are_kept c i (t ∷ ts)) (same_length (t ∷ ts) es && list_all (finds c its edge) es) o in
       let y = both-true (same_length (t ∷ ts) es) (list_all (finds c its edge) es) x.1 in
       let a = all-read c its edge loop m home it k es y.1 n in
       let spot : HasSpot (spot_of_total total) all = z (spot_of_total total) (subst (λ w. HasSpot (spot_of_total total) (reduce_spots false its w k total (t ∷ ts))) (sym (folds-way c i t ts x.0)) (inl refl)) in
-      subst (Gives (IsReceived c j all)) (sym (does-fold k total r t ts es it x.0 a e))
-      (fold-gives-by all total r (node_slots j (t ∷ ts)) (evaluated_all es (view_in loop m it k)).rest it
-      (λ vs. record { scalars = λ b. absurd (both_ways (are_of_scalars (node_slots j (t ∷ ts))) (not-scalars t ts x.0) b); nodes = λ b. kept-here c i j (t ∷ ts) x.0; not_empty = some-slots t ts x.0; spotted = spot }) h) where
+      subst (Gives Good) (sym (does-fold k total r t ts es it x.0 a e))
+      (fold-gives-by Good total r (node_slots j (t ∷ ts)) (evaluated_all es (view_in loop m it k)).rest it
+      (λ vs. of (contribution total r (node_slots j (t ∷ ts), vs)) (record { scalars = λ b. absurd (both_ways (are_of_scalars (node_slots j (t ∷ ts))) (not-scalars t ts x.0) b); nodes = λ b. kept-here c i j (t ∷ ts) x.0; not_empty = some-slots t ts x.0; spotted = spot })) h) where
         not-scalars : (t : Target) (ts : List Target) → are_kept c i (t ∷ ts) ≡ true → are_of_scalars (node_slots j (t ∷ ts)) ≡ false
         not-scalars (T.Property x p at) ts h = refl
         not-scalars (T.Scalar x at) ts h = absurd (both_ways false refl h)

@@ -26,9 +26,13 @@ pub mod InnerPicks
 pub mod Receivers
 pub mod Sends
 pub mod FoldFacts
+pub mod Handled
+pub mod TurnsLeft
 pub mod Receiving
 pub mod Regions
 pub mod MessageTurns
+pub mod Received
+pub mod Halves
 pub mod TwoSupersteps
 pub mod Shapes
 pub mod Ranks
@@ -47,7 +51,11 @@ pub mod Made
 pub mod TakingSteps
 pub mod SenderTurns
 pub mod SenderSteps
+pub mod Sendings
 pub mod OwnSends
 pub mod SenderSupersteps
 pub mod SendSteps
 pub mod OwnSendLoops
+pub mod ReceiverSends
+pub mod ReceiverSendSteps
+pub mod ReceiverSendLoops

@@ -1,7 +1,8 @@
 -- The turns of a message loop: what its first superstep sends, and what its iterations are by them.
-use Rattle.std.proofs.Common.{◌≡◌, ◌<◌, ◌≤◌, inl, inr, ℕ, zero, suc, Bool, true, false, Some, None, Result, Ok, Err, List, [], ◌∷◌, ◌++◌, length, map, refl, ap, ◌∙◌, sym, subst, arith, add-one, ⊎_elim, Option}
+use Rattle.std.proofs.Common.{◌≡◌, ◌<◌, ◌≤◌, inl, inr, ℕ, zero, suc, Bool, true, false, Option, Some, None, Result, Ok, Err, List, [], ◌∷◌, ◌++◌, length, map, refl, ap, ◌∙◌, sym, subst, arith, add-one, append_assoc, ⊎_elim}
 use Rattle.std.specs.Prelude.{◌+◌, ◌||◌, nat_lt, nat_eq, slice_index_or, if◌then◌else◌}
 use Rattle.std.specs.List.{list_all, flat_map, enumerate_from}
+use Rattle.std.proofs.Math.Path.{fun_ext}
 use Rattle.std.proofs.lemmas.List.{append-nil}
 use Rattle.std.proofs.lemmas.Bool.{both_ways, eq-eqb, eqb-true, ltb-true, cases_lt}
 use Rattle.gm_base.specs.declared.places.Place.{Place}
@@ -23,15 +24,16 @@ use Rattle.gm_forms.proofs.Named.{both-true}
 use Rattle.gm_semantics.specs.declared.faults.Fault.{Fault}
 use Rattle.gm_semantics.specs.declared.slots.Slot.TheVariants as slots
 use Rattle.gm_semantics.specs.Contributions as S
-use Rattle.gm_semantics.specs.Contributions.{total_faults}
-use Rattle.gm_semantics.specs.Faults.{least, somes, joined}
-use Rattle.gm_semantics.specs.Loops.{iteration}
+use Rattle.gm_semantics.specs.Contributions.{Contribution, total_faults, settled_store}
+use Rattle.gm_semantics.specs.Faults.{least, somes, joined, unless_fault}
+use Rattle.gm_semantics.specs.Loops.{iteration, left_at, own_left, parallel}
+use Rattle.gm_semantics.proofs.Leasts.{lesser_of, least-append}
 use Rattle.gm_semantics.proofs.TargetLaws.{value-away}
 use Rattle.gm_semantics.specs.Expressions.{value, steps_in, steps_of}
 use Rattle.gm_semantics.specs.Iterations.{Loop, Outermost, AtEdge, Iteration, begun, view_in, with_ok, one_way, as_it_is, inner_done, does}
-use Rattle.gm_semantics.specs.Levels.{node_in, numbers_from}
+use Rattle.gm_semantics.specs.Levels.{node_in, numbers_from, nodes}
 use Rattle.gm_semantics.specs.Statements.{variable_at}
-use Rattle.gm_semantics.specs.Stores.{Store, write}
+use Rattle.gm_semantics.specs.Stores.{Store, write, overlaid}
 use Rattle.gm_image.specs.Program as image
 use Rattle.gm_machine.specs.Expressions.{value as term_value, value_at}
 use Rattle.gm_machine.specs.Faults.{lesser, least_fault}
@@ -40,32 +42,29 @@ use Rattle.gm_machine.specs.Taking.{settled}
 use Rattle.gm_machine.specs.Vertex.{Message, After, view, steps, leaves, begun as begin, vertex_after}
 use Rattle.gm_machine.proofs.LeastLaws.{least_right, least_from-right}
 use Rattle.gm_machine.proofs.SlotSteps.{settled-nothing}
-use Rattle.gm_lowering.specs.Layouts.{Layout}
+use Rattle.gm_lowering.specs.Layouts.{Layout, is_register}
 use Rattle.gm_lowering.specs.Places.{Spot, Segment, segment, spots_in}
 use Rattle.gm_lowering.specs.Terms.{Env, own_env, term}
 use Rattle.gm_lowering.specs.Plans.{Load, SenderItself, SenderProperty, SenderDegree, EdgeValue, same_load}
 use Rattle.gm_lowering.specs.Blocks.{load_index, direction_of, receiver_env, own_site}
 use Rattle.gm_lowering.specs.Showing.{answer_of}
 use Rattle.gm_lowering.specs.OwnLoops.{own_finds, own_sets, own_gives, IsOwnLoop, NodeShows}
-use Rattle.gm_lowering.specs.MessageLoops.{has_load, load_value, IsMessageLoop, TurnsTyped}
+use Rattle.gm_lowering.specs.MessageLoops.{has_load, load_value}
 use Rattle.gm_lowering.specs.Sends.{send_block, load_at, message_along}
-use Rattle.gm_lowering.specs.Receiving.{receive_block, turn_of, given_by, faults_by, IsMessageOf, inner_spots}
-use Rattle.gm_lowering.specs.Phases.{GlobalsApart, NodesInGraph, EdgesShown, Shown, GivesApart, given_in}
-use Rattle.gm_lowering.specs.Settles.{HasSpot, HaveRoom}
-use Rattle.gm_lowering.specs.Sites.{OwnGave}
+use Rattle.gm_lowering.specs.Receiving.{turn_of, given_by, faults_by, IsMessageOf, inner_spots}
+use Rattle.gm_lowering.specs.Phases.{NodesInGraph, EdgesShown, Shown, given_in}
+use Rattle.gm_lowering.specs.Settles.{HasSpot}
+use Rattle.gm_lowering.specs.Sites.{OwnGave, IsApart}
 use Rattle.gm_lowering.specs.TwoSupersteps.{is_readable, StepsWithin, HasSender}
 use Rattle.gm_lowering.proofs.Bodies.{value-of}
 use Rattle.gm_lowering.proofs.Own.{Shows, own-giving}
 use Rattle.gm_lowering.proofs.OwnGives.{own-holds}
 use Rattle.gm_lowering.proofs.Givens.{node-in}
 use Rattle.gm_lowering.proofs.OwnSteps.{begins}
-use Rattle.gm_lowering.proofs.Receiving.{gave-of}
 use Rattle.gm_lowering.proofs.Regions.{in-front, in-back, in-parts}
 use Rattle.gm_lowering.proofs.Sends.{send-blocks-send}
 use Rattle.gm_lowering.proofs.Spots.{HoldNodes, Within, spot-right, reads, value-within}
 use Rattle.gm_lowering.proofs.TupleFacts.{no-spares}
-use Rattle.gm_typed_stores.specs.Tells.{TypeTable}
-use Rattle.gm_value.specs.declared.values.VType.{VType}
 
 same-load : (x y : Load) → same_load x y ≡ true → x ≡ y
 same-load SenderItself SenderItself h = refl
@@ -105,6 +104,10 @@ readable-one c (y ∷ ys) x o h =
       by true e k o go = ap (is_readable c) (same-load x y e) ∙ o
       by false e k o go = go k
 
+joined-both : {A : Type 0} (xs ys : List (ℕ × Step)) (f : ℕ × Step → List A) → joined (map f (xs ++ ys)) ≡ joined (map f xs) ++ joined (map f ys)
+joined-both [] ys f = refl
+joined-both (x ∷ xs) ys f = ap (λ l. f x ++ l) (joined-both xs ys f) ∙ sym (append_assoc (f x) (joined (map f xs)) (joined (map f ys)))
+
 map-map : {A B C : Type 0} (h : A → B) (f : B → C) (xs : List A) → map f (map h xs) ≡ map (λ x. f (h x)) xs
 map-map h f [] = refl
 map-map h f (x ∷ xs) = ap (λ l. f (h x) ∷ l) (map-map h f xs)
@@ -125,7 +128,6 @@ pub record MessageLoop : Type 0 where
   pub fields : ℕ
   pub base : ℕ
   pub q : ℕ
-  pub q2 : ℕ
   pub kind : ℕ
   pub all : List Spot
   pub loop : Loop
@@ -141,21 +143,16 @@ pub record MessageLoop : Type 0 where
   pub s : Nodes
   pub r : Store
   pub sender : HasSender c loop mask_key mask h loads
-  pub table : TypeTable
-  pub around : List ℕ
-  pub result : Option VType
-  pub able : IsMessageLoop c p.registers fields loop h.iterator loads test body
-  pub typed : TurnsTyped c table around result loop h.iterator body r
-  pub gs : GlobalsApart c (length globals)
+  pub rows : IsApart c (length p.registers) fields
+  pub outer : is_register (variable_at c.declarations loop.outer) ≡ false
+  pub types : (x : ℕ) → loop.vtype x ≡ (variable_at c.declarations x).vtype
+  pub depths : (x : ℕ) → loop.depth x ≡ (variable_at c.declarations x).depth
   pub all_is : all ≡ spots_in mask mask_key ++ inner_spots c loop.outer h.iterator key test body
-  pub fit : HaveRoom base all (length p.places)
   pub block : block_at p q ≡ send_block c (segment base all) loop.outer mask_key mask h.domain kind loads
-  pub block2 : block_at p q2 ≡ receive_block c (segment base all) loop.outer h.iterator loads kind key test body
   pub shown : Shown c p.registers fields loop.graph globals s r
   pub edges : EdgesShown c loop.graph r
   pub in_graph : NodesInGraph c loop.graph r
   pub within : StepsWithin loop.graph h.domain
-  pub apart : GivesApart (given_in loop mask_key mask (P.Foreach key place h test body) r)
 
 module _ (start_of : MessageLoop) where
   abbrev c : Layout
@@ -218,14 +215,8 @@ module _ (start_of : MessageLoop) where
   abbrev sender : HasSender c loop mask_key mask h loads
   sender = start_of.sender
 
-  abbrev able : IsMessageLoop c p.registers fields loop h.iterator loads test body
-  able = start_of.able
-
   abbrev all_is : all ≡ spots_in mask mask_key ++ inner_spots c loop.outer h.iterator key test body
   all_is = start_of.all_is
-
-  abbrev fit : HaveRoom base all (length p.places)
-  fit = start_of.fit
 
   abbrev block : block_at p q ≡ send_block c (segment base all) loop.outer mask_key mask h.domain kind loads
   block = start_of.block
@@ -241,9 +232,6 @@ module _ (start_of : MessageLoop) where
 
   abbrev within : StepsWithin loop.graph h.domain
   within = start_of.within
-
-  abbrev apart : GivesApart (given_in loop mask_key mask (P.Foreach key place h test body) r)
-  apart = start_of.apart
 
   abbrev pub n : ℕ
   n = loop.outer
@@ -318,13 +306,13 @@ module _ (start_of : MessageLoop) where
 
   -- the outer loop as one of its mask alone
   only-mask : IsOwnLoop c p.registers fields loop mask P.Skip
-  only-mask = record { apart = able.apart; iterator = able.outer; types = able.types; depths = able.depths; found = sender.found; fits = refl; spares = no-spares c (length p.registers) }
+  only-mask = record { apart = start_of.rows; iterator = start_of.outer; types = start_of.types; depths = start_of.depths; found = sender.found; fits = refl; spares = no-spares c (length p.registers) }
 
   mask-term : (k : ℕ) → k < node_count g → (z : Value) → mask_value k ≡ Ok z → term_value (view (context_at g globals k) (begin p.registers (fields_at k))) (term (own_env c seg n) mask_key mask) ≡ Ok z
   mask-term k lt z e =
-      value-of (own_site c seg n) loop Outermost (context_at g globals k) _ (Shows c seg loop k (length p.registers) fields (length p.places) (context_at g globals k) able.apart able.outer able.types able.depths (λ it' w'. OwnGave c (own_env c seg n) it' w') (own-giving c (own_env c seg n)))
+      value-of (own_site c seg n) loop Outermost (context_at g globals k) _ (Shows c seg loop k (length p.registers) fields (length p.places) (context_at g globals k) start_of.rows start_of.outer start_of.types start_of.depths (λ it' w'. OwnGave c (own_env c seg n) it' w') (own-giving c (own_env c seg n)))
       (OwnGave c (own_env c seg n)) (own_finds c n) (own_sets c n) (own_gives c n (own_finds c n))
-      (own-holds c seg loop k (length p.registers) fields (length p.places) (context_at g globals k) able.apart able.outer able.types able.depths (λ it' w'. OwnGave c (own_env c seg n) it' w') (own-giving c (own_env c seg n)) (record { limit = 0; declarations = []; inputs = 0 }) [] None)
+      (own-holds c seg loop k (length p.registers) fields (length p.places) (context_at g globals k) start_of.rows start_of.outer start_of.types start_of.depths (λ it' w'. OwnGave c (own_env c seg n) it' w') (own-giving c (own_env c seg n)) (record { limit = 0; declarations = []; inputs = 0 }) [] None)
       (start k) (begin p.registers (fields_at k)) mask_key mask sender.found
       (begins c seg p fields loop 0 mask_key mask P.Skip globals (fields_at k) k r only-mask (node-shows k lt))
       ∙ ap (answer_of (own_env c seg n)) e
@@ -476,12 +464,6 @@ module _ (start_of : MessageLoop) where
   pub incl : (f : Spot) → HasSpot f (inner_spots c n i key test body) → HasSpot f all
   incl f o = subst (HasSpot f) (sym all_is) (spot-right f (spots_in mask mask_key) (inner_spots c n i key test body) o)
 
-  turn-gave : (x : ℕ × Step) → IsIn x all_turns → ((turn x).with_inner ≡ []) × ((turn x).deferred ≡ [])
-  turn-gave x o =
-      let t = turn-inside x o in
-      let q = gave-of c p fields base all loop i loads kind key test body globals (fields_at x.1.node) x.1.node r msg start_of.table start_of.around start_of.result able start_of.typed incl fit (node-shows x.1.node t.1) x (message-of x.1.node x o refl) in
-      (q.inner, q.deferred)
-
   -- the outer iteration
   abbrev pub inner : Stmt
   inner = P.Foreach key place h test body
@@ -506,29 +488,6 @@ module _ (start_of : MessageLoop) where
     pub node : (y m : ℕ) → a.store.node y m ≡ r.node y m
     pub deferred : a.deferred ≡ []
 
-  inner-none : (xs : List (ℕ × Step)) → ((x : ℕ × Step) → IsIn x xs → IsIn x all_turns) → joined (map (λ x. (turn x).with_inner) xs) ≡ []
-  inner-none [] o = refl
-  inner-none (x ∷ xs) o = ap (λ l. l ++ joined (map (λ x. (turn x).with_inner) xs)) (turn-gave x (o x (inl refl))).0 ∙ inner-none xs (λ y w. o y (inr w))
-
-  done-is : (k : ℕ) (es : List Step) → ((x : ℕ × Step) → IsIn x (map (λ e. (k, e)) es) → IsIn x all_turns) → masked k ≡ true → es ≡ along k
-      → IterationIs k (inner_done (start k) (map (λ e. turn (k, e)) es))
-  done-is k es o mk same =
-      let turns = map (λ e. turn (k, e)) es in
-      let pairs = map (λ e. (k, e)) es in
-      let none : joined (map (λ t. t.with_inner) turns) ≡ [] =
-      ap joined (map-map (λ e. turn (k, e)) (λ t. t.with_inner) es ∙ sym (map-map (λ e. (k, e)) (λ x. (turn x).with_inner) es)) ∙ inner-none pairs o in
-      let pairs_are : pairs ≡ turns_of k = ap (map (λ e. (k, e))) same ∙ sym (ap (λ b. if b then map (λ e. (k, e)) (along k) else []) mk) in
-      record {
-        given = ap joined (map-map (λ e. turn (k, e)) (λ t. t.with_outermost) es ∙ sym (map-map (λ e. (k, e)) (λ x. (turn x).with_outermost) es)) ∙ ap (given_by turn) pairs_are;
-        fault =
-            ap (λ l. least (somes (map (λ t. t.fault) turns) ++ total_faults (from k) l)) none
-            ∙ ap least (append-nil (somes (map (λ t. t.fault) turns)))
-            ∙ ap (λ l. least (somes l)) (map-map (λ e. turn (k, e)) (λ t. t.fault) es ∙ sym (map-map (λ e. (k, e)) (λ x. (turn x).fault) es))
-            ∙ ap (λ xs. least (faults_by turn xs)) pairs_are;
-        node = λ y m. ap (λ l. S.value_after (from k) l (slots.Node y m)) none ∙ value-away (from k) (slots.Node y m) [] (λ x w. absurd w);
-        deferred = refl;
-      }
-
   in-all : (k : ℕ) (x : ℕ × Step) → k < node_count g → IsIn x (turns_of k) → IsIn x all_turns
   in-all k x lt o = go 0 (node_count g) (omega arith) (omega arith) where
     go : (a m : ℕ) → a ≤ k → k < a + m → IsIn x (turns_from a m)
@@ -539,19 +498,108 @@ module _ (start_of : MessageLoop) where
         (λ (more : k ≤ a). let same : k ≡ a = omega arith in in-front x (turns_of a) (turns_from (suc a) m) (subst (λ z. IsIn x (turns_of z)) same o))
         (cases_lt a k)
 
-  pub iteration-is : (k : ℕ) → k < node_count g → IterationIs k (it k)
-  iteration-is k lt = by (mask-is k lt) where
-    by : (z : Value) × (mask_value k ≡ Ok z) → IterationIs k (it k)
-    by z =
-        subst (λ a. IterationIs k (with_ok (start k) a (λ y. one_way (is_true y) (does inner Outermost loop) as_it_is (start k)))) (sym z.1)
-        (way (is_true z.0) (ap truth z.1)) where
-          way : (b : Bool) → masked k ≡ b → IterationIs k (one_way b (does inner Outermost loop) as_it_is (start k))
-          way true e =
-              subst (λ es. IterationIs k (inner_done (start k) (map (λ e. turn (k, e)) es))) (sym (steps-are k lt))
-              (done-is k (along k) (λ x o. in-all k x lt (subst (IsIn x) (sym (ap (λ b. if b then map (λ e. (k, e)) (along k) else []) e)) o)) e refl)
-          way false e = record {
-            given = sym (ap (λ b. given_by turn (if b then map (λ e. (k, e)) (along k) else [])) e);
-            fault = sym (ap (λ b. least (faults_by turn (if b then map (λ e. (k, e)) (along k) else []))) e);
-            node = λ y m. refl;
-            deferred = refl;
-          }
+  abbrev pub its : List Iteration
+  its = map it (nodes g)
+
+  -- where turns give nothing to their inner loops and defer nothing
+  module _ (turn-gave : (x : ℕ × Step) → IsIn x (all_turns) → ((turn x).with_inner ≡ []) × ((turn x).deferred ≡ [])) where
+    inner-none : (xs : List (ℕ × Step)) → ((x : ℕ × Step) → IsIn x xs → IsIn x all_turns) → joined (map (λ x. (turn x).with_inner) xs) ≡ []
+    inner-none [] o = refl
+    inner-none (x ∷ xs) o = ap (λ l. l ++ joined (map (λ x. (turn x).with_inner) xs)) (turn-gave x (o x (inl refl))).0 ∙ inner-none xs (λ y w. o y (inr w))
+
+    done-is : (k : ℕ) (es : List Step) → ((x : ℕ × Step) → IsIn x (map (λ e. (k, e)) es) → IsIn x all_turns) → masked k ≡ true → es ≡ along k
+        → IterationIs k (inner_done (start k) (map (λ e. turn (k, e)) es))
+    done-is k es o mk same =
+        let turns = map (λ e. turn (k, e)) es in
+        let pairs = map (λ e. (k, e)) es in
+        let none : joined (map (λ t. t.with_inner) turns) ≡ [] =
+        ap joined (map-map (λ e. turn (k, e)) (λ t. t.with_inner) es ∙ sym (map-map (λ e. (k, e)) (λ x. (turn x).with_inner) es)) ∙ inner-none pairs o in
+        let pairs_are : pairs ≡ turns_of k = ap (map (λ e. (k, e))) same ∙ sym (ap (λ b. if b then map (λ e. (k, e)) (along k) else []) mk) in
+        record {
+          given = ap joined (map-map (λ e. turn (k, e)) (λ t. t.with_outermost) es ∙ sym (map-map (λ e. (k, e)) (λ x. (turn x).with_outermost) es)) ∙ ap (given_by turn) pairs_are;
+          fault =
+              ap (λ l. least (somes (map (λ t. t.fault) turns) ++ total_faults (from k) l)) none
+              ∙ ap least (append-nil (somes (map (λ t. t.fault) turns)))
+              ∙ ap (λ l. least (somes l)) (map-map (λ e. turn (k, e)) (λ t. t.fault) es ∙ sym (map-map (λ e. (k, e)) (λ x. (turn x).fault) es))
+              ∙ ap (λ xs. least (faults_by turn xs)) pairs_are;
+          node = λ y m. ap (λ l. S.value_after (from k) l (slots.Node y m)) none ∙ value-away (from k) (slots.Node y m) [] (λ x w. absurd w);
+          deferred = refl;
+        }
+
+    pub iteration-is : (k : ℕ) → k < node_count g → IterationIs k (it k)
+    iteration-is k lt = by (mask-is k lt) where
+      by : (z : Value) × (mask_value k ≡ Ok z) → IterationIs k (it k)
+      by z =
+          subst (λ a. IterationIs k (with_ok (start k) a (λ y. one_way (is_true y) (does inner Outermost loop) as_it_is (start k)))) (sym z.1)
+          (way (is_true z.0) (ap truth z.1)) where
+            way : (b : Bool) → masked k ≡ b → IterationIs k (one_way b (does inner Outermost loop) as_it_is (start k))
+            way true e =
+                subst (λ es. IterationIs k (inner_done (start k) (map (λ e. turn (k, e)) es))) (sym (steps-are k lt))
+                (done-is k (along k) (λ x o. in-all k x lt (subst (IsIn x) (sym (ap (λ b. if b then map (λ e. (k, e)) (along k) else []) e)) o)) e refl)
+            way false e = record {
+              given = sym (ap (λ b. given_by turn (if b then map (λ e. (k, e)) (along k) else [])) e);
+              fault = sym (ap (λ b. least (faults_by turn (if b then map (λ e. (k, e)) (along k) else []))) e);
+              node = λ y m. refl;
+              deferred = refl;
+            }
+
+    given-from : (a m : ℕ) → a + m ≤ node_count g → joined (map (λ x. x.with_outermost) (map it (numbers_from a m))) ≡ given_by turn (turns_from a m)
+    given-from a zero le = refl
+    given-from a (suc m) le =
+        ap (λ l. l ++ joined (map (λ x. x.with_outermost) (map it (numbers_from (suc a) m)))) (iteration-is a (omega arith)).given
+        ∙ ap (λ l. given_by turn (turns_of a) ++ l) (given-from (suc a) m (omega arith))
+        ∙ sym (joined-both (turns_of a) (turns_from (suc a) m) (λ x. (turn x).with_outermost))
+
+    deferred-from : (a m : ℕ) → a + m ≤ node_count g → joined (map (λ x. x.deferred) (map it (numbers_from a m))) ≡ []
+    deferred-from a zero le = refl
+    deferred-from a (suc m) le =
+        ap (λ l. l ++ joined (map (λ x. x.deferred) (map it (numbers_from (suc a) m)))) (iteration-is a (omega arith)).deferred ∙ deferred-from (suc a) m (omega arith)
+
+    somes-both : (xs ys : List (Option Fault)) → somes (xs ++ ys) ≡ somes xs ++ somes ys
+    somes-both [] ys = refl
+    somes-both (None ∷ xs) ys = somes-both xs ys
+    somes-both (Some f ∷ xs) ys = ap (λ l. f ∷ l) (somes-both xs ys)
+
+    faults-both : (xs ys : List (ℕ × Step)) → faults_by turn (xs ++ ys) ≡ faults_by turn xs ++ faults_by turn ys
+    faults-both xs ys = ap somes (map-both (λ x. (turn x).fault) xs ys) ∙ somes-both (map (λ x. (turn x).fault) xs) (map (λ x. (turn x).fault) ys)
+
+    faults-from : (a m : ℕ) → a + m ≤ node_count g → least (somes (map (λ x. x.fault) (map it (numbers_from a m)))) ≡ least (faults_by turn (turns_from a m))
+    faults-from a zero le = refl
+    faults-from a (suc m) le =
+        ap (λ o. least (somes (o ∷ map (λ x. x.fault) (map it (numbers_from (suc a) m))))) (iteration-is a (omega arith)).fault
+        ∙ one (least (faults_by turn (turns_of a))) (map (λ x. x.fault) (map it (numbers_from (suc a) m)))
+        ∙ ap (lesser_of (least (faults_by turn (turns_of a)))) (faults-from (suc a) m (omega arith))
+        ∙ sym (least-append (faults_by turn (turns_of a)) (faults_by turn (turns_from (suc a) m)))
+        ∙ ap least (sym (faults-both (turns_of a) (turns_from (suc a) m))) where
+          one : (o : Option Fault) (os : List (Option Fault)) → least (somes (o ∷ os)) ≡ lesser_of o (least (somes os))
+          one None os = refl
+          one (Some f) os = refl
+
+    -- the store between the own writes and the contributions is the first one
+    left-same : (a m y k : ℕ) → a + m ≤ node_count g → left_at (numbers_from a m) (map it (numbers_from a m)) r y k ≡ r.node y k
+    left-same a zero y k le = refl
+    left-same a (suc m) y k le = by (nat_eq a k) ((iteration-is a (omega arith)).node y k) (left-same (suc a) m y k (omega arith)) where
+      by : (b : Bool) {x z : Value} → x ≡ r.node y k → z ≡ r.node y k → (if b then x else z) ≡ r.node y k
+      by true e f = e
+      by false e f = f
+
+    own-is : own_left r (nodes g) its ≡ r
+    own-is = ap (λ f. record r { node = f }) (fun_ext (λ y. fun_ext (λ k. left-same 0 (node_count g) y k (omega arith))))
+
+    pub given-is : given_in loop mask_key mask inner r ≡ given_by turn all_turns
+    given-is = given-from 0 (node_count g) (omega arith)
+
+    abbrev meant_faults : List Fault
+    meant_faults = somes (map (λ x. x.fault) its) ++ total_faults r (given_by turn all_turns)
+
+    pub faults-are : least (somes (map (λ x. x.fault) its)) ≡ least (faults_by turn all_turns)
+    faults-are = faults-from 0 (node_count g) (omega arith)
+
+    -- the loop, on the first store
+    pub loop-is : parallel loop mask_key mask inner (nodes g) r ≡ unless_fault (least meant_faults) (Ok (settled_store r (given_by turn all_turns)))
+    loop-is =
+        ap (λ st. unless_fault (least (somes (map (λ x. x.fault) its) ++ total_faults st given_all)) (Ok (overlaid (settled_store st given_all) (joined (map (λ x. x.deferred) its))))) own-is
+        ∙ ap (λ cs. unless_fault (least (somes (map (λ x. x.fault) its) ++ total_faults r cs)) (Ok (overlaid (settled_store r cs) (joined (map (λ x. x.deferred) its))))) given-is
+        ∙ ap (λ ds. unless_fault (least meant_faults) (Ok (overlaid (settled_store r (given_by turn all_turns)) ds))) (deferred-from 0 (node_count g) (omega arith)) where
+          given_all : List Contribution
+          given_all = given_in loop mask_key mask inner r

@@ -15,7 +15,7 @@ use Rattle.gm_image.specs.Soundness.{is_sound}
 use Rattle.gm_machine.specs.Machine.{machine}
 use Rattle.gm_lowering.specs.Lowered.{lowered}
 use Rattle.gm_lowering.proofs.Samples.{graph, edge, ints, at}
-use Rattle.gm_lowering.proofs.MoreSamples.{home, random, picks, folds, bounds, caps, pairs, tops, gifts, turns}
+use Rattle.gm_lowering.proofs.MoreSamples.{home, random, picks, folds, bounds, caps, pairs, tops, gifts, marks, turns}
 
 abbrev facts : Program → List Bool
 facts p = is_flipped p ∷ is_named p ∷ has_types p ∷ is_ordered p ∷ is_race_free p ∷ is_sound (lowered p) ∷ []
@@ -49,6 +49,9 @@ tops_facts = refl
 
 gifts_facts : facts gifts ≡ all_hold
 gifts_facts = refl
+
+marks_facts : facts marks ≡ all_hold
+marks_facts = refl
 
 turns_facts : facts turns ≡ all_hold
 turns_facts = refl
@@ -105,6 +108,9 @@ gifts_mean = refl
 gifts_run : (machine (lowered gifts) square (At (Some 3) ∷ []) 9).outcome ≡ Done [] (Some (I32 (pos 0))) (ints (0 ∷ 13 ∷ 13 ∷ 23 ∷ []) ∷ ints (0 ∷ 0 ∷ 0 ∷ 0 ∷ []) ∷ []) 0
 gifts_run = refl
 
+marks_run : (machine (lowered marks) square (At (Some 3) ∷ []) 9).outcome ≡ mean marks square (At (Some 3) ∷ []) 9
+marks_run = refl
+
 turns_run : (machine (lowered turns) square (At (Some 3) ∷ []) 20).outcome ≡ mean turns square (At (Some 3) ∷ []) 20
 turns_run = refl
 
@@ -114,6 +120,13 @@ random_fault = refl
 
 random_fault_run : (machine (lowered random) square (At None ∷ []) 9).outcome ≡ mean random square (At None ∷ []) 9
 random_fault_run = refl
+
+-- and so it does at the receiver of a message
+marks_fault : mean marks square (At None ∷ []) 9 ≡ Fault NilNode (at 0 0)
+marks_fault = refl
+
+marks_fault_run : (machine (lowered marks) square (At None ∷ []) 9).outcome ≡ mean marks square (At None ∷ []) 9
+marks_fault_run = refl
 
 -- a node that the filter of the For does not pass takes its turn alone
 turns_skip : (machine (lowered turns) square (At (Some 1) ∷ []) 20).outcome ≡ mean turns square (At (Some 1) ∷ []) 20

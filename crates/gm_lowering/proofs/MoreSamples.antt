@@ -10,7 +10,7 @@ use Rattle.gm_ast.specs.declared.tree.Sort.TheVariants as Sorts
 use Rattle.gm_ast.specs.Program.{always, Unary, Binary, Choose, Stmt, Skip, Declare, Assign, Combine, Foreach, For, If, Do, Return, Program, sequence}
 use Rattle.gm_lowering.proofs.Samples.{declared, at, key, total, over, nodes, reduces, property, variable, scalar, to_property, int}
 
--- the variables: the graph; properties v, a, b, p; scalars r, s, k, f; iterators n, t; locals q, x, z of an outer and y of an inner body; the iterator c of a For
+-- the variables: the graph; properties v, a, b, p; scalars r, s, k, f; iterators n, t; locals q, x, z of an outer and y, w, u of an inner body; the iterator c of a For
 abbrev table : List Declaration
 table =
     declared (codes "G") Sorts.Graph V.Node 0
@@ -30,6 +30,7 @@ table =
     ∷ declared (codes "x") Sorts.Scalar V.I32 1
     ∷ declared (codes "z") Sorts.Scalar V.I64 1
     ∷ declared (codes "w") Sorts.Scalar V.I32 2
+    ∷ declared (codes "u") Sorts.Scalar V.Node 2
     ∷ []
 
 abbrev program : List Stmt → Program
@@ -172,6 +173,21 @@ gifts = program (
     ∷ reduces 7 (at 1 7) reduce.Sum (to_property 10 3) (Binary two.Add (at 1 8) (variable 16) (variable 12))
     ∷ [])))
     ∷ Return (key 8) (at 1 9) (Some (int 0))
+    ∷ [])
+
+-- Foreach (n: G.Nodes) { n.p = n.v > 3 ? r : n; } Foreach (n: G.Nodes) { Foreach (t: n.InNbrs) (t.v < n.v + 3) { Node u = t.p; t.a += n.v; s max= t.v; u.b += n.v + t.v; } } Return s;
+abbrev pub marks : Program
+marks = program (
+    Declare (key 1) 5 None
+    ∷ nodes 2 9 always (Assign (key 3) (to_property 9 7) (Choose (Binary two.Gt (at 1 1) (property 9 1) (int 3)) (variable 2) (variable 9)) ∷ [])
+    ∷ Foreach (key 4) (at 1 2) (over 9 Nodes 0) always (
+    Foreach (key 5) (at 1 3) (over 10 InNbrs 9) (Binary two.Lt (at 1 4) (property 10 1) (Binary two.Add (at 1 5) (property 9 1) (int 3))) (sequence (
+    Declare (key 6) 17 (Some (property 10 7))
+    ∷ reduces 7 (at 1 6) reduce.Sum (to_property 10 3) (property 9 1)
+    ∷ reduces 8 (at 1 7) reduce.Max (scalar 5) (property 10 1)
+    ∷ reduces 9 (at 1 8) reduce.Sum (to_property 17 4) (Binary two.Add (at 1 9) (property 9 1) (property 10 1))
+    ∷ [])))
+    ∷ Return (key 10) (at 1 10) (Some (variable 5))
     ∷ [])
 
 -- For (c: G.Nodes) (c != r) { k = k + 1; If (k > 2) { Return s; } Else { s = s + k; } Do { s = s * 2; f = s < 10; } While (f); } <s; k> min= <k; s>; If (s < 3) { s = 7; } Return s;

@@ -1,9 +1,8 @@
 -- Two supersteps are an own loop that sends through node variables.
-use Rattle.std.proofs.Common.{◌≡◌, ◌<◌, ◌≤◌, inl, inr, ℕ, Bool, true, false, Option, Some, None, Result, Ok, Err, List, [], ◌∷◌, ◌++◌, length, map, refl, ap, ◌∙◌, sym, subst, ⊎_elim}
+use Rattle.std.proofs.Common.{◌≡◌, ◌<◌, ◌≤◌, ℕ, Bool, true, false, Option, Some, None, Result, Ok, Err, List, [], ◌∷◌, ◌++◌, length, map, refl, ap, ◌∙◌, sym, subst}
 use Rattle.std.specs.Prelude.{◌&&◌, ◌||◌, not, nat_eq, if◌then◌else◌, slice_index_or, filter}
 use Rattle.std.specs.List.{list_all}
 use Rattle.std.proofs.lemmas.Bool.{both_ways, eq-eqb, eqb-true, not-true}
-use Rattle.gm_base.specs.declared.places.Place.{Place}
 use Rattle.gm_value.specs.declared.values.VType.{VType}
 use Rattle.gm_value.specs.declared.values.Value.{Value}
 use Rattle.gm_value.specs.declared.values.Value.TheVariants.{At}
@@ -22,10 +21,10 @@ use Rattle.gm_forms.proofs.Named.{both-true}
 use Rattle.gm_semantics.specs.declared.faults.Fault.{Fault}
 use Rattle.gm_semantics.specs.declared.slots.Slot.TheVariants as slots
 use Rattle.gm_semantics.specs.Contributions.{Contribution, total_faults}
-use Rattle.gm_semantics.specs.Expressions.{View, value, evaluated_all}
+use Rattle.gm_semantics.specs.Expressions.{value}
 use Rattle.gm_semantics.specs.Faults.{somes}
-use Rattle.gm_semantics.specs.Iterations.{Loop, Outermost, Iteration, begun, view_in, with_ok, one_way, as_it_is, contribution, does}
-use Rattle.gm_semantics.specs.Levels.{nodes, node_in}
+use Rattle.gm_semantics.specs.Iterations.{Loop, Outermost, Iteration, begun, view_in, with_ok, one_way, as_it_is, does}
+use Rattle.gm_semantics.specs.Levels.{nodes}
 use Rattle.gm_semantics.specs.Loops.{iteration, own_left, parallel}
 use Rattle.gm_semantics.specs.Statements.{variable_at}
 use Rattle.gm_semantics.specs.Stores.{Store, write}
@@ -34,11 +33,11 @@ use Rattle.gm_image.specs.Program as image
 use Rattle.gm_machine.specs.Machine.{Nodes, context_at, block_at, superstep}
 use Rattle.gm_machine.specs.Vertex.{After, vertex_after}
 use Rattle.gm_lowering.specs.Layouts.{Layout, is_register}
-use Rattle.gm_lowering.specs.Places.{Spot, Segment, segment, spots_in, spots_in_all, spot_at, spot_of_total}
+use Rattle.gm_lowering.specs.Places.{Spot, Segment, segment, spots_in, spots_in_all, spot_at}
 use Rattle.gm_lowering.specs.Terms.{Env, own_env}
 use Rattle.gm_lowering.specs.Plans.{Away, aways, way_of, is_property_of}
-use Rattle.gm_lowering.specs.Bodies.{spots_of, reduce_spots, target_spots}
-use Rattle.gm_lowering.specs.Sites.{same_length, is_body}
+use Rattle.gm_lowering.specs.Bodies.{spots_of, reduce_spots}
+use Rattle.gm_lowering.specs.Sites.{is_body, are_of_scalars}
 use Rattle.gm_lowering.specs.OwnLoops.{own_finds, own_sets, own_gives, fold_spots, HaveIndices, own_block, AreTyped, NodeShows}
 use Rattle.gm_lowering.specs.MessageLoops.{is_to_scalars, is_to_nodes}
 use Rattle.gm_lowering.specs.SenderSteps.{AreSent}
@@ -46,19 +45,19 @@ use Rattle.gm_lowering.specs.Phases.{GlobalsApart, NodesInGraph, Shown, GivesApa
 use Rattle.gm_lowering.specs.Settles.{HasSpot, spot_of_fault, HaveRoom}
 use Rattle.gm_lowering.specs.TakingSteps.{taking_block, IsTaken}
 use Rattle.gm_lowering.specs.SenderLoops.{TotalsLast, TwoStepsAre}
-use Rattle.gm_lowering.specs.OwnSends.{is_declared_scalar, sends_through, sending_gives, IsSendingOwnLoop, OwnSends}
+use Rattle.gm_lowering.specs.OwnSends.{sends_through, sending_gives, IsSendingOwnLoop, OwnSends}
 use Rattle.gm_lowering.specs.OwnSendLoops.{SendingOwnLoopsAreTwoSupersteps}
-use Rattle.gm_lowering.proofs.Givens.{node_slots, are_kept}
+use Rattle.gm_lowering.proofs.Givens.{node_slots}
 use Rattle.gm_lowering.proofs.Kept.{Gives, body-gives}
 use Rattle.gm_lowering.proofs.Orders.{index-within}
 use Rattle.gm_lowering.proofs.OwnFacts.{own-left, own-puts-at, own-fold-spotted, folds-spotted-by}
-use Rattle.gm_lowering.proofs.OwnSends.{out_of, does-send, sending-own-steps}
+use Rattle.gm_lowering.proofs.OwnSends.{sending-own-steps}
 use Rattle.gm_lowering.proofs.Picks.{parts-are}
 use Rattle.gm_lowering.proofs.PutFacts.{IsPut}
 use Rattle.gm_lowering.proofs.Receiving.{or-cases}
-use Rattle.gm_lowering.proofs.SenderTurns.{sends-way}
+use Rattle.gm_lowering.proofs.Sendings.{off-one, sent-of-nodes, send-left, send-gives}
 use Rattle.gm_lowering.proofs.SendSteps.{two-steps, either-spotted, sent-is}
-use Rattle.gm_lowering.proofs.Spots.{Has, HoldNodes, Left, Within, spot-left, spot-right, has-right, reads, all-read, all-within, all-hoist_nothing, value-within, body-left}
+use Rattle.gm_lowering.proofs.Spots.{Has, HoldNodes, Left, Within, spot-left, spot-right, has-right, reads, value-within, body-left}
 
 module _ (c : Layout) (p : image.Program) (fields base q kind : ℕ) (loop : Loop) (key : Key) (test : Expr) (body : Stmt) (globals : List Value) (s : Nodes) (r : Store) (table : TypeTable) (around : List ℕ) (result : Option VType)
     (able : IsSendingOwnLoop c p.registers fields loop test body)
@@ -101,12 +100,12 @@ module _ (c : Layout) (p : image.Program) (fields base q kind : ℕ) (loop : Loo
   -- what sends has no fold
   one-spotted : (k : Key) (total : TotalKey) (r' : Reduce) (ts : List Target) (es : List Expr) → sending_gives c n (own_finds c n) r' ts es ≡ true → (z : Spot)
       → HasSpot z (fold_spots c n (S.Combine k total r' ts es)) → HasSpot z (spots_of c n (n ∷ []) true (S.Combine k total r' ts es))
-  one-spotted k total r' ts es o z h = or-cases (own_gives c n (own_finds c n) r' ts es) (sends_through c n (own_finds c n) r' ts es) o (λ i. own-fold-spotted c n k total r' ts es i z h) (λ i. absurd (none ts i h)) where
-    none : (us : List Target) → sends_through c n (own_finds c n) r' us es ≡ true → HasSpot z (fold_spots c n (S.Combine k total r' us es)) → ⊥
+  one-spotted k total r' ts es o z h = or-cases (own_gives c n (own_finds c n) r' ts es) (sends_through c (n ∷ []) (own_finds c n) r' ts es) o (λ i. own-fold-spotted c n k total r' ts es i z h) (λ i. absurd (none ts i h)) where
+    none : (us : List Target) → sends_through c (n ∷ []) (own_finds c n) r' us es ≡ true → HasSpot z (fold_spots c n (S.Combine k total r' us es)) → ⊥
     none [] i h = absurd (both_ways false refl i)
     none (T.Scalar x at ∷ us) i h = absurd (both_ways false refl i)
     none (T.Property x y at ∷ us) i h =
-        subst (λ b. HasSpot z (if b && list_all (is_property_of n) us then spot_at k total.place ∷ [] else [])) (not-true (nat_eq x n) (both-true (not (nat_eq x n)) _ i).0) h
+        subst (λ b. HasSpot z (if b && list_all (is_property_of n) us then spot_at k total.place ∷ [] else [])) (off-one x n (not-true (is_in (n ∷ []) x) (both-true (not (is_in (n ∷ []) x)) _ i).0)) h
 
   -- the places of the body's folds have indices
   indexed : HaveIndices seg (length p.places) (fold_spots c n body)
@@ -156,69 +155,15 @@ module _ (c : Layout) (p : image.Program) (fields base q kind : ℕ) (loop : Loo
     abbrev Holding : Iteration → Type 0
     Holding = HoldNodes g its home
 
-    -- what is asked of a reduction that sends
-    does-so : (k : Key) (total : TotalKey) (r' : Reduce) (x y : ℕ) (at : Place) (ts : List Target) (es : List Expr) (i : Iteration) → sends_through c n (own_finds c n) r' (T.Property x y at ∷ ts) es ≡ true → Holding i
-        → let u = view_in loop Outermost i k in
-        (nat_eq x n ≡ false) × (are_kept c x (T.Property x y at ∷ ts) ≡ true) × Within (evaluated_all es u).rest (spots_in_all es k)
-        × (does (S.Combine k total r' (T.Property x y at ∷ ts) es) Outermost loop i ≡ out_of total r' (T.Property x y at ∷ ts) i u (node_in g (i.store.scalar x)) at (evaluated_all es u).rest)
-    does-so k total r' x y at ts es i o h =
-        let all' = T.Property x y at ∷ ts in
-        let values' = same_length all' es && list_all (own_finds c n) es in
-        let a = both-true (not (nat_eq x n)) (is_declared_scalar c x && (are_kept c x all' && values')) o in
-        let b = both-true (is_declared_scalar c x) (are_kept c x all' && values') a.1 in
-        let d = both-true (are_kept c x all') values' b.1 in
-        let e = both-true (same_length all' es) (list_all (own_finds c n) es) d.1 in
-        let off = not-true (nat_eq x n) a.0 in
-        let u = view_in loop Outermost i k in
-        let reading = all-read c its false loop Outermost home i k es e.1 h in
-        (off, d.0, all-within u es reading, does-send c loop k total r' x y at ts es i off d.0 (all-hoist_nothing u es refl reading))
-
-    send-left-by : (k : Key) (total : TotalKey) (r' : Reduce) (x y : ℕ) (at : Place) (ts : List Target) (i : Iteration) (xs : List Spot) → nat_eq x n ≡ false → i.fault ≡ None → Holding i
-        → (o : Option ℕ) (answer : Result (List Value) Fault) → Within answer xs
-        → Left c its false loop Outermost home (out_of total r' (T.Property x y at ∷ ts) i (view_in loop Outermost i k) o at answer) (xs ++ spot_of_total total ∷ target_spots its k (T.Property x y at ∷ ts))
-    send-left-by k total r' x y at ts i xs off e h None answer w = (
-      spot-right (spot_at k at) xs (spot_of_total total ∷ target_spots its k (T.Property x y at ∷ ts)) (inr (subst (λ b. HasSpot (spot_at k at) (if b || false then [] else spot_at k at ∷ [])) (sym off) (inl refl))),
-      h,
-    )
-    send-left-by k total r' x y at ts i xs off e h (Some j) (Err f) w = (spot-left (spot_of_fault f) xs (spot_of_total total ∷ target_spots its k (T.Property x y at ∷ ts)) w, h)
-    send-left-by k total r' x y at ts i xs off e h (Some j) (Ok ys) w = (subst (λ o. Has o (xs ++ spot_of_total total ∷ target_spots its k (T.Property x y at ∷ ts))) (sym e) tt, h)
-
-    send-left : (k : Key) (total : TotalKey) (r' : Reduce) (ts : List Target) (es : List Expr) (i : Iteration) → sends_through c n (own_finds c n) r' ts es ≡ true → i.fault ≡ None → Holding i
-        → Left c its false loop Outermost home (does (S.Combine k total r' ts es) Outermost loop i) (spots_in_all es k ++ reduce_spots true its (way_of c.declarations n ts) k total ts)
-    send-left k total r' [] es i o e h = absurd (both_ways false refl o)
-    send-left k total r' (T.Scalar x at ∷ ts) es i o e h = absurd (both_ways false refl o)
-    send-left k total r' (T.Property x y at ∷ ts) es i o e h =
-        let q = does-so k total r' x y at ts es i o h in
-        let u = view_in loop Outermost i k in
-        let all' = T.Property x y at ∷ ts in
-        subst (λ out. Left c its false loop Outermost home out (spots_in_all es k ++ reduce_spots true its (way_of c.declarations n all') k total all')) (sym q.3)
-        (subst (λ w. Left c its false loop Outermost home (out_of total r' all' i u (node_in g (i.store.scalar x)) at (evaluated_all es u).rest) (spots_in_all es k ++ reduce_spots true its w k total all')) (sym (sends-way c n x (T.Property x y at) ts q.0 q.1))
-        (send-left-by k total r' x y at ts i (spots_in_all es k) q.0 e h (node_in g (i.store.scalar x)) (evaluated_all es u).rest q.2))
-
-    send-gives-by : (total : TotalKey) (r' : Reduce) (x y : ℕ) (at : Place) (ts : List Target) (i : Iteration) (u : View) → Gives Good i → (o : Option ℕ) (answer : Result (List Value) Fault) → Gives Good (out_of total r' (T.Property x y at ∷ ts) i u o at answer)
-    send-gives-by total r' x y at ts i u h None answer = record { outermost = h.outermost; inner = h.inner }
-    send-gives-by total r' x y at ts i u h (Some j) (Err f) = record { outermost = h.outermost; inner = h.inner }
-    send-gives-by total r' x y at ts i u h (Some j) (Ok ys) = record { outermost = λ z w. last i.with_outermost z h.outermost w; inner = h.inner } where
-      one : Contribution
-      one = contribution total r' (node_slots j (T.Property x y at ∷ ts), ys)
-
-      last : (xs : List Contribution) (z : Contribution) → ((w : Contribution) → IsIn w xs → Good w) → IsIn z (xs ++ one ∷ []) → Good z
-      last [] z f w = ⊎_elim (λ (e : z ≡ one). subst Good (sym e) (λ o. absurd (both_ways false refl o))) (λ (w : ⊥). absurd w) w
-      last (a ∷ xs) z f w = ⊎_elim (λ (e : z ≡ a). f z (inl e)) (λ (w : IsIn z (xs ++ one ∷ [])). last xs z (λ d m. f d (inr m)) w) w
-
-    send-gives : (k : Key) (total : TotalKey) (r' : Reduce) (ts : List Target) (es : List Expr) (i : Iteration) → sends_through c n (own_finds c n) r' ts es ≡ true → Holding i → Gives Good i → Gives Good (does (S.Combine k total r' ts es) Outermost loop i)
-    send-gives k total r' [] es i o h a = absurd (both_ways false refl o)
-    send-gives k total r' (T.Scalar x at ∷ ts) es i o h a = absurd (both_ways false refl o)
-    send-gives k total r' (T.Property x y at ∷ ts) es i o h a =
-        let u = view_in loop Outermost i k in
-        subst (Gives Good) (sym (does-so k total r' x y at ts es i o h).3) (send-gives-by total r' x y at ts i u a (node_in g (i.store.scalar x)) (evaluated_all es u).rest)
+    off : (x : ℕ) → is_in its x ≡ false → (nat_eq x n ≡ false) × (nat_eq x n ≡ false)
+    off x h = let e = off-one x n h in (e, e)
 
     reductions-left : (k : Key) (total : TotalKey) (r' : Reduce) (ts : List Target) (es : List Expr) (i : Iteration) → gives r' ts es ≡ true → Ready (S.Combine k total r' ts es) i → i.fault ≡ None → Holding i
         → Left c its false loop Outermost home (does (S.Combine k total r' ts es) Outermost loop i) (spots_in_all es k ++ reduce_spots true its (way_of c.declarations n ts) k total ts)
     reductions-left k total r' ts es i o y e h =
-        or-cases (own_gives c n (own_finds c n) r' ts es) (sends_through c n (own_finds c n) r' ts es) o
+        or-cases (own_gives c n (own_finds c n) r' ts es) (sends_through c (n ∷ []) (own_finds c n) r' ts es) o
         (λ z. own-left c loop home able.depths table around result able.iterator k total r' ts es i z (λ a. y) e h)
-        (λ z. send-left k total r' ts es i z e h)
+        (λ z. send-left c its false true n loop Outermost home off k total r' ts es i z e h)
 
     left-body : (st : Stmt) → is_body c (own_finds c n) (own_sets c n) gives st ≡ true → (i : Iteration) → Ready st i → i.fault ≡ None → Holding i → Left c its false loop Outermost home (does st Outermost loop i) (spots_of c n its true st)
     left-body st o i y e h =
@@ -230,9 +175,9 @@ module _ (c : Layout) (p : image.Program) (fields base q kind : ℕ) (loop : Loo
         body-gives c n its true loop Outermost (own_finds c n) (own_sets c n) gives Good all Holding Ready (parts-are c table around result loop Outermost)
         (λ st fits j y' e' h'. (left-body st fits j y' e' h').1)
         (λ k total r' ts es j o y' h' i' g'.
-        or-cases (own_gives c n (own_finds c n) r' ts es) (sends_through c n (own_finds c n) r' ts es) o
+        or-cases (own_gives c n (own_finds c n) r' ts es) (sends_through c (n ∷ []) (own_finds c n) r' ts es) o
         (λ z. own-puts-at c loop home able.depths table around result able.iterator all Good (λ x w m. w) k total r' ts es j z (λ a. y') h' i' g')
-        (λ z. send-gives k total r' ts es j z h' g'))
+        (λ z. send-gives c its false true n loop Outermost home off Good k total r' ts es j z h' (λ k' ys w. absurd (both_ways (are_of_scalars (node_slots k' ts)) (sent-of-nodes c (n ∷ []) (own_finds c n) r' ts es k' z) w)) g'))
         body able.fits (λ f j. spot-right f (spots_in test key) body_spots j) i y e h a
 
   -- an iteration's fault has a spot, and what it gives to scalars of the procedure is put

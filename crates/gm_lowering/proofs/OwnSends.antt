@@ -1,14 +1,12 @@
 -- The lines of an own body that sends through node variables, and the step of its vertex.
-use Rattle.std.proofs.Common.{◌≡◌, ◌<◌, ◌≤◌, ℕ, Bool, true, false, Option, Some, None, Result, Ok, Err, List, [], ◌∷◌, ◌++◌, length, map, refl, ap, ◌∙◌, sym, subst, arith}
+use Rattle.std.proofs.Common.{◌≡◌, ◌<◌, ◌≤◌, ℕ, Bool, true, false, Option, Some, None, Ok, List, [], ◌∷◌, ◌++◌, length, map, refl, ap, ◌∙◌, sym, subst, arith}
 use Rattle.std.specs.Prelude.{◌+◌, ◌&&◌, ◌||◌, not, if◌then◌else◌, nat_eq, nat_lt, filter, slice_get}
 use Rattle.std.specs.List.{list_all}
-use Rattle.std.proofs.lemmas.Bool.{both_ways, not-true}
+use Rattle.std.proofs.lemmas.Bool.{both_ways, not-true, ltb-true}
 use Rattle.std.proofs.lemmas.List.{append-nil}
-use Rattle.gm_base.specs.declared.places.Place.{Place}
 use Rattle.gm_value.specs.declared.values.VType.{VType}
 use Rattle.gm_value.specs.declared.values.Value.{Value}
-use Rattle.gm_value.specs.declared.values.Value.TheVariants.{I32, I64, Flag, At}
-use Rattle.gm_value.specs.declared.faults.FaultKind.TheVariants.{NilNode}
+use Rattle.gm_value.specs.declared.values.Value.TheVariants.{At}
 use Rattle.gm_value.specs.declared.reductions.Reduce.{Reduce}
 use Rattle.gm_model.specs.Graphs.{NumberedGraph, node_count}
 use Rattle.gm_ast.specs.declared.tree.Key.{Key}
@@ -17,103 +15,57 @@ use Rattle.gm_ast.specs.declared.tree.Target.{Target}
 use Rattle.gm_ast.specs.declared.tree.Target.TheVariants as T
 use Rattle.gm_ast.specs.declared.tree.TotalKey.{TotalKey}
 use Rattle.gm_ast.specs.Names.{is}
+use Rattle.gm_ast.specs.Ways.{is_in}
 use Rattle.gm_ast.specs.Program as S
 use Rattle.gm_ast.specs.Program.{Expr, Stmt}
 use Rattle.gm_forms.proofs.Named.{both-true}
 use Rattle.gm_semantics.specs.declared.faults.Fault.{Fault}
-use Rattle.gm_semantics.specs.declared.slots.Slot.TheVariants.{Scalar, Node}
+use Rattle.gm_semantics.specs.declared.slots.Slot.TheVariants.{Scalar}
 use Rattle.gm_semantics.specs.Contributions.{Contribution}
-use Rattle.gm_semantics.specs.Expressions.{View, AllEvaluated, evaluated_all, node_held, fault_at}
-use Rattle.gm_semantics.specs.Faults.{then_with, unless_fault}
-use Rattle.gm_semantics.specs.Iterations.{Loop, Outermost, Iteration, begun, view_in, failed, with_ok, slots_of, assigned_all, contribution, gave_outermost, reduced, does}
+use Rattle.gm_semantics.specs.Expressions.{evaluated_all, node_held}
+use Rattle.gm_semantics.specs.Faults.{then_with}
+use Rattle.gm_semantics.specs.Iterations.{Loop, Outermost, Iteration, begun, view_in, failed, gave_outermost, does}
 use Rattle.gm_semantics.specs.Levels.{node_in}
 use Rattle.gm_semantics.specs.Loops.{iteration}
 use Rattle.gm_semantics.specs.Statements.{variable_at}
 use Rattle.gm_semantics.specs.Stores.{Store, write}
 use Rattle.gm_typed_stores.specs.Tells.{TypeTable}
-use Rattle.gm_typed_stores.specs.Values.{NodeBelow}
-use Rattle.gm_typed_stores.proofs.Kept.{holds-scalar}
 use Rattle.gm_image.specs.Program as image
 use Rattle.gm_image.specs.Program.{Line, Send}
 use Rattle.gm_image.specs.Term as M
-use Rattle.gm_image.specs.Term.{Term}
-use Rattle.gm_machine.specs.Expressions.{value as term_value, values, live}
+use Rattle.gm_machine.specs.Expressions.{value as term_value, live}
 use Rattle.gm_machine.specs.Faults.{then_go}
 use Rattle.gm_machine.specs.Machine.{context_at}
-use Rattle.gm_machine.specs.Vertex.{Message, VertexContext, VertexState, After, view, line_ends, leaves, goes_on, messages_to, body_after, begun as begin, vertex_after}
-use Rattle.gm_lowering.specs.Layouts.{Layout, is_register, has_value, body_positions}
+use Rattle.gm_machine.specs.Vertex.{Message, VertexContext, VertexState, After, view, body_after, begun as begin, vertex_after}
+use Rattle.gm_lowering.specs.Layouts.{Layout, is_global, is_register, has_value, body_positions}
 use Rattle.gm_lowering.specs.Places.{Segment}
 use Rattle.gm_lowering.specs.Terms.{Env, term, own_env}
 use Rattle.gm_lowering.specs.Plans.{Away, away_by, aways, way_of}
 use Rattle.gm_lowering.specs.Bodies.{under, lines_of, reduce_lines, target_node}
 use Rattle.gm_lowering.specs.Blocks.{own_site}
 use Rattle.gm_lowering.specs.Showing.{answer_of}
-use Rattle.gm_lowering.specs.Sites.{are_of_scalars, same_length, given, IsInGraph, IsApart}
+use Rattle.gm_lowering.specs.Sites.{are_of_scalars, same_length, given, IsApart, IsInGraph}
 use Rattle.gm_lowering.specs.OwnLoops.{own_finds, own_sets, own_gives, own_block, IsOwnLoop, fold_spots, HaveIndices, HasSpares, AreTyped, NodeShows}
 use Rattle.gm_lowering.specs.MessageLoops.{is_to_scalars, is_to_nodes}
 use Rattle.gm_lowering.specs.Settles.{fault_or_none}
 use Rattle.gm_lowering.specs.TakingSteps.{Carried}
 use Rattle.gm_lowering.specs.SenderSteps.{AreSent}
-use Rattle.gm_lowering.specs.OwnSends.{is_declared_scalar, sends_through, sending_gives, IsSendingOwnLoop, OwnSent, OwnSends, SendingOwnStepsAreIterations}
+use Rattle.gm_lowering.specs.OwnSends.{may_hold_node, sends_through, sending_gives, IsSendingOwnLoop, OwnSent, OwnSends, SendingOwnStepsAreIterations}
 use Rattle.gm_lowering.proofs.Bodies.{Ends as Ending, Holds}
-use Rattle.gm_lowering.proofs.Givens.{none-hoisted, node_slots, are_kept, node-slots, node-in, assigned-is, values-all}
+use Rattle.gm_lowering.proofs.Givens.{none-hoisted, are_kept, values-all}
 use Rattle.gm_lowering.proofs.Own as O
 use Rattle.gm_lowering.proofs.OwnGives as OG
 use Rattle.gm_lowering.proofs.OwnSteps.{body-alone, filtered-ends, begins}
 use Rattle.gm_lowering.proofs.Picks.{parts-are}
-use Rattle.gm_lowering.proofs.Receivers.{nodes-end}
 use Rattle.gm_lowering.proofs.Receiving.{or-cases}
 use Rattle.gm_lowering.proofs.SenderSteps.{sent-both}
-use Rattle.gm_lowering.proofs.SenderTurns.{sends-way, same-slots, LongAs, long-values, filter-last, get-left, get-right}
+use Rattle.gm_lowering.proofs.Sendings.{node-inside, scalar-inside, held-value, off-one, out_of, does-send, send-by}
+use Rattle.gm_lowering.proofs.SenderTurns.{sends-way, long-values, filter-last, get-left, get-right}
 use Rattle.gm_lowering.proofs.TupleFacts.{no-spares, spares-first, spares-second}
-
--- a node of the graph
-pub node-inside : (g : NumberedGraph) (a : Value) (j : ℕ) → IsInGraph g a → node_in g a ≡ Some j → j < node_count g
-node-inside g (At (Some k)) j h e = subst (λ z. z < node_count g) (ap number (sym (node-in g k (h k refl)) ∙ e)) (h k refl) where
-  number : Option ℕ → ℕ
-  number (Some z) = z
-  number None = 0
-node-inside g (At None) j h e = absurd (both_ways true (ap is_none e) refl) where
-  is_none : Option ℕ → Bool
-  is_none (Some z) = false
-  is_none None = true
-node-inside g (I32 z) j h e = absurd (both_ways true (ap is_none e) refl) where
-  is_none : Option ℕ → Bool
-  is_none (Some z) = false
-  is_none None = true
-node-inside g (I64 z) j h e = absurd (both_ways true (ap is_none e) refl) where
-  is_none : Option ℕ → Bool
-  is_none (Some z) = false
-  is_none None = true
-node-inside g (Flag b) j h e = absurd (both_ways true (ap is_none e) refl) where
-  is_none : Option ℕ → Bool
-  is_none (Some z) = false
-  is_none None = true
 
 map-both : {A B : Type 0} (f : A → B) (xs ys : List A) → map f (xs ++ ys) ≡ map f xs ++ map f ys
 map-both f [] ys = refl
 map-both f (x ∷ xs) ys = ap (λ l. f x ∷ l) (map-both f xs ys)
-
--- what is assigned through a node variable
-pub assigned-through : (c : Layout) (u : View) (x p : ℕ) (at : Place) (ts : List Target) (a : AllEvaluated) (o : Option ℕ) → are_kept c x (T.Property x p at ∷ ts) ≡ true → a.hoisted ≡ None → node_in u.graph (u.store.scalar x) ≡ o
-    → assigned_all u (T.Property x p at ∷ ts) a ≡ then_with (node_held u at o) (λ j. then_with a.rest (λ xs. Ok (node_slots j (T.Property x p at ∷ ts), xs)))
-assigned-through c u x p at ts a (Some j) kept none e = assigned-is u (T.Property x p at ∷ ts) a (node_slots j (T.Property x p at ∷ ts)) none (node-slots c x j u (T.Property x p at ∷ ts) kept e)
-assigned-through c u x p at ts a None kept none e =
-    ap (λ f. unless_fault f (then_with (slots_of u (T.Property x p at ∷ ts)) (λ us. then_with a.rest (λ xs. Ok (us, xs))))) none
-    ∙ ap (λ o. then_with (then_with (then_with (node_held u at o) (λ j. Ok (Node p j))) (λ z. then_with (slots_of u ts) (λ ss. Ok (z ∷ ss)))) (λ us. then_with a.rest (λ xs. Ok (us, xs)))) e
-
--- what a reduction does that sends: it gives its values to the node that its variable holds, or faults where there is none
-abbrev pub out_of : TotalKey → Reduce → List Target → Iteration → View → Option ℕ → Place → Result (List Value) Fault → Iteration
-out_of total r ts it u o at answer = with_ok it (then_with (node_held u at o) (λ j. then_with answer (λ xs. Ok (node_slots j ts, xs)))) (λ q. gave_outermost it (contribution total r q))
-
-pub does-send : (c : Layout) (loop : Loop) (k : Key) (total : TotalKey) (r : Reduce) (x p : ℕ) (at : Place) (ts : List Target) (es : List Expr) (it : Iteration)
-    → nat_eq x loop.outer ≡ false → are_kept c x (T.Property x p at ∷ ts) ≡ true → (evaluated_all es (view_in loop Outermost it k)).hoisted ≡ None
-    → let u = view_in loop Outermost it k in
-    does (S.Combine k total r (T.Property x p at ∷ ts) es) Outermost loop it ≡ out_of total r (T.Property x p at ∷ ts) it u (node_in loop.graph (it.store.scalar x)) at (evaluated_all es u).rest
-does-send c loop k total r x p at ts es it off kept none =
-    let u = view_in loop Outermost it k in
-    ap (λ z. reduced z u it total r (T.Property x p at ∷ ts) es) (nodes-end c loop Outermost x (T.Property x p at) ts off kept)
-    ∙ ap (λ z. with_ok it z (λ y. gave_outermost it (contribution total r y))) (assigned-through c u x p at ts (evaluated_all es u) (node_in loop.graph (it.store.scalar x)) kept none refl)
 
 -- what is sent is told by what both gave
 sent-giving : (c : Layout) (v : Env) (kind : ℕ) (all : List Away) (g : NumberedGraph) → O.Giving c v (λ it w. OwnSent c v kind all g it w)
@@ -180,13 +132,6 @@ module _ (c : Layout) (seg : Segment) (loop : Loop) (k registers fields places :
   ready-base : (first : ℕ) (st : Stmt) (it : Iteration) → Ready first st it → Base first st it
   ready-base first st it h = (h.0, (λ o. h.1), h.2)
 
-  -- a node variable holds a node of the graph, if any
-  inside : (st : Stmt) (it : Iteration) (x : ℕ) → AreTyped c table around result loop st it → is Sorts.Scalar (variable_at c.declarations x) ≡ true → IsInGraph loop.graph (it.store.scalar x)
-  inside st it x typed o j e =
-      let b = (typed.iteration.store.scalar x (holds-scalar table around x (ap (λ ds. is Sorts.Scalar (variable_at ds x)) typed.declarations ∙ o))).below in
-      let lt : j < table.limit = subst (NodeBelow table.limit) e b in
-      omega (arith, lt, limit)
-
   abbrev Ended : List Line → List Line → VertexState → Iteration → Option Fault → Type 0
   Ended = Ending v run Shows Gave
 
@@ -220,47 +165,8 @@ module _ (c : Layout) (seg : Segment) (loop : Loop) (k registers fields places :
     },
   )
 
-  -- a send line gives its values in a message to the node, or faults where there is none
-  send-by : (first : ℕ) (total : TotalKey) (r : Reduce) (x : ℕ) (t : Target) (ts : List Target) (to : Term) (terms : List Term) (it : Iteration) (w : VertexState) (rest : List Line) (u : View) (at : Place)
-      → Shows it w → are_kept c x (t ∷ ts) ≡ true → (l : ℕ) → slice_get all l ≡ Some (record { total = total; reduce = r; targets = t ∷ ts }) → first ≡ kind + l
-      → (o : Option ℕ) → ((j : ℕ) → o ≡ Some j → j < node_count loop.graph) → term_value (view s w) to ≡ answer_of v (then_with (node_held u at o) (λ j. Ok (At (Some j))))
-      → (answer : Result (List Value) Fault) → LongAs (t ∷ ts) answer → values (view s w) terms ≡ answer_of v answer
-      → let out = out_of total r (t ∷ ts) it u o at answer in Ended (Send first to terms ∷ []) rest w out out.fault
-  send-by first total r x t ts to terms it w rest u at q kept l here place None lt e answer long d = (
-    w,
-    gave-failed it w (fault_at u at NilNode) q.1,
-    ap (λ y. goes_on (line_ends w y (λ z. line_ends w (values (view s w) terms) (λ vs. leaves (record w { messages = w.messages ++ messages_to z first vs })))) (λ k' u'. run rest k' u')) e,
-  )
-  send-by first total r x t ts to terms it w rest u at q kept l here place (Some j) lt e (Err f) long d = (
-    w,
-    gave-failed it w f q.1,
-    ap (λ y. goes_on (line_ends w y (λ z. line_ends w (values (view s w) terms) (λ vs. leaves (record w { messages = w.messages ++ messages_to z first vs })))) (λ k' u'. run rest k' u')) e
-        ∙ ap (λ y. goes_on (line_ends w y (λ vs. leaves (record w { messages = w.messages ++ record { to = j; kind = first; values = vs } ∷ [] }))) (λ k' u'. run rest k' u')) d,
-  )
-  send-by first total r x t ts to terms it w rest u at q kept l here place (Some j) lt e (Ok xs) long d =
-      let a = contribution total r (node_slots j (t ∷ ts), xs) in
-      let msg : Message = record { to = j; kind = first; values = xs } in
-      subst (Ended (Send first to terms ∷ []) rest w (gave_outermost it a)) (sym q.0.fine) (
-        record w { messages = w.messages ++ msg ∷ [] },
-        sends it w a msg (not-scalars t ts kept)
-            (record {
-              index = l;
-              away = record { total = total; reduce = r; targets = t ∷ ts };
-              found = here;
-              of_kind = place;
-              made = ap (λ ss. contribution total r (ss, xs)) (same-slots j (t ∷ ts));
-              long = long;
-            })
-            (lt j refl) q,
-        ap (λ y. goes_on (line_ends w y (λ z. line_ends w (values (view s w) terms) (λ vs. leaves (record w { messages = w.messages ++ messages_to z first vs })))) (λ k' u'. run rest k' u')) e
-            ∙ ap (λ y. goes_on (line_ends w y (λ vs. leaves (record w { messages = w.messages ++ record { to = j; kind = first; values = vs } ∷ [] }))) (λ k' u'. run rest k' u')) d,
-      ) where
-        not-scalars : (t : Target) (ts : List Target) → are_kept c x (t ∷ ts) ≡ true → are_of_scalars (node_slots j (t ∷ ts)) ≡ false
-        not-scalars (T.Property y p pl) ts h = refl
-        not-scalars (T.Scalar y pl) ts h = absurd (both_ways false refl h)
-
   send-case : (first : ℕ) (key : Key) (total : TotalKey) (r : Reduce) (ts : List Target) (es : List Expr) (it : Iteration) (w : VertexState) (rest : List Line)
-      → sends_through c n found r ts es ≡ true → Ready first (S.Combine key total r ts es) it → Shows it w
+      → sends_through c (n ∷ []) found r ts es ≡ true → Ready first (S.Combine key total r ts es) it → Shows it w
       → let out = does (S.Combine key total r ts es) Outermost loop it in
       Ended (reduce_lines (own_site c seg n) first (way_of c.declarations n ts) key total r ts (map (term v key) es)) rest w out out.fault
   send-case first key total r [] es it w rest o ready q = absurd (both_ways false refl o)
@@ -268,10 +174,11 @@ module _ (c : Layout) (seg : Segment) (loop : Loop) (k registers fields places :
   send-case first key total r (T.Property x p at ∷ ts) es it w rest o ready q =
       let t = T.Property x p at in
       let values' = same_length (t ∷ ts) es && list_all found es in
-      let a = both-true (not (nat_eq x n)) (is_declared_scalar c x && (are_kept c x (t ∷ ts) && values')) o in
-      let off : nat_eq x n ≡ false = not-true (nat_eq x n) a.0 in
-      let b = both-true (is_declared_scalar c x) (are_kept c x (t ∷ ts) && values') a.1 in
-      let d = both-true (nat_lt x (length c.declarations)) (is Sorts.Scalar (variable_at c.declarations x)) b.0 in
+      let a = both-true (not (is_in (n ∷ []) x)) (may_hold_node c x && (are_kept c x (t ∷ ts) && values')) o in
+      let off : nat_eq x n ≡ false = off-one x n (not-true (is_in (n ∷ []) x) a.0) in
+      let b = both-true (may_hold_node c x) (are_kept c x (t ∷ ts) && values') a.1 in
+      let holds = is Sorts.Scalar (variable_at c.declarations x) || is_global (variable_at c.declarations x) in
+      let d = both-true (nat_lt x (length c.declarations)) holds b.0 in
       let e = both-true (are_kept c x (t ∷ ts)) values' b.1 in
       let f = both-true (same_length (t ∷ ts) es) (list_all found es) e.1 in
       let u = view_in loop Outermost it key in
@@ -282,16 +189,19 @@ module _ (c : Layout) (seg : Segment) (loop : Loop) (k registers fields places :
       let tell = O.all-tell c seg loop k registers fields places s apart unlike type_is depth_is Gave giving it w key es f.1 q in
       let none = none-hoisted v u (view s w) es refl tell in
       let at_node = node_in loop.graph (it.store.scalar x) in
-      let in_graph = inside st it x ready.1 d.1 in
-      let scalar = O.scalar-is c seg loop k registers fields places s apart unlike type_is depth_is Gave giving it w x (known d.0 (ap (λ z. z || is Sorts.Iterator (variable_at c.declarations x)) d.1) (nat_eq x n || false)) q in
+      let in_graph : IsInGraph loop.graph (it.store.scalar x) =
+      or-cases (is Sorts.Scalar (variable_at c.declarations x)) (is_global (variable_at c.declarations x)) d.1
+      (λ h. scalar-inside c table around result loop st it x limit ready.1 h) (λ h. q.0.in_graph x off (ltb-true x (length c.declarations) d.0) h) in
+      let scalar = O.scalar-is c seg loop k registers fields places s apart unlike type_is depth_is Gave giving it w x (known d.0 (held-value (variable_at c.declarations x) d.1) (nat_eq x n || false)) q in
       let to : term_value (view s w) (M.Live (v.place key at) (v.scalar x)) ≡ answer_of v (then_with (node_held u at at_node) (λ j. Ok (At (Some j)))) =
       ap (λ z. then_go z (live (v.place key at))) scalar ∙ O.live-same v u at (it.store.scalar x) in_graph in
       let same : out ≡ out_of total r (t ∷ ts) it u at_node at (evaluated_all es u).rest =
-      does-send c loop key total r x p at ts es it off e.0 none in
+      does-send c loop Outermost key total r x p at ts es it off e.0 none in
       subst (λ way'. Ended (reduce_lines (own_site c seg n) first way' key total r (t ∷ ts) (map (term v key) es)) rest w out out.fault) (sym way)
       (subst (λ node. Ended (Send first node (map (term v key) es) ∷ []) rest w out out.fault) (sym (through off))
       (subst (λ z. Ended (Send first (M.Live (v.place key at) (v.scalar x)) (map (term v key) es) ∷ []) rest w z z.fault) (sym same)
-      (send-by first total r x t ts (M.Live (v.place key at) (v.scalar x)) (map (term v key) es) it w rest u at q e.0 place.0 place.1 (let z : first + 0 ≡ kind + place.0 = place.2 in omega (arith, z))
+      (send-by c v loop s run Shows Gave kind all (λ ss. Unit {0}) base.fine (λ it' w' f' q'. gave-failed it' w' f' q'.1) (λ k' to' terms' ls u'. refl) (λ it' w' a' msg o' z. sends it' w' a' msg o')
+      first total r x t ts (M.Live (v.place key at) (v.scalar x)) (map (term v key) es) it w rest u at q e.0 (λ j. tt) place.0 place.1 (let z : first + 0 ≡ kind + place.0 = place.2 in omega (arith, z))
       at_node (λ j h. node-inside loop.graph (it.store.scalar x) j in_graph h) to (evaluated_all es u).rest (long-values u (t ∷ ts) es f.0) (values-all v u (view s w) es tell)))) where
         known : nat_lt x (length c.declarations) ≡ true → has_value (variable_at c.declarations x) ≡ true → (b : Bool) → b || (nat_lt x (length c.declarations) && has_value (variable_at c.declarations x)) ≡ true
         known e f true = refl
@@ -321,7 +231,7 @@ module _ (c : Layout) (seg : Segment) (loop : Loop) (k registers fields places :
         placed_yes = λ first key e a b it h. ((base.placed_yes first key e a b it (always first (S.If key e a b) it h)).0, types.yes key e a b it h.1, spares-first c registers (body_positions c.declarations a) (body_positions c.declarations b) h.2, λ at x e'. h.3 at x (get-left (aways c.declarations n a) (aways c.declarations n b) at x e'));
         placed_no = λ first key e a b it h. ((base.placed_no first key e a b it (always first (S.If key e a b) it h)).0, types.no key e a b it h.1, spares-second c registers (body_positions c.declarations a) (body_positions c.declarations b) h.2, λ at x e'. behind first a b h.3 at x e');
         reduce = λ first key total r ts es it w rest o h q.
-            or-cases (own_gives c n found r ts es) (sends_through c n found r ts es) o
+            or-cases (own_gives c n found r ts es) (sends_through c (n ∷ []) found r ts es) o
             (λ z. base.reduce first key total r ts es it w rest z (always first (S.Combine key total r ts es) it h) q)
             (λ z. send-case first key total r ts es it w rest z h q);
       } where

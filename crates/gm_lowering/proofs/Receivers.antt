@@ -3,7 +3,7 @@ use Rattle.std.proofs.Common.{◌≡◌, ◌<◌, ℕ, suc, Bool, true, false, c
 use Rattle.std.specs.Prelude.{if◌then◌else◌, ◌&&◌, ◌||◌, not, nat_eq, nat_lt, slice_set, pos, filter}
 use Rattle.std.specs.List.{list_all}
 use Rattle.std.proofs.lemmas.List.{length-set, append-nil}
-use Rattle.std.proofs.lemmas.Bool.{both_ways, eqb-true, eqb-false, ne_eqb, eq-eqb, ltb-true}
+use Rattle.std.proofs.lemmas.Bool.{both_ways, eqb-true, eqb-false, ne_eqb, eq-eqb, ltb-true, not-true}
 use Rattle.gm_base.specs.declared.places.Place.{Place}
 use Rattle.gm_value.specs.declared.values.VType.{VType}
 use Rattle.gm_value.specs.declared.values.Value.{Value}
@@ -51,6 +51,7 @@ use Rattle.gm_lowering.specs.Showing.{answer_of, Tells}
 use Rattle.gm_lowering.specs.Sites.{are_of_scalars, finds, finds_scalar, finds_node, same_length, is_local, slot_at, given, phase_value, IsInGraph, HoldLocals, HoldProperties, IsApart}
 use Rattle.gm_lowering.specs.OwnLoops.{is_declared, puts_to_scalars, folds_to, HasSpares}
 use Rattle.gm_lowering.specs.MessageLoops.{has_load, receiver_finds, sets_nothing, receiver_gives, handler_lines, IsMessageLoop, load_value, Carries, is_to_scalars, is_to_nodes, ReceiverGave, MessageShows, RunEnds, HandlersAreTurns, is_inner_local, picks_inside, inner_gives, is_inner_target, tuples_inside}
+use Rattle.gm_lowering.specs.ReceiverSends.{is_taken_here, are_sent_slots, is_sent}
 use Rattle.gm_lowering.proofs.Bodies.{Ends as Ending, Holds}
 use Rattle.gm_lowering.proofs.Givens.{AllTell, are_scalars, values-all, none-hoisted, terms-of, slots-of, assigned-is, put-ends, node_slots, are_kept, node-numbers, node-slots, folds-way, node-in}
 use Rattle.gm_lowering.proofs.Own.{after-set, live-same, phase-term, global-has_value, global-no_register}
@@ -86,13 +87,14 @@ module _ (c : Layout) (v : Env) (loop : Loop) (m : Mode) (s : VertexContext) (ru
     (fine : (it : Iteration) (w : VertexState) → Shows it w → it.fault ≡ None)
     (gave_failed : (it : Iteration) (w : VertexState) (f : Fault) → Shows it w → Gave (failed it f) w)
     (at_node : (it : Iteration) (w : VertexState) (k : Key) → Shows it w → node_in loop.graph (it.store.scalar i) ≡ Some j)
-    (folds : (it : Iteration) (w : VertexState) (a : Contribution) → are_of_scalars a.slots ≡ false → Shows it w → Shows (gave_outermost it a) (record w { folds = w.folds ++ given c v a ∷ [] })) where
+    (out : List ℕ)
+    (folds : (it : Iteration) (w : VertexState) (a : Contribution) → are_of_scalars a.slots ≡ false → is_sent out a ≡ false → Shows it w → Shows (gave_outermost it a) (record w { folds = w.folds ++ given c v a ∷ [] })) where
   fold-by : (total : TotalKey) (r : Reduce) (t : Target) (ts : List Target) (terms : List Term) (answer : Result (List Value) Fault) (it : Iteration) (w : VertexState) (rest : List Line) → Shows it w
-      → are_kept c i (t ∷ ts) ≡ true → same_length (t ∷ ts) terms ≡ true
+      → are_kept c i (t ∷ ts) ≡ true → list_all (is_taken_here out) (t ∷ ts) ≡ true → same_length (t ∷ ts) terms ≡ true
       → values (view s w) terms ≡ answer_of v answer
       → let out = with_ok it (then_with answer (λ xs. Ok (node_slots j (t ∷ ts), xs))) (λ p. gave_outermost it (contribution total r p)) in
       Ending v run Shows Gave (Fold r (v.place total.key total.place) (image_targets c (t ∷ ts) terms) ∷ []) rest w out out.fault
-  fold-by total r t ts terms (Ok xs) it w rest q o n e =
+  fold-by total r t ts terms (Ok xs) it w rest q o h n e =
       let a = contribution total r (node_slots j (t ∷ ts), xs) in
       let place = v.place total.key total.place in
       let targets = image_targets c (t ∷ ts) terms in
@@ -104,7 +106,7 @@ module _ (c : Layout) (v : Env) (loop : Loop) (m : Mode) (s : VertexContext) (ru
       ∙ ap Ok (one-given t ts o) in
       subst (Ending v run Shows Gave (Fold r place targets ∷ []) rest w (gave_outermost it a)) (sym (fine it w q)) (
         record w { folds = w.folds ++ given c v a ∷ [] },
-        folds it w a (not-scalars t ts o) q,
+        folds it w a (not-scalars t ts o) (not-sent t ts o h) q,
         fold_runs r place targets rest w ∙ ap (λ u. goes_on (line_ends w u go) (λ k u. run rest k u)) same,
       ) where
         one-given : (t : Target) (ts : List Target) → are_kept c i (t ∷ ts) ≡ true
@@ -115,7 +117,11 @@ module _ (c : Layout) (v : Env) (loop : Loop) (m : Mode) (s : VertexContext) (ru
         not-scalars : (t : Target) (ts : List Target) → are_kept c i (t ∷ ts) ≡ true → are_of_scalars (node_slots j (t ∷ ts)) ≡ false
         not-scalars (T.Property x p at) ts h = refl
         not-scalars (T.Scalar x at) ts h = absurd (both_ways false refl h)
-  fold-by total r t ts terms (Err f) it w rest q o n e =
+
+        not-sent : (t : Target) (ts : List Target) → are_kept c i (t ∷ ts) ≡ true → list_all (is_taken_here out) (t ∷ ts) ≡ true → are_sent_slots out (node_slots j (t ∷ ts)) ≡ false
+        not-sent (T.Property x p at) ts h k = not-true (is_in out p) (both-true (not (is_in out p)) (list_all (is_taken_here out) ts) k).0
+        not-sent (T.Scalar x at) ts h k = absurd (both_ways false refl h)
+  fold-by total r t ts terms (Err f) it w rest q o h n e =
       let place = v.place total.key total.place in
       let targets = image_targets c (t ∷ ts) terms in
       let go = λ (g : List Given). leaves (record w { folds = w.folds ++ g }) in (
@@ -128,18 +134,18 @@ module _ (c : Layout) (v : Env) (loop : Loop) (m : Mode) (s : VertexContext) (ru
 
   -- a reduction to properties of the node is what its fold gives
   pub fold-ends : (k : Key) (total : TotalKey) (r : Reduce) (t : Target) (ts : List Target) (es : List Expr) (it : Iteration) (w : VertexState) (rest : List Line) → Shows it w
-      → are_kept c i (t ∷ ts) ≡ true → same_length (t ∷ ts) es ≡ true
+      → are_kept c i (t ∷ ts) ≡ true → list_all (is_taken_here out) (t ∷ ts) ≡ true → same_length (t ∷ ts) es ≡ true
       → AllTell v (view_in loop m it k) (view s w) es
       → let out = does (S.Combine k total r (t ∷ ts) es) m loop it in
       Ending v run Shows Gave (Fold r (v.place total.key total.place) (image_targets c (t ∷ ts) (map (term v k) es)) ∷ []) rest w out out.fault
-  fold-ends k total r t ts es it w rest q o n tell =
+  fold-ends k total r t ts es it w rest q o h n tell =
       let u = view_in loop m it k in
       let same : does (S.Combine k total r (t ∷ ts) es) m loop it ≡ with_ok it (then_with (evaluated_all es u).rest (λ xs. Ok (node_slots j (t ∷ ts), xs))) (λ p. gave_outermost it (contribution total r p)) =
       ap (λ e. reduced e u it total r (t ∷ ts) es) (nodes-end c loop m i t ts apart o)
       ∙ ap (λ a. with_ok it a (λ p. gave_outermost it (contribution total r p)))
       (assigned-is u (t ∷ ts) (evaluated_all es u) (node_slots j (t ∷ ts)) (none-hoisted v u (view s w) es refl tell) (node-slots c i j u (t ∷ ts) o (at_node it w k q))) in
       subst (λ out. Ending v run Shows Gave (Fold r (v.place total.key total.place) (image_targets c (t ∷ ts) (map (term v k) es)) ∷ []) rest w out out.fault) (sym same)
-      (fold-by total r t ts (map (term v k) es) (evaluated_all es u).rest it w rest q o (same-map (t ∷ ts) es (term v k) n) (values-all v u (view s w) es tell)) where
+      (fold-by total r t ts (map (term v k) es) (evaluated_all es u).rest it w rest q o h (same-map (t ∷ ts) es (term v k) n) (values-all v u (view s w) es tell)) where
         same-map : {A B C : Type 0} (ts : List A) (es : List B) (f : B → C) → same_length ts es ≡ true → same_length ts (map f es) ≡ true
         same-map [] [] f h = h
         same-map [] (e ∷ es) f h = h
@@ -164,8 +170,71 @@ pub record ReceiverShows (c : Layout) (loop : Loop) (i k j edge registers fields
   pub register_count : length w.registers ≡ registers
   pub field_count : length w.fields ≡ fields
 
+-- what is asked of what a vertex has given for a turn: what both gave tells it; and contributions to scalars are put, and those to the node's own properties folded
+pub record Giving (c : Layout) (v : Env) (out : List ℕ) (Gave : Iteration → VertexState → Type 0) : Type 0 where
+  pub stays : (it new : Iteration) (w u : VertexState) → new.with_inner ≡ it.with_inner → new.with_outermost ≡ it.with_outermost → new.deferred ≡ it.deferred
+      → u.puts ≡ w.puts → u.folds ≡ w.folds → u.messages ≡ w.messages → Gave it w → Gave new u
+  pub folds : (it : Iteration) (w : VertexState) (a : Contribution) → are_of_scalars a.slots ≡ false → is_sent out a ≡ false → Gave it w → Gave (gave_outermost it a) (record w { folds = w.folds ++ given c v a ∷ [] })
+  pub puts : (it : Iteration) (w : VertexState) (a : Contribution) → are_of_scalars a.slots ≡ true → Gave it w → Gave (gave_outermost it a) (record w { puts = w.puts ++ given c v a ∷ [] })
+
 or-false : (a b : Bool) → a ≡ false → a || b ≡ true → b ≡ true
 or-false a b e h = ap (λ x. x || b) (sym e) ∙ h
+
+filter-last : (p : Contribution → Bool) (xs : List Contribution) (a : Contribution) → filter p (xs ++ a ∷ []) ≡ filter p xs ++ (if p a then a ∷ [] else [])
+filter-last p [] a = by (p a) where
+  by : (b : Bool) → cond b (a ∷ []) [] ≡ (if b then a ∷ [] else [])
+  by true = refl
+  by false = refl
+filter-last p (x ∷ xs) a = by (p x) (filter-last p xs a) where
+  by : (b : Bool) → filter p (xs ++ a ∷ []) ≡ filter p xs ++ (if p a then a ∷ [] else []) → cond b (x ∷ filter p (xs ++ a ∷ [])) (filter p (xs ++ a ∷ [])) ≡ cond b (x ∷ filter p xs) (filter p xs) ++ (if p a then a ∷ [] else [])
+  by true e = ap (λ l. x ∷ l) e
+  by false e = e
+
+map-both : {A B : Type 0} (f : A → B) (xs ys : List A) → map f (xs ++ ys) ≡ map f xs ++ map f ys
+map-both f [] ys = refl
+map-both f (x ∷ xs) ys = ap (λ l. f x ∷ l) (map-both f xs ys)
+
+-- one more of a sort, and none of the other
+pub one-more : (c : Layout) (v : Env) (p : Contribution → Bool) (xs : List Contribution) (a : Contribution) (gs : List Given) → gs ≡ map (given c v) (filter p xs) → p a ≡ true → gs ++ given c v a ∷ [] ≡ map (given c v) (filter p (xs ++ a ∷ []))
+one-more c v p xs a gs e o =
+    ap (λ l. l ++ given c v a ∷ []) e
+    ∙ sym (ap (map (given c v)) (filter-last p xs a) ∙ map-both (given c v) (filter p xs) (if p a then a ∷ [] else []) ∙ ap (λ b. map (given c v) (filter p xs) ++ map (given c v) (if b then a ∷ [] else [])) o)
+
+pub no-more : (c : Layout) (v : Env) (p : Contribution → Bool) (xs : List Contribution) (a : Contribution) (gs : List Given) → gs ≡ map (given c v) (filter p xs) → p a ≡ false → gs ≡ map (given c v) (filter p (xs ++ a ∷ []))
+no-more c v p xs a gs e o =
+    e ∙ sym (ap (map (given c v)) (filter-last p xs a) ∙ ap (λ b. map (given c v) (filter p xs ++ (if b then a ∷ [] else []))) o ∙ ap (map (given c v)) (append-nil (filter p xs)))
+
+-- a receiver that sends nothing
+pub receiver-giving : (c : Layout) (v : Env) → Giving c v [] (λ it w. ReceiverGave c v it w)
+receiver-giving c v = record {
+  stays = λ it new w u inner outermost deferred puts folds messages q. record {
+    puts = puts ∙ q.puts ∙ ap (λ l. map (given c v) (filter is_to_scalars l)) (sym outermost);
+    folds = folds ∙ q.folds ∙ ap (λ l. map (given c v) (filter is_to_nodes l)) (sym outermost);
+    messages = messages ∙ q.messages;
+    inner = inner ∙ q.inner;
+    deferred = deferred ∙ q.deferred;
+  };
+  folds = λ it w a o h q. record {
+    puts = no-more c v is_to_scalars it.with_outermost a w.puts q.puts o;
+    folds = one-more c v is_to_nodes it.with_outermost a w.folds q.folds (ap not o);
+    messages = q.messages;
+    inner = q.inner;
+    deferred = q.deferred;
+  };
+  puts = λ it w a o q. record {
+    puts = one-more c v is_to_scalars it.with_outermost a w.puts q.puts o;
+    folds = no-more c v is_to_nodes it.with_outermost a w.folds q.folds (ap not o);
+    messages = q.messages;
+    inner = q.inner;
+    deferred = q.deferred;
+  };
+}
+
+-- nothing is sent
+nothing-sent : (ts : List Target) → list_all (is_taken_here []) ts ≡ true
+nothing-sent [] = refl
+nothing-sent (T.Scalar x at ∷ ts) = nothing-sent ts
+nothing-sent (T.Property x p at ∷ ts) = nothing-sent ts
 
 module _ (c : Layout) (seg : Segment) (loop : Loop) (i k j edge registers fields : ℕ) (loads : List Load) (s : VertexContext)
     (apart : IsApart c registers fields)
@@ -173,7 +242,8 @@ module _ (c : Layout) (seg : Segment) (loop : Loop) (i k j edge registers fields
     (unlike_inner : is_register (variable_at c.declarations i) ≡ false)
     (two : nat_eq i loop.outer ≡ false)
     (type_is : (x : ℕ) → loop.vtype x ≡ (variable_at c.declarations x).vtype)
-    (depth_is : (x : ℕ) → loop.depth x ≡ (variable_at c.declarations x).depth) where
+    (depth_is : (x : ℕ) → loop.depth x ≡ (variable_at c.declarations x).depth)
+    (out : List ℕ) (Gave : Iteration → VertexState → Type 0) (giving : Giving c (receiver_env c seg loop.outer i loads) out Gave) where
   abbrev n : ℕ
   n = loop.outer
 
@@ -190,7 +260,7 @@ module _ (c : Layout) (seg : Segment) (loop : Loop) (i k j edge registers fields
   found = receiver_finds c n i loads
 
   abbrev pub Shows : Iteration → VertexState → Type 0
-  Shows it w = ReceiverShows c loop i k j edge registers fields loads s it w × ReceiverGave c v it w
+  Shows it w = ReceiverShows c loop i k j edge registers fields loads s it w × Gave it w
 
   abbrev run : List Line → ℕ → VertexState → After
   run = lines_after s
@@ -212,7 +282,7 @@ module _ (c : Layout) (seg : Segment) (loop : Loop) (i k j edge registers fields
   plain-is it w x false e f g lt d q = phase-term c s w x ∙ ap Ok (q.0.phase x f g lt e d)
 
   -- a scalar by what it is
-  scalar-by : (it : Iteration) (w : VertexState) (x : ℕ) → Shows it w → (nat_eq x n ≡ true → has_load loads SenderItself ≡ true)
+  pub scalar-by : (it : Iteration) (w : VertexState) (x : ℕ) → Shows it w → (nat_eq x n ≡ true → has_load loads SenderItself ≡ true)
       → (nat_eq x n ≡ false → nat_eq x i ≡ false → (x < length c.declarations) × (has_value (variable_at c.declarations x) ≡ true))
       → term_value (view s w) (v.scalar x) ≡ Ok (it.store.scalar x)
   scalar-by it w x q sender plain = by (nat_eq x n) refl where
@@ -332,10 +402,10 @@ module _ (c : Layout) (seg : Segment) (loop : Loop) (i k j edge registers fields
       (tells-by it w key e t.0 u.0 q, tells-by it w key a tt2.0 uu2.0 q, tells-by it w key b tt2.1 uu2.1 q)
   tells-by it w key (S.Folded f h e a) o l q = absurd (both_ways false refl o)
 
-  tells : (it : Iteration) (w : VertexState) (key : Key) (e : Expr) → found e ≡ true → Shows it w → Tells v (view_in loop m it key) (view s w) e
+  pub tells : (it : Iteration) (w : VertexState) (key : Key) (e : Expr) → found e ≡ true → Shows it w → Tells v (view_in loop m it key) (view s w) e
   tells it w key e o q = let t = both-true (found_of e) (carried_of e) o in tells-by it w key e t.0 t.1 q
 
-  all-tell : (it : Iteration) (w : VertexState) (key : Key) (es : List Expr) → list_all found es ≡ true → Shows it w → AllTell v (view_in loop m it key) (view s w) es
+  pub all-tell : (it : Iteration) (w : VertexState) (key : Key) (es : List Expr) → list_all found es ≡ true → Shows it w → AllTell v (view_in loop m it key) (view s w) es
   all-tell it w key [] o q = tt
   all-tell it w key (e ∷ es) o q = let t = both-true (found e) (list_all found es) o in (tells it w key e t.0 q, all-tell it w key es t.1 q)
 
@@ -350,7 +420,7 @@ module _ (c : Layout) (seg : Segment) (loop : Loop) (i k j edge registers fields
   same-load it key x a (SenderDegree In) = refl
   same-load it key x a (EdgeValue p) = refl
 
-  local : (it : Iteration) (w : VertexState) (x : ℕ) (a : Value) → is_local c x ≡ true → Shows it w → Shows (wrote it (Scalar x, a)) (record w { registers = slice_set w.registers (c.register x) a })
+  pub local : (it : Iteration) (w : VertexState) (x : ℕ) (a : Value) → is_local c x ≡ true → Shows it w → Shows (wrote it (Scalar x, a)) (record w { registers = slice_set w.registers (c.register x) a })
   local it w x a o q =
       let t = both-true (nat_lt x (length c.declarations)) (is_register (variable_at c.declarations x)) o in
       let lt = ltb-true x (length c.declarations) t.0 in
@@ -374,7 +444,7 @@ module _ (c : Layout) (seg : Segment) (loop : Loop) (i k j edge registers fields
           register_count = length-set w.registers (c.register x) a ∙ q.0.register_count;
           field_count = q.0.field_count;
         },
-        record { puts = q.1.puts; folds = q.1.folds; messages = q.1.messages; inner = q.1.inner; deferred = q.1.deferred },
+        giving.stays it (wrote it (Scalar x, a)) w (record w { registers = slice_set w.registers (c.register x) a }) refl refl refl refl refl refl q.1,
       ) where
         same-register : (x y : ℕ) → x < length c.declarations → y < length c.declarations → is_register (variable_at c.declarations x) ≡ true → is_register (variable_at c.declarations y) ≡ true
             → nat_eq (c.register x) (c.register y) ≡ nat_eq x y
@@ -383,34 +453,10 @@ module _ (c : Layout) (seg : Segment) (loop : Loop) (i k j edge registers fields
           by true z = sym (eq-eqb x y (apart.registers_apart x y l h e f (eqb-true (c.register x) (c.register y) z)))
           by false z = sym (ne_eqb x y (λ g. eqb-false (c.register x) (c.register y) z (ap c.register g)))
 
-  gave-failed : (it : Iteration) (w : VertexState) (f : Fault) → ReceiverGave c v it w → ReceiverGave c v (failed it f) w
-  gave-failed it w f g = record { puts = g.puts; folds = g.folds; messages = g.messages; inner = g.inner; deferred = g.deferred }
+  pub gave-failed : (it : Iteration) (w : VertexState) (f : Fault) → Gave it w → Gave (failed it f) w
+  gave-failed it w f q = giving.stays it (failed it f) w w refl refl refl refl refl refl q
 
-  filter-last : (p : Contribution → Bool) (xs : List Contribution) (a : Contribution) → filter p (xs ++ a ∷ []) ≡ filter p xs ++ (if p a then a ∷ [] else [])
-  filter-last p [] a = by (p a) where
-    by : (b : Bool) → cond b (a ∷ []) [] ≡ (if b then a ∷ [] else [])
-    by true = refl
-    by false = refl
-  filter-last p (x ∷ xs) a = by (p x) (filter-last p xs a) where
-    by : (b : Bool) → filter p (xs ++ a ∷ []) ≡ filter p xs ++ (if p a then a ∷ [] else []) → cond b (x ∷ filter p (xs ++ a ∷ [])) (filter p (xs ++ a ∷ [])) ≡ cond b (x ∷ filter p xs) (filter p xs) ++ (if p a then a ∷ [] else [])
-    by true e = ap (λ l. x ∷ l) e
-    by false e = e
-
-  map-both : {A B : Type 0} (f : A → B) (xs ys : List A) → map f (xs ++ ys) ≡ map f xs ++ map f ys
-  map-both f [] ys = refl
-  map-both f (x ∷ xs) ys = ap (λ l. f x ∷ l) (map-both f xs ys)
-
-  -- one more of a sort, and none of the other
-  one-more : (p : Contribution → Bool) (xs : List Contribution) (a : Contribution) (gs : List Given) → gs ≡ map (given c v) (filter p xs) → p a ≡ true → gs ++ given c v a ∷ [] ≡ map (given c v) (filter p (xs ++ a ∷ []))
-  one-more p xs a gs e o =
-      ap (λ l. l ++ given c v a ∷ []) e
-      ∙ sym (ap (map (given c v)) (filter-last p xs a) ∙ map-both (given c v) (filter p xs) (if p a then a ∷ [] else []) ∙ ap (λ b. map (given c v) (filter p xs) ++ map (given c v) (if b then a ∷ [] else [])) o)
-
-  no-more : (p : Contribution → Bool) (xs : List Contribution) (a : Contribution) (gs : List Given) → gs ≡ map (given c v) (filter p xs) → p a ≡ false → gs ≡ map (given c v) (filter p (xs ++ a ∷ []))
-  no-more p xs a gs e o =
-      e ∙ sym (ap (map (given c v)) (filter-last p xs a) ∙ ap (λ b. map (given c v) (filter p xs ++ (if b then a ∷ [] else []))) o ∙ ap (map (given c v)) (append-nil (filter p xs)))
-
-  shows-given : (it : Iteration) (w u : VertexState) (a : Contribution) → ReceiverShows c loop i k j edge registers fields loads s it w → u.fields ≡ w.fields → u.registers ≡ w.registers → ReceiverShows c loop i k j edge registers fields loads s (gave_outermost it a) u
+  pub shows-given : (it : Iteration) (w u : VertexState) (a : Contribution) → ReceiverShows c loop i k j edge registers fields loads s it w → u.fields ≡ w.fields → u.registers ≡ w.registers → ReceiverShows c loop i k j edge registers fields loads s (gave_outermost it a) u
   shows-given it w u a q e f = record {
     fine = q.fine;
     node = q.node;
@@ -434,32 +480,14 @@ module _ (c : Layout) (seg : Segment) (loop : Loop) (i k j edge registers fields
     same it key (SenderDegree In) = refl
     same it key (EdgeValue p) = refl
 
-  folds : (it : Iteration) (w : VertexState) (a : Contribution) → are_of_scalars a.slots ≡ false → Shows it w → Shows (gave_outermost it a) (record w { folds = w.folds ++ given c v a ∷ [] })
-  folds it w a o q = (
-    shows-given it w (record w { folds = w.folds ++ given c v a ∷ [] }) a q.0 refl refl,
-    record {
-      puts = no-more is_to_scalars it.with_outermost a w.puts q.1.puts o;
-      folds = one-more is_to_nodes it.with_outermost a w.folds q.1.folds (ap not o);
-      messages = q.1.messages;
-      inner = q.1.inner;
-      deferred = q.1.deferred;
-    },
-  )
+  folds : (it : Iteration) (w : VertexState) (a : Contribution) → are_of_scalars a.slots ≡ false → is_sent out a ≡ false → Shows it w → Shows (gave_outermost it a) (record w { folds = w.folds ++ given c v a ∷ [] })
+  folds it w a o h q = (shows-given it w (record w { folds = w.folds ++ given c v a ∷ [] }) a q.0 refl refl, giving.folds it w a o h q.1)
 
   puts : (it : Iteration) (w : VertexState) (a : Contribution) → are_of_scalars a.slots ≡ true → Shows it w → Shows (gave_outermost it a) (record w { puts = w.puts ++ given c v a ∷ [] })
-  puts it w a o q = (
-    shows-given it w (record w { puts = w.puts ++ given c v a ∷ [] }) a q.0 refl refl,
-    record {
-      puts = one-more is_to_scalars it.with_outermost a w.puts q.1.puts o;
-      folds = no-more is_to_nodes it.with_outermost a w.folds q.1.folds (ap not o);
-      messages = q.1.messages;
-      inner = q.1.inner;
-      deferred = q.1.deferred;
-    },
-  )
+  puts it w a o q = (shows-given it w (record w { puts = w.puts ++ given c v a ∷ [] }) a q.0 refl refl, giving.puts it w a o q.1)
 
   abbrev Ended : List Line → List Line → VertexState → Iteration → Option Fault → Type 0
-  Ended = Ending v run Shows (ReceiverGave c v)
+  Ended = Ending v run Shows Gave
 
   put-case : (kind : ℕ) (key : Key) (total : TotalKey) (r : Reduce) (ts : List Target) (es : List Expr) (it : Iteration) (w : VertexState) (rest : List Line) → puts_to_scalars c found r ts es ≡ true → Shows it w
       → let out = does (S.Combine key total r ts es) m loop it in
@@ -471,31 +499,31 @@ module _ (c : Layout) (seg : Segment) (loop : Loop) (i k j edge registers fields
       let y = both-true (same_length (t ∷ ts) es) (list_all found es) z.1 in
       let out = does (S.Combine key total r (t ∷ ts) es) m loop it in
       subst (λ way. Ended (reduce_lines (receiver_site c seg n i loads) kind way key total r (t ∷ ts) (map (term v key) es)) rest w out out.fault) (sym (puts-way c i (t ∷ ts) x.0))
-      (put-ends c v loop m s run Shows (ReceiverGave c v) depth_is (λ r' place targets ls u. refl) (λ a u b. b.0.fine) (λ a u f b. gave-failed a u f b.1) puts
+      (put-ends c v loop m s run Shows Gave depth_is (λ r' place targets ls u. refl) (λ a u b. b.0.fine) (λ a u f b. gave-failed a u f b.1) puts
       key total r t ts es it w rest q x.0 y.0 (all-tell it w key es y.1 q))
 
-  fold-case : (kind : ℕ) (key : Key) (total : TotalKey) (r : Reduce) (ts : List Target) (es : List Expr) (it : Iteration) (w : VertexState) (rest : List Line) → folds_to c i found r ts es ≡ true → Shows it w
+  fold-case : (kind : ℕ) (key : Key) (total : TotalKey) (r : Reduce) (ts : List Target) (es : List Expr) (it : Iteration) (w : VertexState) (rest : List Line) → folds_to c i found r ts es ≡ true → list_all (is_taken_here out) ts ≡ true → Shows it w
       → let out = does (S.Combine key total r ts es) m loop it in
       Ended (reduce_lines (receiver_site c seg n i loads) kind (way_of c.declarations i ts) key total r ts (map (term v key) es)) rest w out out.fault
-  fold-case kind key total r [] es it w rest o q = absurd (both_ways false refl o)
-  fold-case kind key total r (t ∷ ts) es it w rest o q =
+  fold-case kind key total r [] es it w rest o h q = absurd (both_ways false refl o)
+  fold-case kind key total r (t ∷ ts) es it w rest o h q =
       let x = both-true (are_kept c i (t ∷ ts)) (same_length (t ∷ ts) es && list_all found es) o in
       let y = both-true (same_length (t ∷ ts) es) (list_all found es) x.1 in
-      let out = does (S.Combine key total r (t ∷ ts) es) m loop it in
-      subst (λ way. Ended (reduce_lines (receiver_site c seg n i loads) kind way key total r (t ∷ ts) (map (term v key) es)) rest w out out.fault) (sym (folds-way c i t ts x.0))
-      (fold-ends c v loop m s run Shows (ReceiverGave c v) i j two (λ r' place targets ls u. refl) (λ a u b. b.0.fine) (λ a u f b. gave-failed a u f b.1)
-      (λ a u key' b. ap (node_in loop.graph) b.0.at_node ∙ node-in loop.graph j b.0.inside) folds
-      key total r t ts es it w rest q x.0 y.0 (all-tell it w key es y.1 q))
+      let end = does (S.Combine key total r (t ∷ ts) es) m loop it in
+      subst (λ way. Ended (reduce_lines (receiver_site c seg n i loads) kind way key total r (t ∷ ts) (map (term v key) es)) rest w end end.fault) (sym (folds-way c i t ts x.0))
+      (fold-ends c v loop m s run Shows Gave i j two (λ r' place targets ls u. refl) (λ a u b. b.0.fine) (λ a u f b. gave-failed a u f b.1)
+      (λ a u key' b. ap (node_in loop.graph) b.0.at_node ∙ node-in loop.graph j b.0.inside) out folds
+      key total r t ts es it w rest q x.0 h y.0 (all-tell it w key es y.1 q))
 
-  reduce : (kind : ℕ) (key : Key) (total : TotalKey) (r : Reduce) (ts : List Target) (es : List Expr) (it : Iteration) (w : VertexState) (rest : List Line) → receiver_gives c i found r ts es ≡ true → Shows it w
+  reduce : (kind : ℕ) (key : Key) (total : TotalKey) (r : Reduce) (ts : List Target) (es : List Expr) (it : Iteration) (w : VertexState) (rest : List Line) → receiver_gives c i found r ts es ≡ true → list_all (is_taken_here out) ts ≡ true → Shows it w
       → let out = does (S.Combine key total r ts es) m loop it in
       Ended (reduce_lines (receiver_site c seg n i loads) kind (way_of c.declarations i ts) key total r ts (map (term v key) es)) rest w out out.fault
-  reduce kind key total r ts es it w rest o q = by (puts_to_scalars c found r ts es) refl where
+  reduce kind key total r ts es it w rest o h q = by (puts_to_scalars c found r ts es) refl where
     by : (b : Bool) → puts_to_scalars c found r ts es ≡ b
         → let out = does (S.Combine key total r ts es) m loop it in
         Ended (reduce_lines (receiver_site c seg n i loads) kind (way_of c.declarations i ts) key total r ts (map (term v key) es)) rest w out out.fault
     by true e = put-case kind key total r ts es it w rest e q
-    by false e = fold-case kind key total r ts es it w rest (or-false (puts_to_scalars c found r ts es) (folds_to c i found r ts es) e o) q
+    by false e = fold-case kind key total r ts es it w rest (or-false (puts_to_scalars c found r ts es) (folds_to c i found r ts es) e o) h q
 
   or-cases' : {A : Type 0} (a : Bool) {b : Bool} → a || b ≡ true → (a ≡ true → A) → (b ≡ true → A) → A
   or-cases' true h f g = f refl
@@ -570,7 +598,7 @@ module _ (c : Layout) (seg : Segment) (loop : Loop) (i k j edge registers fields
         register_count = length-set w.registers (c.spare_register b t) a ∙ q.0.register_count;
         field_count = q.0.field_count;
       },
-      record { puts = q.1.puts; folds = q.1.folds; messages = q.1.messages; inner = q.1.inner; deferred = q.1.deferred },
+      giving.stays it it w (record w { registers = slice_set w.registers (c.spare_register b t) a }) refl refl refl refl refl refl q.1,
     )
 
     local-held : (it : Iteration) (w : VertexState) (x : ℕ) → is_local c x ≡ true → Shows it w → term_value (view s w) (v.scalar x) ≡ Ok (it.store.scalar x)
@@ -579,7 +607,7 @@ module _ (c : Layout) (seg : Segment) (loop : Loop) (i k j edge registers fields
         scalar-by it w x q (λ j'. absurd (both_ways (nat_eq x n) (unlike_local x n d.1 unlike_outer) j'))
         (λ f g. (ltb-true x (length c.declarations) d.0, ap (λ z. z || is Sorts.Iterator (variable_at c.declarations x)) (both-true (is Sorts.Scalar (variable_at c.declarations x)) (not (nat_eq (variable_at c.declarations x).depth 0)) d.1).0))
 
-    receiver-tupled : (positions : ℕ) → HasSpares c registers positions → Tupled (receiver_site c seg n i loads) loop m k registers positions s run Shows (ReceiverGave c v) found (is_inner_target c)
+    receiver-tupled : (positions : ℕ) → HasSpares c registers positions → Tupled (receiver_site c seg n i loads) loop m k registers positions s run Shows Gave found (is_inner_target c)
     receiver-tupled positions spares =
         let local-of = λ (x : ℕ) (o : is_inner_local c x ≡ true). (both-true (is_local c x) (nat_lt 1 (variable_at c.declarations x).depth) o).0 in
         record {
@@ -614,26 +642,26 @@ module _ (c : Layout) (seg : Segment) (loop : Loop) (i k j edge registers fields
         let out = does (S.Combine key total r all es) m loop it in
         let less : length all < positions = omega arith in
         subst (λ way. Ended (reduce_lines (receiver_site c seg n i loads) kind way key total r all (map (term v key) es)) rest w out out.fault) (sym (inside-way c loop depth_is i found r all es o))
-        (tuple-goes (receiver_site c seg n i loads) loop m k registers positions s run Shows (ReceiverGave c v) found (is_inner_target c) (receiver-tupled positions spares) spares
+        (tuple-goes (receiver_site c seg n i loads) loop m k registers positions s run Shows Gave found (is_inner_target c) (receiver-tupled positions spares) spares
         key total r t u ts es (types_of_all c table around result loop m key total r t u ts es it k x.some ready.0) it w rest x.keeps x.inner (own-distinct k all x.distinct) x.long x.found_all less q
         (held-typed c table around result loop m key total r t u ts es it k x.some ready.0) (new-typed c table around result loop m key total r t u ts es it k x.some ready.0))
 
-    message-case : (kind : ℕ) (key : Key) (total : TotalKey) (r : Reduce) (ts : List Target) (es : List Expr) (it : Iteration) (w : VertexState) (rest : List Line)
-        → inner_gives c i found r ts es ≡ true → Ready kind (S.Combine key total r ts es) it → Shows it w
+    pub message-case : (kind : ℕ) (key : Key) (total : TotalKey) (r : Reduce) (ts : List Target) (es : List Expr) (it : Iteration) (w : VertexState) (rest : List Line)
+        → inner_gives c i found r ts es ≡ true → list_all (is_taken_here out) ts ≡ true → Ready kind (S.Combine key total r ts es) it → Shows it w
         → let out = does (S.Combine key total r ts es) m loop it in
         Ended (reduce_lines (receiver_site c seg n i loads) kind (way_of c.declarations i ts) key total r ts (map (term v key) es)) rest w out out.fault
-    message-case kind key total r ts es it w rest o typed q = by (receiver_gives c i found r ts es) refl where
+    message-case kind key total r ts es it w rest o taken typed q = by (receiver_gives c i found r ts es) refl where
       by : (b : Bool) → receiver_gives c i found r ts es ≡ b
           → let out = does (S.Combine key total r ts es) m loop it in
           Ended (reduce_lines (receiver_site c seg n i loads) kind (way_of c.declarations i ts) key total r ts (map (term v key) es)) rest w out out.fault
-      by true e = reduce kind key total r ts es it w rest e q
+      by true e = reduce kind key total r ts es it w rest e taken q
       by false e =
           or-cases' (picks_inside c found r ts es) (or-false (receiver_gives c i found r ts es) (picks_inside c found r ts es || tuples_inside c found r ts es) e o)
           (λ h. pick-case kind key total r ts es it w rest h typed.0 q) (λ h. tuple-case kind key total r ts es it w rest h typed q)
 
     -- a receiver's site holds
-    pub receiver-holds : Holds (receiver_site c seg n i loads) loop m s run Shows (ReceiverGave c v) found sets_nothing (inner_gives c i found) Ready
-    receiver-holds =
+    pub receiver-holds : ((ts : List Target) → list_all (is_taken_here out) ts ≡ true) → Holds (receiver_site c seg n i loads) loop m s run Shows Gave found sets_nothing (inner_gives c i found) Ready
+    receiver-holds nothing =
         let types = parts-typed c table around result loop m in
         record {
           type_is = type_is;
@@ -650,8 +678,46 @@ module _ (c : Layout) (seg : Segment) (loop : Loop) (i k j edge registers fields
           placed_second = λ kind a b it h e. (types.second a b it h.0, spares-second c registers (body_positions c.declarations a) (body_positions c.declarations b) h.1);
           placed_yes = λ kind k e a b it h. (types.yes k e a b it h.0, spares-first c registers (body_positions c.declarations a) (body_positions c.declarations b) h.1);
           placed_no = λ kind k e a b it h. (types.no k e a b it h.0, spares-second c registers (body_positions c.declarations a) (body_positions c.declarations b) h.1);
-          reduce = λ kind key total r ts es it w rest o h q. message-case kind key total r ts es it w rest o h q;
+          reduce = λ kind key total r ts es it w rest o h q. message-case kind key total r ts es it w rest o (nothing ts) h q;
         }
+
+-- where a handler begins
+module _ (c : Layout) (registers : List VType) (fields : ℕ) (loop : Loop) (i : ℕ) (loads : List Load) (key : Key) (s : VertexContext) (fs : List Value) (k edge : ℕ) (r : Store)
+    (inner : is_register (variable_at c.declarations i) ≡ false) (two : nat_eq i loop.outer ≡ false) (graph : s.graph ≡ loop.graph)
+    (shows : MessageShows c loop.graph registers fields s.globals fs s.message loop.outer loads (view_in loop (AtEdge edge) (begun r) key) k s.node r) where
+  turned : (x y : ℕ) → nat_eq x y ≡ false → nat_eq y x ≡ false
+  turned x y e = ne_eqb y x (λ z. eqb-false x y e (sym z))
+
+  pub receiver-begins : ReceiverShows c loop i k s.node edge (length registers) fields loads s (begun (write r (Scalar i) (At (Some s.node)))) (begin registers fs)
+  receiver-begins = record {
+    fine = refl;
+    node = refl;
+    graph = graph;
+    from_inside = shows.from_inside;
+    inside = shows.inside;
+    at_sender = ap (λ b. if b then At (Some s.node) else r.scalar loop.outer) two ∙ shows.sender;
+    at_node = ap (λ b. if b then At (Some s.node) else r.scalar i) (eq-eqb i i refl);
+    phase = λ x f h lt e g. shows.scalar x f lt e g ∙ sym (ap (λ b. if b then At (Some s.node) else r.scalar x) (turned x i h));
+    in_graph = λ x f h lt e. subst (IsInGraph loop.graph) (sym (ap (λ b. if b then At (Some s.node) else r.scalar x) (turned x i h))) (shows.in_graph x f lt e);
+    locals = λ x lt e. shows.locals x lt e ∙ sym (ap (λ b. if b then At (Some s.node) else r.scalar x) (unlike x e));
+    properties = shows.properties;
+    carries = λ key' load o. shows.carries load o ∙ same key' load;
+    register_count = length-map zero_of registers;
+    field_count = shows.field_count;
+  } where
+    unlike : (x : ℕ) → is_register (variable_at c.declarations x) ≡ true → nat_eq i x ≡ false
+    unlike x e = ne_eqb i x (λ z. both_ways (is_register (variable_at c.declarations x)) (ap (λ b. is_register (variable_at c.declarations b)) (sym z) ∙ inner) e)
+
+    length-map : {A B : Type 0} (f : A → B) (xs : List A) → length (map f xs) ≡ length xs
+    length-map f [] = refl
+    length-map f (x ∷ xs) = ap suc (length-map f xs)
+
+    same : (key' : Key) (load : Load) → load_value (view_in loop (AtEdge edge) (begun r) key) k load ≡ load_value (view_in loop (AtEdge edge) (begun (write r (Scalar i) (At (Some s.node)))) key') k load
+    same key' SenderItself = refl
+    same key' (SenderProperty p) = refl
+    same key' (SenderDegree Out) = refl
+    same key' (SenderDegree In) = refl
+    same key' (EdgeValue p) = refl
 
 -- a handler's run
 module _ (c : Layout) (seg : Segment) (registers : List VType) (fields : ℕ) (loop : Loop) (i : ℕ) (loads : List Load) (kind : ℕ) (key : Key) (test : Expr) (body : Stmt)
@@ -670,48 +736,17 @@ module _ (c : Layout) (seg : Segment) (registers : List VType) (fields : ℕ) (l
   abbrev w_env : Env
   w_env = receiver_env c seg loop.outer i loads
 
-  turned : (x y : ℕ) → nat_eq x y ≡ false → nat_eq y x ≡ false
-  turned x y e = ne_eqb y x (λ z. eqb-false x y e (sym z))
+  abbrev sh : Iteration → VertexState → Type 0
+  sh = Shows c seg loop i k s.node edge (length registers) fields loads s able.apart able.outer able.inner able.two able.types able.depths [] (λ it w. ReceiverGave c w_env it w) (receiver-giving c w_env)
 
-  begins : Shows c seg loop i k s.node edge (length registers) fields loads s able.apart able.outer able.inner able.two able.types able.depths start first
-  begins = (
-    record {
-      fine = refl;
-      node = refl;
-      graph = graph;
-      from_inside = shows.from_inside;
-      inside = shows.inside;
-      at_sender = ap (λ b. if b then At (Some s.node) else r.scalar loop.outer) able.two ∙ shows.sender;
-      at_node = ap (λ b. if b then At (Some s.node) else r.scalar i) (eq-eqb i i refl);
-      phase = λ x f h lt e g. shows.scalar x f lt e g ∙ sym (ap (λ b. if b then At (Some s.node) else r.scalar x) (turned x i h));
-      in_graph = λ x f h lt e. subst (IsInGraph loop.graph) (sym (ap (λ b. if b then At (Some s.node) else r.scalar x) (turned x i h))) (shows.in_graph x f lt e);
-      locals = λ x lt e. shows.locals x lt e ∙ sym (ap (λ b. if b then At (Some s.node) else r.scalar x) (unlike x e));
-      properties = shows.properties;
-      carries = λ key' load o. shows.carries load o ∙ same key' load;
-      register_count = length-map zero_of registers;
-      field_count = shows.field_count;
-    },
-    record { puts = refl; folds = refl; messages = refl; inner = refl; deferred = refl },
-  ) where
-    unlike : (x : ℕ) → is_register (variable_at c.declarations x) ≡ true → nat_eq i x ≡ false
-    unlike x e = ne_eqb i x (λ z. both_ways (is_register (variable_at c.declarations x)) (ap (λ b. is_register (variable_at c.declarations b)) (sym z) ∙ able.inner) e)
-
-    length-map : {A B : Type 0} (f : A → B) (xs : List A) → length (map f xs) ≡ length xs
-    length-map f [] = refl
-    length-map f (x ∷ xs) = ap suc (length-map f xs)
-
-    same : (key' : Key) (load : Load) → load_value (view_in loop (AtEdge edge) (begun r) key) k load ≡ load_value (view_in loop (AtEdge edge) start key') k load
-    same key' SenderItself = refl
-    same key' (SenderProperty p) = refl
-    same key' (SenderDegree Out) = refl
-    same key' (SenderDegree In) = refl
-    same key' (EdgeValue p) = refl
+  begins : sh start first
+  begins = (receiver-begins c registers fields loop i loads key s fs k edge r able.inner able.two graph shows, record { puts = refl; folds = refl; messages = refl; inner = refl; deferred = refl })
 
   abbrev lines : List Line
   lines = handler_lines c seg loop.outer i loads kind key test body
 
   ends-as : (f : Option Fault)
-      → Ending w_env (lines_after s) (Shows c seg loop i k s.node edge (length registers) fields loads s able.apart able.outer able.inner able.two able.types able.depths) (ReceiverGave c w_env) lines [] first out f
+      → Ending w_env (lines_after s) sh (ReceiverGave c w_env) lines [] first out f
       → RunEnds c w_env out (lines_after s lines 0 first) f
   ends-as None e =
       subst (λ a. RunEnds c w_env out a None) (sym (ap (λ ls. lines_after s ls 0 first) (sym (append-nil lines)) ∙ e.2)) (refl, e.1.1)
@@ -720,10 +755,9 @@ module _ (c : Layout) (seg : Segment) (registers : List VType) (fields : ℕ) (l
 
   pub handler-run : Typed c table around result loop body start → RunEnds c w_env out (lines_after s lines 0 first) out.fault
   handler-run typed =
-      let sh = Shows c seg loop i k s.node edge (length registers) fields loads s able.apart able.outer able.inner able.two able.types able.depths in
       ends-as out.fault (
       filtered-ends (receiver_site c seg loop.outer i loads) loop (AtEdge edge) s (lines_after s) sh (ReceiverGave c w_env) (receiver_finds c loop.outer i loads) sets_nothing (inner_gives c i (receiver_finds c loop.outer i loads))
-      (receiver-holds c seg loop i k s.node edge (length registers) fields loads s able.apart able.outer able.inner able.two able.types able.depths table around result)
+      (receiver-holds c seg loop i k s.node edge (length registers) fields loads s able.apart able.outer able.inner able.two able.types able.depths [] (λ it w. ReceiverGave c w_env it w) (receiver-giving c w_env) table around result nothing-sent)
       key test body kind able.found able.fits start (typed, able.spares) first [] begins)
 
 pub handlers-are-turns : HandlersAreTurns

@@ -370,7 +370,7 @@ module _ (c : Layout) (p : image.Program) (fields base : ℕ) (all : List Spot) 
     ended-give j total r' (t ∷ ts) es it o q f a =
         or-cases (puts_to_scalars c loose r' (t ∷ ts) es) (folds_to c i loose r' (t ∷ ts) es) o
         (λ z. put-gives-at c its true false n loop m home able.depths all (IsReceived c e.node all) (put-received c e.node all) j total r' (t ∷ ts) es it z q f a)
-        (λ z. fold-gives c its true i e.node loop m home able.two all j total r' (t ∷ ts) es it z q (at-j it q) (total-in j total t ts (both-true (are_kept c i (t ∷ ts)) (same_length (t ∷ ts) es && list_all loose es) z).0 f) a)
+        (λ z. fold-gives c its true i e.node loop m home able.two all (IsReceived c e.node all) (λ y w. w) j total r' (t ∷ ts) es it z q (at-j it q) (total-in j total t ts (both-true (are_kept c i (t ∷ ts)) (same_length (t ∷ ts) es && list_all loose es) z).0 f) a)
 
     reductions-give : (j : Key) (total : TotalKey) (r' : Reduce) (ts : List Target) (es : List Expr) (it : Iteration) → inner_gives c i loose r' ts es ≡ true → Ready (P.Combine j total r' ts es) it → HoldNodes g its home it
         → ((f : Spot) → HasSpot f (reduce_spots false its (way_of c.declarations n ts) j total ts) → HasSpot f all)

@@ -1,800 +1,214 @@
 -- A message loop is two supersteps.
-use Rattle.std.proofs.Common.{◌≡◌, ◌≢◌, ◌<◌, ◌≤◌, inl, inr, ℕ, zero, suc, Bool, true, false, cond, Option, Some, None, Ok, List, [], ◌∷◌, ◌++◌, length, map, refl, ap, ◌∙◌, sym, subst, arith, add-one, append_assoc, ⊎_elim}
-use Rattle.std.specs.Prelude.{◌+◌, ◌&&◌, ◌||◌, nat_lt, nat_eq, not, filter, slice_index_or, if◌then◌else◌}
-use Rattle.std.specs.List.{list_all, flat_map, enumerate_from}
-use Rattle.std.proofs.Math.Path.{fun_ext}
-use Rattle.std.proofs.lemmas.List.{append-nil}
-use Rattle.std.proofs.lemmas.Bool.{both_ways, ne_eqb, eq-eqb, eqb-true, ltb-true, lt-ltb, cases_lt}
+use Rattle.std.proofs.Common.{◌≡◌, ◌<◌, ℕ, Option, Some, None, Ok, List, [], ◌++◌, length, map, refl, ap, ◌∙◌, sym, subst}
+use Rattle.std.specs.Prelude.{◌+◌, slice_index_or}
 use Rattle.gm_base.specs.declared.places.Place.{Place}
+use Rattle.gm_value.specs.declared.values.VType.{VType}
 use Rattle.gm_value.specs.declared.values.Value.{Value}
 use Rattle.gm_value.specs.Bag.{IsIn, SameBag, same_nil, same_cons, same_swap, same_trans}
-use Rattle.gm_value.specs.Numbers.{zero_of}
 use Rattle.gm_model.specs.Graphs.{NumberedGraph, Step, node_count}
 use Rattle.gm_ast.specs.declared.tree.Head.{Head}
 use Rattle.gm_ast.specs.declared.tree.Key.{Key}
 use Rattle.gm_ast.specs.Program as P
 use Rattle.gm_ast.specs.Program.{Expr, Stmt}
-use Rattle.gm_forms.proofs.Named.{both-true}
 use Rattle.gm_semantics.specs.declared.faults.Fault.{Fault}
-use Rattle.gm_semantics.specs.declared.slots.Slot.{Slot}
-use Rattle.gm_semantics.specs.declared.slots.Slot.TheVariants as slots
-use Rattle.gm_semantics.specs.Contributions as S
 use Rattle.gm_semantics.specs.Contributions.{Contribution, settled_store, total_faults}
 use Rattle.gm_semantics.specs.Faults.{least, somes, joined, unless_fault}
-use Rattle.gm_semantics.specs.Faults as F
-use Rattle.gm_semantics.specs.Loops.{left_at, own_left, parallel}
-use Rattle.gm_semantics.proofs.ContributionLaws.{IsIn-filter, IsIn-same, slots_eq-true, settled_store-same, total_faults-same}
+use Rattle.gm_semantics.specs.Loops.{parallel}
+use Rattle.gm_semantics.proofs.ContributionLaws.{IsIn-same, settled_store-same, total_faults-same}
 use Rattle.gm_semantics.proofs.Leasts.{lesser_of, least-append}
 use Rattle.gm_semantics.proofs.OrderLaws.{joined-same}
-use Rattle.gm_semantics.proofs.TargetLaws.{value-away}
 use Rattle.gm_semantics.specs.Iterations.{Loop, Iteration}
-use Rattle.gm_semantics.specs.Levels.{numbers_from, nodes}
-use Rattle.gm_semantics.specs.Statements.{variable_at}
-use Rattle.gm_semantics.specs.Stores.{Store, has_slot, read, overlaid}
-use Rattle.gm_semantics.specs.Laws.{OneReduction}
-use Rattle.gm_image.specs.Parts.{is_among}
+use Rattle.gm_semantics.specs.Levels.{nodes}
+use Rattle.gm_semantics.specs.Stores.{Store}
+use Rattle.gm_typed_stores.specs.Tells.{TypeTable}
 use Rattle.gm_image.specs.Program as image
-use Rattle.gm_machine.specs.declared.faults.Fault as M
-use Rattle.gm_machine.specs.Expressions.{value_at}
-use Rattle.gm_machine.specs.Faults.{lesser}
-use Rattle.gm_machine.specs.Machine.{Nodes, Stepped, context_at, block_at, inbox, all_steps, stepped, superstep}
-use Rattle.gm_machine.specs.Taking.{settled}
-use Rattle.gm_machine.specs.Vertex.{Message, After, vertex_after}
-use Rattle.gm_machine.proofs.LeastLaws.{least_right, least_from-right}
-use Rattle.gm_lowering.specs.Layouts.{Layout, is_global, is_register, has_value}
-use Rattle.gm_lowering.specs.Places.{Spot, Segment, segment, spots_in}
+use Rattle.gm_machine.specs.Machine.{Nodes, Stepped, block_at, superstep}
+use Rattle.gm_lowering.specs.Layouts.{Layout}
+use Rattle.gm_lowering.specs.Places.{Spot, segment, spots_in}
 use Rattle.gm_lowering.specs.Terms.{Env}
 use Rattle.gm_lowering.specs.Plans.{Load}
-use Rattle.gm_lowering.specs.Showing.{fault_of}
-use Rattle.gm_lowering.specs.MessageLoops.{IsMessageLoop, is_to_scalars, is_to_nodes}
+use Rattle.gm_lowering.specs.MessageLoops.{IsMessageLoop, TurnsTyped}
 use Rattle.gm_lowering.specs.Sends.{send_block}
-use Rattle.gm_lowering.specs.Receiving.{receive_block, given_by, faults_by, IsMessageOf, Receives, inner_spots}
+use Rattle.gm_lowering.specs.Receiving.{receive_block, given_by, faults_by, inner_spots}
 use Rattle.gm_lowering.specs.Phases.{GlobalsApart, NodesInGraph, EdgesShown, Shown, Leaves, StepIs, GivesApart, given_in}
-use Rattle.gm_lowering.specs.Settles.{HasSpot, fault_or_none, is_some_list, AreHeld, AreGiven, SettlesAlike, spot_of_fault, HaveRoom}
-use Rattle.gm_lowering.specs.Sites.{are_of_scalars, slot_at, given, phase_value}
+use Rattle.gm_lowering.specs.Settles.{fault_or_none, HaveRoom}
 use Rattle.gm_lowering.specs.TwoSupersteps.{StepsWithin, HasSender, MessageLoopsAreTwoSupersteps}
-use Rattle.gm_lowering.proofs.Own.{global-has_value, global-no_register}
-use Rattle.gm_lowering.proofs.FoldFacts.{IsReceived}
-use Rattle.gm_lowering.proofs.Givens.{here_at}
-use Rattle.gm_lowering.proofs.Orders.{lesser-lower}
-use Rattle.gm_lowering.proofs.Supersteps.{not-here, least-two}
-use Rattle.gm_lowering.proofs.PutFacts.{here}
-use Rattle.gm_lowering.proofs.Receiving.{received, spots-at, receiving-steps}
-use Rattle.gm_lowering.proofs.Regions.{value-filtered, fault-filtered, least-members, in-front, in-back, in-parts, part_of, parts_from, by-parts}
-use Rattle.gm_lowering.proofs.Settles.{somes-in, in-somes, filter-in, filter-map, total-spot, reductions-settle, least-is}
+use Rattle.gm_lowering.proofs.Receiving.{gave-of, nothing-joins, ran}
+use Rattle.gm_lowering.proofs.Received.{node_of, by_nodes, TookAll, took-all}
+use Rattle.gm_lowering.proofs.Regions.{by-parts}
+use Rattle.gm_lowering.proofs.Settles.{least-is}
 use Rattle.gm_lowering.proofs.MessageTurns as T
-use Rattle.gm_lowering.proofs.MessageTurns.{MessageLoop, map-both}
+use Rattle.gm_lowering.proofs.MessageTurns.{MessageLoop}
 
-module _ (start_of : MessageLoop) where
-  abbrev c : Layout
-  c = start_of.c
+-- turns in the order of the nodes that they reach give the same in another order
+pub same-given : {A : Type 0} (g : NumberedGraph) (turns : List (ℕ × Step)) (f : ℕ × Step → List A) → ((x : ℕ × Step) → IsIn x turns → x.1.node < node_count g)
+    → SameBag (joined (map f turns)) (joined (map f (by_nodes g turns)))
+same-given g turns f inside = joined-same f (by-parts node_of turns (node_count g) inside)
 
-  abbrev p : image.Program
-  p = start_of.p
+-- so they give apart alike
+pub apart-given : (xs ys : List Contribution) → SameBag xs ys → GivesApart xs → GivesApart ys
+apart-given xs ys same apart = record {
+  one = λ x y slot o w e f. apart.one x y slot (back x o) (back y w) e f;
+  one_total = λ x y o w e f. apart.one_total x y (back x o) (back y w) e f;
+} where
+  turned : {A : Type 0} {xs ys : List A} → SameBag xs ys → SameBag ys xs
+  turned same_nil = same_nil
+  turned (same_cons x w) = same_cons x (turned w)
+  turned (same_swap x y xs) = same_swap y x xs
+  turned (same_trans w u) = same_trans (turned u) (turned w)
 
-  abbrev fields : ℕ
-  fields = start_of.fields
+  back : (y : Contribution) → IsIn y ys → IsIn y xs
+  back y o = IsIn-same y (turned same) o
 
-  abbrev base : ℕ
-  base = start_of.base
-
-  abbrev q : ℕ
-  q = start_of.q
-
-  abbrev q2 : ℕ
-  q2 = start_of.q2
-
-  abbrev kind : ℕ
-  kind = start_of.kind
-
-  abbrev all : List Spot
-  all = start_of.all
-
-  abbrev loop : Loop
-  loop = start_of.loop
-
-  abbrev mask_key : Key
-  mask_key = start_of.mask_key
-
-  abbrev mask : Expr
-  mask = start_of.mask
-
-  abbrev key : Key
-  key = start_of.key
-
-  abbrev place : Place
-  place = start_of.place
-
-  abbrev h : Head
-  h = start_of.h
-
-  abbrev test : Expr
-  test = start_of.test
-
-  abbrev body : Stmt
-  body = start_of.body
-
-  abbrev loads : List Load
-  loads = start_of.loads
-
-  abbrev globals : List Value
-  globals = start_of.globals
-
-  abbrev s : Nodes
-  s = start_of.s
-
-  abbrev r : Store
-  r = start_of.r
-
-  abbrev sender : HasSender c loop mask_key mask h loads
-  sender = start_of.sender
-
-  abbrev able : IsMessageLoop c p.registers fields loop h.iterator loads test body
-  able = start_of.able
-
-  abbrev gs : GlobalsApart c (length globals)
-  gs = start_of.gs
-
-  abbrev all_is : all ≡ spots_in mask mask_key ++ inner_spots c loop.outer h.iterator key test body
-  all_is = start_of.all_is
-
-  abbrev fit : HaveRoom base all (length p.places)
-  fit = start_of.fit
-
-  abbrev block : block_at p q ≡ send_block c (segment base all) loop.outer mask_key mask h.domain kind loads
-  block = start_of.block
-
-  abbrev block2 : block_at p q2 ≡ receive_block c (segment base all) loop.outer h.iterator loads kind key test body
-  block2 = start_of.block2
-
-  abbrev shown : Shown c p.registers fields loop.graph globals s r
-  shown = start_of.shown
-
-  abbrev edges : EdgesShown c loop.graph r
-  edges = start_of.edges
-
-  abbrev in_graph : NodesInGraph c loop.graph r
-  in_graph = start_of.in_graph
-
-  abbrev within : StepsWithin loop.graph h.domain
-  within = start_of.within
-
-  abbrev apart : GivesApart (given_in loop mask_key mask (P.Foreach key place h test body) r)
-  apart = start_of.apart
-
-  abbrev n : ℕ
-  n = T.n start_of
-
-  abbrev i : ℕ
-  i = T.i start_of
-
+module _ (c : Layout) (p : image.Program) (fields base q q2 kind : ℕ) (all : List Spot) (loop : Loop) (mask_key : Key) (mask : Expr) (key : Key) (place : Place) (h : Head) (test : Expr) (body : Stmt) (loads : List Load)
+    (globals : List Value) (s : Nodes) (r : Store) (table : TypeTable) (around : List ℕ) (result : Option VType)
+    (sender : HasSender c loop mask_key mask h loads)
+    (able : IsMessageLoop c p.registers fields loop h.iterator loads test body)
+    (typed : TurnsTyped c table around result loop h.iterator body r)
+    (gs : GlobalsApart c (length globals))
+    (all_is : all ≡ spots_in mask mask_key ++ inner_spots c loop.outer h.iterator key test body)
+    (fit : HaveRoom base all (length p.places))
+    (block : block_at p q ≡ send_block c (segment base all) loop.outer mask_key mask h.domain kind loads)
+    (block2 : block_at p q2 ≡ receive_block c (segment base all) loop.outer h.iterator loads kind key test body)
+    (shown : Shown c p.registers fields loop.graph globals s r)
+    (edges : EdgesShown c loop.graph r)
+    (in_graph : NodesInGraph c loop.graph r)
+    (within : StepsWithin loop.graph h.domain)
+    (apart : GivesApart (given_in loop mask_key mask (P.Foreach key place h test body) r)) where
   abbrev g : NumberedGraph
-  g = T.g start_of
+  g = loop.graph
 
-  abbrev seg : Segment
-  seg = T.seg start_of
+  abbrev first_step : MessageLoop
+  first_step = record {
+    c = c;
+    p = p;
+    fields = fields;
+    base = base;
+    q = q;
+    kind = kind;
+    all = all;
+    loop = loop;
+    mask_key = mask_key;
+    mask = mask;
+    key = key;
+    place = place;
+    h = h;
+    test = test;
+    body = body;
+    loads = loads;
+    globals = globals;
+    s = s;
+    r = r;
+    sender = sender;
+    rows = able.apart;
+    outer = able.outer;
+    types = able.types;
+    depths = able.depths;
+    all_is = all_is;
+    block = block;
+    shown = shown;
+    edges = edges;
+    in_graph = in_graph;
+    within = within;
+  }
 
   abbrev v : Env
-  v = T.v start_of
+  v = T.v first_step
 
-  abbrev fields_at : ℕ → List Value
-  fields_at = T.fields_at start_of
-
-  abbrev turns_of : ℕ → List (ℕ × Step)
-  turns_of = T.turns_of start_of
-
-  abbrev turns_from : ℕ → ℕ → List (ℕ × Step)
-  turns_from = T.turns_from start_of
-
-  abbrev all_turns : List (ℕ × Step)
-  all_turns = T.all_turns start_of
-
-  abbrev msg : ℕ × Step → Message
-  msg = T.msg start_of
-
-  abbrev first : Stepped
-  first = T.first start_of
-
-  abbrev node_of : ℕ × Step → ℕ
-  node_of = T.node_of start_of
+  abbrev turns : List (ℕ × Step)
+  turns = T.all_turns first_step
 
   abbrev turn : ℕ × Step → Iteration
-  turn = T.turn start_of
+  turn = T.turn first_step
 
-  abbrev inner : Stmt
-  inner = T.inner start_of
+  abbrev first : Stepped
+  first = T.first first_step
 
-  abbrev it : ℕ → Iteration
-  it = T.it start_of
-
-  -- all iterations
-  joined-both : {A : Type 0} (xs ys : List (ℕ × Step)) (f : ℕ × Step → List A) → joined (map f (xs ++ ys)) ≡ joined (map f xs) ++ joined (map f ys)
-  joined-both [] ys f = refl
-  joined-both (x ∷ xs) ys f = ap (λ l. f x ++ l) (joined-both xs ys f) ∙ sym (append_assoc (f x) (joined (map f xs)) (joined (map f ys)))
-
-  given-from : (a m : ℕ) → a + m ≤ node_count g → joined (map (λ x. x.with_outermost) (map it (numbers_from a m))) ≡ given_by turn (turns_from a m)
-  given-from a zero le = refl
-  given-from a (suc m) le =
-      ap (λ l. l ++ joined (map (λ x. x.with_outermost) (map it (numbers_from (suc a) m)))) (T.iteration-is start_of a (omega arith)).given
-      ∙ ap (λ l. given_by turn (turns_of a) ++ l) (given-from (suc a) m (omega arith))
-      ∙ sym (joined-both (turns_of a) (turns_from (suc a) m) (λ x. (turn x).with_outermost))
-
-  deferred-from : (a m : ℕ) → a + m ≤ node_count g → joined (map (λ x. x.deferred) (map it (numbers_from a m))) ≡ []
-  deferred-from a zero le = refl
-  deferred-from a (suc m) le =
-      ap (λ l. l ++ joined (map (λ x. x.deferred) (map it (numbers_from (suc a) m)))) (T.iteration-is start_of a (omega arith)).deferred ∙ deferred-from (suc a) m (omega arith)
-
-  somes-both : (xs ys : List (Option Fault)) → somes (xs ++ ys) ≡ somes xs ++ somes ys
-  somes-both [] ys = refl
-  somes-both (None ∷ xs) ys = somes-both xs ys
-  somes-both (Some f ∷ xs) ys = ap (λ l. f ∷ l) (somes-both xs ys)
-
-  faults-both : (xs ys : List (ℕ × Step)) → faults_by turn (xs ++ ys) ≡ faults_by turn xs ++ faults_by turn ys
-  faults-both xs ys = ap somes (map-both (λ x. (turn x).fault) xs ys) ∙ somes-both (map (λ x. (turn x).fault) xs) (map (λ x. (turn x).fault) ys)
-
-  faults-from : (a m : ℕ) → a + m ≤ node_count g → least (somes (map (λ x. x.fault) (map it (numbers_from a m)))) ≡ least (faults_by turn (turns_from a m))
-  faults-from a zero le = refl
-  faults-from a (suc m) le =
-      ap (λ o. least (somes (o ∷ map (λ x. x.fault) (map it (numbers_from (suc a) m))))) (T.iteration-is start_of a (omega arith)).fault
-      ∙ one (least (faults_by turn (turns_of a))) (map (λ x. x.fault) (map it (numbers_from (suc a) m)))
-      ∙ ap (lesser_of (least (faults_by turn (turns_of a)))) (faults-from (suc a) m (omega arith))
-      ∙ sym (least-append (faults_by turn (turns_of a)) (faults_by turn (turns_from (suc a) m)))
-      ∙ ap least (sym (faults-both (turns_of a) (turns_from (suc a) m))) where
-        one : (o : Option Fault) (os : List (Option Fault)) → least (somes (o ∷ os)) ≡ lesser_of o (least (somes os))
-        one None os = refl
-        one (Some f) os = refl
-
-  -- the store between the own writes and the contributions is the first one
-  left-same : (a m y k : ℕ) → a + m ≤ node_count g → left_at (numbers_from a m) (map it (numbers_from a m)) r y k ≡ r.node y k
-  left-same a zero y k le = refl
-  left-same a (suc m) y k le = by (nat_eq a k) ((T.iteration-is start_of a (omega arith)).node y k) (left-same (suc a) m y k (omega arith)) where
-    by : (b : Bool) {x z : Value} → x ≡ r.node y k → z ≡ r.node y k → (if b then x else z) ≡ r.node y k
-    by true e f = e
-    by false e f = f
-
-  abbrev its : List Iteration
-  its = map it (nodes g)
-
-  own-is : own_left r (nodes g) its ≡ r
-  own-is = ap (λ f. record r { node = f }) (fun_ext (λ y. fun_ext (λ k. left-same 0 (node_count g) y k (omega arith))))
-
-  -- contributions, in the order of the senders and in that of the receivers
-  abbrev part : ℕ → List (ℕ × Step)
-  part j = part_of node_of all_turns j
-
-  abbrev parts : ℕ → ℕ → List (ℕ × Step)
-  parts a m = parts_from node_of all_turns a m
-
-  abbrev sent_order : List Contribution
-  sent_order = given_by turn all_turns
-
-  abbrev given_order : List Contribution
-  given_order = given_by turn (parts 0 (node_count g))
-
-  same-bag : SameBag sent_order given_order
-  same-bag = joined-same (λ x. (turn x).with_outermost) (by-parts node_of all_turns (node_count g) (λ x o. (T.turn-inside start_of x o).1))
-
-  given-is : given_in loop mask_key mask inner r ≡ sent_order
-  given-is = given-from 0 (node_count g) (omega arith)
-
-  apart-sent : GivesApart sent_order
-  apart-sent = subst GivesApart given-is apart
-
-  back : (y : Contribution) → IsIn y given_order → IsIn y sent_order
-  back y o = IsIn-same y (turned same-bag) o where
-    turned : {A : Type 0} {xs ys : List A} → SameBag xs ys → SameBag ys xs
-    turned same_nil = same_nil
-    turned (same_cons x w) = same_cons x (turned w)
-    turned (same_swap x y xs) = same_swap y x xs
-    turned (same_trans w u) = same_trans (turned u) (turned w)
-
-  part-in : (j : ℕ) (x : ℕ × Step) → IsIn x (part j) → IsIn x all_turns × (x.1.node ≡ j)
-  part-in j x o = let t = IsIn-filter (λ y. nat_eq (node_of y) j) x all_turns o in (t.0, eqb-true x.1.node j t.1)
-
-  -- what is given by a turn in a part
-  in-given : (xs : List (ℕ × Step)) (y : Contribution) → IsIn y (given_by turn xs) → (x : ℕ × Step) × IsIn x xs × IsIn y (turn x).with_outermost
-  in-given [] y o = absurd o
-  in-given (x ∷ xs) y o =
-      ⊎_elim (λ (w : IsIn y (turn x).with_outermost). (x, inl refl, w)) (λ (w : IsIn y (given_by turn xs)). let t = in-given xs y w in (t.0, inr t.1, t.2)) (in-parts y (turn x).with_outermost (given_by turn xs) o)
-
-  given-in : (xs : List (ℕ × Step)) (y : Contribution) (x : ℕ × Step) → IsIn x xs → IsIn y (turn x).with_outermost → IsIn y (given_by turn xs)
-  given-in [] y x o w = o
-  given-in (z ∷ xs) y x o w =
-      ⊎_elim
-      (λ (e : x ≡ z). in-front y (turn z).with_outermost (given_by turn xs) (subst (λ u. IsIn y (turn u).with_outermost) e w))
-      (λ (u : IsIn x xs). in-back y (turn z).with_outermost (given_by turn xs) (given-in xs y x u w)) o
-
-  part-sent : (j : ℕ) (y : Contribution) → IsIn y (given_by turn (part j)) → IsIn y sent_order
-  part-sent j y o = let t = in-given (part j) y o in given-in all_turns y t.0 (part-in j t.0 t.1).0 t.2
-
-  in-some-part : (a m : ℕ) (y : Contribution) → a + m ≤ node_count g → IsIn y (given_by turn (parts a m)) → (j : ℕ) × (j < node_count g) × (a ≤ j) × (j < a + m) × IsIn y (given_by turn (part j))
-  in-some-part a zero y le o = absurd o
-  in-some-part a (suc m) y le o =
-      ⊎_elim
-      (λ (w : IsIn y (given_by turn (part a))). (a, omega arith, omega arith, omega arith, w))
-      (λ (w : IsIn y (given_by turn (parts (suc a) m))). let t = in-some-part (suc a) m y (omega arith) w in (t.0, t.1, omega arith, omega arith, t.4))
-      (in-parts y (given_by turn (part a)) (given_by turn (parts (suc a) m)) (subst (IsIn y) (joined-both (part a) (parts (suc a) m) (λ x. (turn x).with_outermost)) o))
-
-  part-given : (a m j : ℕ) (y : Contribution) → a ≤ j → j < a + m → IsIn y (given_by turn (part j)) → IsIn y (given_by turn (parts a m))
-  part-given a zero j y le lt o = absurd (omega arith)
-  part-given a (suc m) j y le lt o =
-      subst (IsIn y) (sym (joined-both (part a) (parts (suc a) m) (λ x. (turn x).with_outermost)))
-      (⊎_elim
-      (λ (less : a < j). in-back y (given_by turn (part a)) (given_by turn (parts (suc a) m)) (part-given (suc a) m j y (omega arith) (omega arith) o))
-      (λ (more : j ≤ a). let same : j ≡ a = omega arith in in-front y (given_by turn (part a)) (given_by turn (parts (suc a) m)) (subst (λ z. IsIn y (given_by turn (part z))) same o))
-      (cases_lt a j))
-
-  messages-of : (j : ℕ) (x : ℕ × Step) → IsIn x (part j) → IsMessageOf loop loads kind key r j x (msg x)
-  messages-of j x o = let t = part-in j x o in T.message-of start_of j x t.0 t.1
-
-  received-at : (j : ℕ) → j < node_count g → (y : Contribution) → IsIn y (given_by turn (part j)) → IsReceived c j all y
-  received-at j lt y o =
-      received c p fields base all loop i loads kind key test body globals (fields_at j) j r msg start_of.table start_of.around start_of.result able start_of.typed (T.incl start_of) fit (T.node-shows start_of j lt) (part j) (messages-of j) y o
-
-  abbrev to_nodes : ℕ → List Contribution
-  to_nodes j = filter is_to_nodes (given_by turn (part j))
-
-  apart-at : (j : ℕ) → GivesApart (to_nodes j)
-  apart-at j = record {
-    one = λ x y slot o w e f. apart-sent.one x y slot (part-sent j x (IsIn-filter is_to_nodes x (given_by turn (part j)) o).0) (part-sent j y (IsIn-filter is_to_nodes y (given_by turn (part j)) w).0) e f;
-    one_total = λ x y o w e f. apart-sent.one_total x y (part-sent j x (IsIn-filter is_to_nodes x (given_by turn (part j)) o).0) (part-sent j y (IsIn-filter is_to_nodes y (given_by turn (part j)) w).0) e f;
-  }
-
-  -- the second step of a vertex
-  abbrev two_step : ℕ × List Value → After
-  two_step x = vertex_after p (receive_block c seg n i loads kind key test body) (context_at g globals x.0) (inbox (map msg all_turns) x.0) x.1
-
-  abbrev faults_at : ℕ → List Fault
-  faults_at j = faults_by turn (part j) ++ total_faults r (to_nodes j)
-
-  inbox-is : (j : ℕ) → inbox (map msg all_turns) j ≡ map msg (part j)
-  inbox-is j = filter-map msg (λ m. nat_eq m.to j) all_turns
-
-  receives-at : (j : ℕ) → j < node_count g → Receives c v fields j r (given_by turn (part j)) (faults_by turn (part j)) (two_step (j, fields_at j))
-  receives-at j lt =
-      subst (λ ms. Receives c v fields j r (given_by turn (part j)) (faults_by turn (part j)) (vertex_after p (receive_block c seg n i loads kind key test body) (context_at g globals j) ms (fields_at j))) (sym (inbox-is j))
-      (receiving-steps c p fields base all loop i loads kind key test body globals (fields_at j) j r (part j) msg start_of.table start_of.around start_of.result able start_of.typed (T.incl start_of) fit (T.node-shows start_of j lt) (messages-of j) (apart-at j))
-
-  spots-of : (j : ℕ) → j < node_count g → (f : Fault) → IsIn f (faults_at j) → HasSpot (spot_of_fault f) all
-  spots-of j lt f o =
-      spots-at c p fields base all loop i loads kind key test body globals (fields_at j) j r msg start_of.table start_of.around start_of.result able start_of.typed (T.incl start_of) fit (T.node-shows start_of j lt) (part j) (messages-of j) (apart-at j) f o
-
-  abbrev AllReceive : ℕ → List (List Value) → Type 0
-  AllReceive a [] = Unit {0}
-  AllReceive a (fs ∷ fss) = (a < node_count g) × Receives c v fields a r (given_by turn (part a)) (faults_by turn (part a)) (two_step (a, fs)) × AllReceive (suc a) fss
-
-  all-receive : (a : ℕ) (fss : List (List Value)) → a + length fss ≤ node_count g → ((j : ℕ) → slice_index_or s.fields (a + j) [] ≡ slice_index_or fss j []) → AllReceive a fss
-  all-receive a [] le e = tt
-  all-receive a (fs ∷ fss) le e =
-      let same : fields_at a ≡ fs = ap fields_at (let z : a ≡ a + 0 = omega arith in z) ∙ e 0 in
-      let lt : a < node_count g = omega arith in (
-        lt,
-        subst (λ x. Receives c v fields a r (given_by turn (part a)) (faults_by turn (part a)) (two_step (a, x))) same (receives-at a lt),
-        all-receive (suc a) fss (omega arith) (λ j. ap (λ z. slice_index_or s.fields z []) (let z : suc a + j ≡ a + suc j = omega arith in z) ∙ e (suc j)),
-      )
-
-  abbrev twos : ℕ → List (List Value) → List After
-  twos a fss = map two_step (enumerate_from a fss)
-
-  next-twos : (a : ℕ) (fss : List (List Value)) → twos (a + 1) fss ≡ twos (suc a) fss
-  next-twos a fss = ap (λ j. twos j fss) (add-one a)
-
-  abbrev faults_between : ℕ → ℕ → List Fault
-  faults_between a m = flat_map faults_at (numbers_from a m)
-
-  spots-between : (a m : ℕ) → a + m ≤ node_count g → (f : Fault) → IsIn f (faults_between a m) → HasSpot (spot_of_fault f) all
-  spots-between a zero le f o = absurd o
-  spots-between a (suc m) le f o =
-      ⊎_elim (λ (w : IsIn f (faults_at a)). spots-of a (omega arith) f w) (λ (w : IsIn f (faults_between (suc a) m)). spots-between (suc a) m (omega arith) f w) (in-parts f (faults_at a) (faults_between (suc a) m) o)
-
-  low : (f k : Fault) → HasSpot (spot_of_fault f) all → HasSpot (spot_of_fault k) all → lesser (Some (fault_of v f)) (Some (fault_of v k)) ≡ Some (fault_of v (F.lower f k))
-  low f k a b = lesser-lower v base all refl f k a b
-
-  two-faults : (a : ℕ) (fss : List (List Value)) → a + length fss ≤ node_count g → AllReceive a fss → least_right (map (λ x. x.fault) (twos a fss)) ≡ fault_or_none v (least (faults_between a (length fss)))
-  two-faults a [] le e = refl
-  two-faults a (fs ∷ fss) le e =
-      ap (λ l. lesser (two_step (a, fs)).fault (least_right (map (λ x. x.fault) l))) (next-twos a fss)
-      ∙ ap (λ o. lesser o (least_right (map (λ x. x.fault) (twos (suc a) fss)))) e.1.fault
-      ∙ ap (lesser (fault_or_none v (least (faults_at a)))) (two-faults (suc a) fss (omega arith) e.2)
-      ∙ least-two v all low (faults_at a) (faults_between (suc a) (length fss)) (λ f o. spots-of a e.0 f o) (λ f o. spots-between (suc a) (length fss) (omega arith) f o)
-
-  filter-both : {A : Type 0} (t : A → Bool) (xs ys : List A) → filter t (xs ++ ys) ≡ filter t xs ++ filter t ys
-  filter-both t [] ys = refl
-  filter-both t (x ∷ xs) ys = by (t x) (filter-both t xs ys) where
-    by : (b : Bool) → filter t (xs ++ ys) ≡ filter t xs ++ filter t ys → cond b (x ∷ filter t (xs ++ ys)) (filter t (xs ++ ys)) ≡ cond b (x ∷ filter t xs) (filter t xs) ++ filter t ys
-    by true e = ap (λ l. x ∷ l) e
-    by false e = e
-
-  parts-given : (t : Contribution → Bool) (a m : ℕ) → filter t (given_by turn (parts a (suc m))) ≡ filter t (given_by turn (part a)) ++ filter t (given_by turn (parts (suc a) m))
-  parts-given t a m =
-      ap (filter t) (joined-both (part a) (parts (suc a) m) (λ x. (turn x).with_outermost)) ∙ filter-both t (given_by turn (part a)) (given_by turn (parts (suc a) m))
-
-  two-puts : (a : ℕ) (fss : List (List Value)) → AllReceive a fss → flat_map (λ x. x.state.puts) (twos a fss) ≡ map (given c v) (filter is_to_scalars (given_by turn (parts a (length fss))))
-  two-puts a [] e = refl
-  two-puts a (fs ∷ fss) e =
-      ap (λ l. (two_step (a, fs)).state.puts ++ flat_map (λ x. x.state.puts) l) (next-twos a fss)
-      ∙ ap (λ l. l ++ flat_map (λ x. x.state.puts) (twos (suc a) fss)) e.1.puts
-      ∙ ap (λ l. map (given c v) (filter is_to_scalars (given_by turn (part a))) ++ l) (two-puts (suc a) fss e.2)
-      ∙ sym (map-both (given c v) (filter is_to_scalars (given_by turn (part a))) (filter is_to_scalars (given_by turn (parts (suc a) (length fss)))))
-      ∙ ap (map (given c v)) (sym (parts-given is_to_scalars a (length fss)))
-
-  two-sent : (a : ℕ) (fss : List (List Value)) → AllReceive a fss → flat_map (λ x. x.state.messages) (twos a fss) ≡ []
-  two-sent a [] e = refl
-  two-sent a (fs ∷ fss) e =
-      ap (λ l. (two_step (a, fs)).state.messages ++ flat_map (λ x. x.state.messages) l) (next-twos a fss)
-      ∙ ap (λ l. l ++ flat_map (λ x. x.state.messages) (twos (suc a) fss)) e.1.messages
-      ∙ two-sent (suc a) fss e.2
-
-  two-length : (a : ℕ) (fss : List (List Value)) → length (map (λ x. x.state.fields) (twos a fss)) ≡ length fss
-  two-length a [] = refl
-  two-length a (fs ∷ fss) = ap suc (two-length (a + 1) fss)
-
-  two-fields : (a : ℕ) (fss : List (List Value)) (j : ℕ) → j < length fss → slice_index_or (map (λ x. x.state.fields) (twos a fss)) j [] ≡ (two_step (a + j, slice_index_or fss j [])).state.fields
-  two-fields a [] j lt = absurd (omega arith)
-  two-fields a (fs ∷ fss) zero lt = ap (λ z. (two_step (z, fs)).state.fields) (let z : a ≡ a + 0 = omega arith in z)
-  two-fields a (fs ∷ fss) (suc j) lt =
-      two-fields (a + 1) fss j (omega arith) ∙ ap (λ z. (two_step (z, slice_index_or fss j [])).state.fields) (let z : (a + 1) + j ≡ a + suc j = omega arith in z)
-
-  -- the contributions to one node's properties
-  abbrev at_node : ℕ → List Slot → Bool
-  at_node j [] = false
-  at_node j (slots.Scalar x ∷ xs) = false
-  at_node j (slots.Node y k ∷ xs) = nat_eq k j
-
-  abbrev goes_to : ℕ → Contribution → Bool
-  goes_to j x = at_node j x.slots
-
-  abbrev goes_to_scalars : Contribution → Bool
-  goes_to_scalars x = is_to_scalars x
-
-  -- of what is received at a node, what goes to a node
-  goes-here : (j k : ℕ) (xs : List Slot) → are_of_scalars xs ≡ false → list_all (here_at c k) xs ≡ true → is_some_list xs ≡ true → at_node j xs ≡ nat_eq k j
-  goes-here j k [] e o w = absurd (both_ways false refl w)
-  goes-here j k (slots.Scalar x ∷ xs) e o w = absurd (both_ways false refl (sym e))
-  goes-here j k (slots.Node y z ∷ xs) e o w =
-      let t = both-true (nat_eq z k && c.is_kept y) (list_all (here_at c k) xs) o in ap (λ u. nat_eq u j) (eqb-true z k (both-true (nat_eq z k) (c.is_kept y) t.0).0)
-
-  goes-not : (j : ℕ) (xs : List Slot) → are_of_scalars xs ≡ true → at_node j xs ≡ false
-  goes-not j [] e = refl
-  goes-not j (slots.Scalar x ∷ xs) e = refl
-  goes-not j (slots.Node y z ∷ xs) e = absurd (both_ways false refl e)
-
-  goes-of : (j k : ℕ) (x : Contribution) → IsReceived c k all x → goes_to j x ≡ (if is_to_scalars x then false else nat_eq k j)
-  goes-of j k x o = by (is_to_scalars x) refl where
-    by : (b : Bool) → is_to_scalars x ≡ b → goes_to j x ≡ (if b then false else nat_eq k j)
-    by true e = goes-not j x.slots e
-    by false e = goes-here j k x.slots e (o.nodes e) o.not_empty
-
-  filter-all : (t u : Contribution → Bool) (xs : List Contribution) → ((x : Contribution) → IsIn x xs → t x ≡ u x) → filter t xs ≡ filter u xs
-  filter-all t u [] e = refl
-  filter-all t u (x ∷ xs) e = ap (λ b. cond b (x ∷ filter t xs) (filter t xs)) (e x (inl refl)) ∙ ap (λ l. cond (u x) (x ∷ l) l) (filter-all t u xs (λ y o. e y (inr o)))
-
-  filter-no : (xs : List Contribution) → filter (λ x. false) xs ≡ []
-  filter-no [] = refl
-  filter-no (x ∷ xs) = filter-no xs
-
-  part-goes : (j k : ℕ) → k < node_count g → filter (goes_to j) (given_by turn (part k)) ≡ (if nat_eq k j then to_nodes k else [])
-  part-goes j k lt =
-      filter-all (goes_to j) (λ x. if is_to_scalars x then false else nat_eq k j) (given_by turn (part k)) (λ x o. goes-of j k x (received-at k lt x o)) ∙ by (nat_eq k j) where
-        by : (b : Bool) → filter (λ x. if is_to_scalars x then false else b) (given_by turn (part k)) ≡ (if b then to_nodes k else [])
-        by true = filter-all (λ x. if is_to_scalars x then false else true) is_to_nodes (given_by turn (part k)) (λ x o. either (is_to_scalars x)) where
-          either : (b : Bool) → (if b then false else true) ≡ not b
-          either true = refl
-          either false = refl
-        by false = filter-all (λ x. if is_to_scalars x then false else false) (λ x. false) (given_by turn (part k)) (λ x o. none (is_to_scalars x)) ∙ filter-no (given_by turn (part k)) where
-          none : (b : Bool) → (if b then false else false) ≡ false
-          none true = refl
-          none false = refl
-
-  parts-none : (j a m : ℕ) → a + m ≤ node_count g → j < a → filter (goes_to j) (given_by turn (parts a m)) ≡ []
-  parts-none j a zero le lt = refl
-  parts-none j a (suc m) le lt =
-      parts-given (goes_to j) a m
-      ∙ ap (λ l. l ++ filter (goes_to j) (given_by turn (parts (suc a) m))) (part-goes j a (omega arith) ∙ ap (λ b. if b then to_nodes a else []) (ne_eqb a j (λ e. omega arith)))
-      ∙ parts-none j (suc a) m (omega arith) (omega arith)
-
-  parts-goes : (j a m : ℕ) → a + m ≤ node_count g → a ≤ j → j < a + m → filter (goes_to j) (given_by turn (parts a m)) ≡ to_nodes j
-  parts-goes j a zero le l lt = absurd (omega arith)
-  parts-goes j a (suc m) le l lt =
-      parts-given (goes_to j) a m
-      ∙ ap (λ xs. xs ++ filter (goes_to j) (given_by turn (parts (suc a) m))) (part-goes j a (omega arith))
-      ∙ ⊎_elim
-      (λ (less : a < j). ap (λ b. (if b then to_nodes a else []) ++ filter (goes_to j) (given_by turn (parts (suc a) m))) (ne_eqb a j (λ e. omega arith)) ∙ parts-goes j (suc a) m (omega arith) (omega arith) (omega arith))
-      (λ (more : j ≤ a).
-      let same : a ≡ j = omega arith in
-      ap (λ b. (if b then to_nodes a else []) ++ filter (goes_to j) (given_by turn (parts (suc a) m))) (eq-eqb a j same)
-      ∙ ap (λ xs. to_nodes a ++ xs) (parts-none j (suc a) m (omega arith) (omega arith))
-      ∙ append-nil (to_nodes a) ∙ ap to_nodes same)
-      (cases_lt a j)
-
-  node-region : (j : ℕ) → j < node_count g → filter (goes_to j) given_order ≡ to_nodes j
-  node-region j lt = parts-goes j 0 (node_count g) (omega arith) (omega arith) (omega arith)
-
-  -- where a contribution is received
-  where-received : (x : Contribution) → IsIn x given_order → (j : ℕ) × (j < node_count g) × IsReceived c j all x × IsIn x (given_by turn (part j))
-  where-received x o = let t = in-some-part 0 (node_count g) x (omega arith) o in (t.0, t.1, received-at t.0 t.1 x t.4, t.4)
-
-  abbrev scalar_part : List Contribution
-  scalar_part = filter is_to_scalars given_order
-
-  one-given : OneReduction given_order
-  one-given x y slot o w e f = apart-sent.one x y slot (back x o) (back y w) e f
-
-  -- the values of slots
-  value-at-node : (y j : ℕ) → j < node_count g → S.value_after r sent_order (slots.Node y j) ≡ S.value_after r (to_nodes j) (slots.Node y j)
-  value-at-node y j lt =
-      ap (λ st. st.node y j) (settled_store-same r apart-sent.one same-bag)
-      ∙ sym (value-filtered (goes_to j) r (slots.Node y j) given_order goes)
-      ∙ ap (λ cs. S.value_after r cs (slots.Node y j)) (node-region j lt) where
-        goes : (x : Contribution) → IsIn x given_order → has_slot (slots.Node y j) x.slots ≡ true → goes_to j x ≡ true
-        goes x o has =
-            let t = where-received x o in
-            by (is_to_scalars x) refl t.0 t.2 where
-              by : (b : Bool) → is_to_scalars x ≡ b → (k : ℕ) → IsReceived c k all x → goes_to j x ≡ true
-              by true e k q = absurd (both_ways (has_slot (slots.Node y j) x.slots) (not-here (here c) (slots.Node y j) x.slots (q.scalars e) refl) has)
-              by false e k q = other (here_at c k (slots.Node y j)) refl where
-                other : (b : Bool) → here_at c k (slots.Node y j) ≡ b → goes_to j x ≡ true
-                other true f = goes-of j k x q ∙ ap (λ z. if z then false else nat_eq k j) e ∙ eq-eqb k j (sym (eqb-true j k (both-true (nat_eq j k) (c.is_kept y) f).0))
-                other false f = absurd (both_ways (has_slot (slots.Node y j) x.slots) (not-here (here_at c k) (slots.Node y j) x.slots (q.nodes e) f) has)
-
-  value-of-scalar : (x : ℕ) → S.value_after r sent_order (slots.Scalar x) ≡ S.value_after r scalar_part (slots.Scalar x)
-  value-of-scalar x =
-      ap (λ st. st.scalar x) (settled_store-same r apart-sent.one same-bag)
-      ∙ sym (value-filtered is_to_scalars r (slots.Scalar x) given_order goes) where
-        goes : (y : Contribution) → IsIn y given_order → has_slot (slots.Scalar x) y.slots ≡ true → is_to_scalars y ≡ true
-        goes y o has = by (is_to_scalars y) refl (where-received y o) where
-          by : (b : Bool) → is_to_scalars y ≡ b → (j : ℕ) × (j < node_count g) × IsReceived c j all y × IsIn y (given_by turn (part j)) → b ≡ true
-          by true e t = refl
-          by false e t = absurd (both_ways (has_slot (slots.Scalar x) y.slots) (not-here (here_at c t.0) (slots.Scalar x) y.slots (t.2.nodes e) refl) has)
-
-  -- the totals of what is put
-  held-globals : AreHeld c r globals (here c)
-  held-globals = record { holds = holds; within = inside; apart = unlike } where
-    holds : (slot : Slot) → here c slot ≡ true → value_at globals (slot_at c slot) ≡ read r slot
-    holds (slots.Scalar x) o =
-        let t = both-true (nat_lt x (length c.declarations)) (is_global (variable_at c.declarations x)) o in
-        sym (ap (λ b. if b then value_at globals (c.global x) else zero_of (variable_at c.declarations x).vtype) t.1)
-        ∙ shown.scalars x (ltb-true x (length c.declarations) t.0) (global-no_register (variable_at c.declarations x) t.1) (global-has_value (variable_at c.declarations x) t.1)
-    holds (slots.Node y k) o = absurd (both_ways false refl o)
-
-    inside : (slot : Slot) → here c slot ≡ true → slot_at c slot < length globals
-    inside (slots.Scalar x) o =
-        let t = both-true (nat_lt x (length c.declarations)) (is_global (variable_at c.declarations x)) o in gs.within x (ltb-true x (length c.declarations) t.0) t.1
-    inside (slots.Node y k) o = absurd (both_ways false refl o)
-
-    unlike : (a b : Slot) → here c a ≡ true → here c b ≡ true → slot_at c a ≡ slot_at c b → a ≡ b
-    unlike (slots.Scalar x) (slots.Scalar y) o o2 e =
-        let t = both-true (nat_lt x (length c.declarations)) (is_global (variable_at c.declarations x)) o in
-        let u = both-true (nat_lt y (length c.declarations)) (is_global (variable_at c.declarations y)) o2 in
-        ap slots.Scalar (gs.apart x y (ltb-true x (length c.declarations) t.0) (ltb-true y (length c.declarations) u.0) t.1 u.1 e)
-    unlike (slots.Scalar x) (slots.Node y k) o o2 e = absurd (both_ways false refl o2)
-    unlike (slots.Node y k) b o o2 e = absurd (both_ways false refl o)
-
-  scalar-given : (x : Contribution) → IsIn x scalar_part → IsIn x given_order × (is_to_scalars x ≡ true)
-  scalar-given x o = IsIn-filter is_to_scalars x given_order o
-
-  good-scalars : AreGiven scalar_part (here c) all
-  good-scalars = record {
-    one = λ x y slot o w e f. one-given x y slot (scalar-given x o).0 (scalar-given y w).0 e f;
-    here_all = λ x o. let t = scalar-given x o in (where-received x t.0).2.scalars t.1;
-    not_empty = λ x o. (where-received x (scalar-given x o).0).2.not_empty;
-    one_total = λ x y o w e f. apart-sent.one_total x y (back x (scalar-given x o).0) (back y (scalar-given y w).0) e f;
-    spotted = λ x o. (where-received x (scalar-given x o).0).2.spotted;
-  }
-
-  settles : SettlesAlike c v (length p.places) r globals (here c) scalar_part
-  settles = reductions-settle c v base (length p.places) all r globals (here c) scalar_part refl fit held-globals good-scalars
-
-  -- the second superstep
   abbrev second : Stepped
   second = superstep p g q2 first.globals first.nodes
 
-  every-two : AllReceive 0 s.fields
-  every-two = all-receive 0 s.fields (subst (λ m. 0 + m ≤ node_count g) (sym shown.all_nodes) (omega arith)) (λ j. ap fields_at (let z : 0 + j ≡ j = omega arith in z))
+  abbrev inner : Stmt
+  inner = T.inner first_step
 
-  two-steps : all_steps p g (block_at p q2) first.globals first.nodes.sent first.nodes.fields ≡ twos 0 s.fields
-  two-steps =
-      ap (λ b. all_steps p g b first.globals first.nodes.sent first.nodes.fields) block2
-      ∙ ap (λ vs. all_steps p g (receive_block c seg n i loads kind key test body) vs first.nodes.sent first.nodes.fields) (T.first-globals start_of)
-      ∙ ap (λ ms. all_steps p g (receive_block c seg n i loads kind key test body) globals ms first.nodes.fields) (T.first-sent start_of)
-      ∙ ap (λ fss. all_steps p g (receive_block c seg n i loads kind key test body) globals (map msg all_turns) fss) (T.first-fields start_of)
+  inside : (x : ℕ × Step) → IsIn x turns → x.1.node < node_count g
+  inside x o = (T.turn-inside first_step x o).1
 
-  second-is : second ≡ stepped (length p.places) globals first.nodes (twos 0 s.fields)
-  second-is = ap (stepped (length p.places) first.globals first.nodes) two-steps ∙ ap (λ vs. stepped (length p.places) vs first.nodes (twos 0 s.fields)) (T.first-globals start_of)
+  turn-gave : (x : ℕ × Step) → IsIn x turns → ((turn x).with_inner ≡ []) × ((turn x).deferred ≡ [])
+  turn-gave x o =
+      let q =
+      gave-of c p fields base all loop h.iterator loads kind key test body globals (slice_index_or s.fields x.1.node []) x.1.node r (T.msg first_step) table around result able typed (T.incl first_step) fit
+      (T.node-shows first_step x.1.node (inside x o)) x (T.message-of first_step x.1.node x o refl) in
+      (q.inner, q.deferred)
 
-  puts-are : flat_map (λ x. x.state.puts) (twos 0 s.fields) ≡ map (given c v) scalar_part
-  puts-are = two-puts 0 s.fields every-two ∙ ap (λ m. map (given c v) (filter is_to_scalars (given_by turn (parts 0 m)))) shown.all_nodes
+  -- contributions, in the order of the senders and in that of the receivers
+  abbrev sent_order : List Contribution
+  sent_order = given_by turn turns
 
-  globals-are : second.globals ≡ (settled (length p.places) (map (given c v) scalar_part) globals).values
-  globals-are = ap (λ t. t.globals) second-is ∙ ap (λ ps. (settled (length p.places) ps globals).values) puts-are
+  abbrev given_order : List Contribution
+  given_order = given_by turn (by_nodes g turns)
 
-  abbrev machine_faults : List Fault
-  machine_faults = faults_between 0 (node_count g) ++ total_faults r scalar_part
+  same-bag : SameBag sent_order given_order
+  same-bag = same-given g turns (λ x. (turn x).with_outermost) inside
 
-  -- they are among the spots
-  scalars-spotted : (f : Fault) → IsIn f (total_faults r scalar_part) → HasSpot (spot_of_fault f) all
-  scalars-spotted f o = total-spot c v base (length p.places) all r globals (here c) scalar_part refl fit held-globals good-scalars f o
+  apart-sent : GivesApart sent_order
+  apart-sent = subst GivesApart (T.given-is first_step turn-gave) apart
 
-  machine-spotted : (f : Fault) → IsIn f machine_faults → HasSpot (spot_of_fault f) all
-  machine-spotted f o =
-      ⊎_elim
-      (λ (w : IsIn f (faults_between 0 (node_count g))). spots-between 0 (node_count g) (omega arith) f w)
-      (λ (w : IsIn f (total_faults r scalar_part)). scalars-spotted f w)
-      (in-parts f (faults_between 0 (node_count g)) (total_faults r scalar_part) o)
-
-  second-fault : second.fault ≡ fault_or_none v (least machine_faults)
-  second-fault =
-      ap (λ t. t.fault) second-is
-      ∙ ap (λ o. lesser o (settled (length p.places) (flat_map (λ x. x.state.puts) (twos 0 s.fields)) globals).fault)
-      (least_from-right None (map (λ x. x.fault) (twos 0 s.fields)) ∙ none-first (least_right (map (λ x. x.fault) (twos 0 s.fields)))
-      ∙ two-faults 0 s.fields (subst (λ m. 0 + m ≤ node_count g) (sym shown.all_nodes) (omega arith)) every-two ∙ ap (λ m. fault_or_none v (least (faults_between 0 m))) shown.all_nodes)
-      ∙ ap (λ ps. lesser (fault_or_none v (least (faults_between 0 (node_count g)))) (settled (length p.places) ps globals).fault) puts-are
-      ∙ ap (lesser (fault_or_none v (least (faults_between 0 (node_count g))))) settles.fault
-      ∙ least-two v all low (faults_between 0 (node_count g)) (total_faults r scalar_part) (λ f o. spots-between 0 (node_count g) (omega arith) f o)
-      scalars-spotted where
-        none-first : (o : Option M.Fault) → lesser None o ≡ o
-        none-first o = refl
-
-  -- the faults of the loop
-  abbrev loop_faults : List Fault
-  loop_faults = faults_by turn all_turns ++ total_faults r given_order
-
-  target-of : (j : ℕ) → j < node_count g → (x : Contribution) → IsIn x (to_nodes j) → S.target_fault r given_order x.slots ≡ S.target_fault r (to_nodes j) x.slots
-  target-of j lt x o =
-      sym (fault-filtered (goes_to j) r x.slots given_order (λ y w e. ap (at_node j) (sym (slots_eq-true x.slots y.slots e)) ∙ goes)) ∙ ap (λ cs. S.target_fault r cs x.slots) (node-region j lt) where
-        goes : goes_to j x ≡ true
-        goes = (IsIn-filter (goes_to j) x given_order (subst (IsIn x) (sym (node-region j lt)) o)).1
-
-  target-of-scalars : (x : Contribution) → is_to_scalars x ≡ true → S.target_fault r given_order x.slots ≡ S.target_fault r scalar_part x.slots
-  target-of-scalars x e = sym (fault-filtered is_to_scalars r x.slots given_order (λ y w f. ap are_of_scalars (sym (slots_eq-true x.slots y.slots f)) ∙ e))
-
-  in-given-order : (j : ℕ) → j < node_count g → (x : Contribution) → IsIn x (to_nodes j) → IsIn x given_order
-  in-given-order j lt x o = (IsIn-filter (goes_to j) x given_order (subst (IsIn x) (sym (node-region j lt)) o)).0
-
-  in-between : (a m j : ℕ) (f : Fault) → a ≤ j → j < a + m → IsIn f (faults_at j) → IsIn f (faults_between a m)
-  in-between a zero j f le lt o = absurd (omega arith)
-  in-between a (suc m) j f le lt o =
-      ⊎_elim
-      (λ (less : a < j). in-back f (faults_at a) (faults_between (suc a) m) (in-between (suc a) m j f (omega arith) (omega arith) o))
-      (λ (more : j ≤ a). let same : j ≡ a = omega arith in in-front f (faults_at a) (faults_between (suc a) m) (subst (λ z. IsIn f (faults_at z)) same o))
-      (cases_lt a j)
-
-  some-between : (a m : ℕ) (f : Fault) → a + m ≤ node_count g → IsIn f (faults_between a m) → (j : ℕ) × (j < node_count g) × IsIn f (faults_at j)
-  some-between a zero f le o = absurd o
-  some-between a (suc m) f le o =
-      ⊎_elim (λ (w : IsIn f (faults_at a)). (a, omega arith, w)) (λ (w : IsIn f (faults_between (suc a) m)). some-between (suc a) m f (omega arith) w) (in-parts f (faults_at a) (faults_between (suc a) m) o)
-
-  to-loop : (f : Fault) → IsIn f machine_faults → IsIn f loop_faults
-  to-loop f o = ⊎_elim at_nodes at_globals (in-parts f (faults_between 0 (node_count g)) (total_faults r scalar_part) o) where
-    at_globals : IsIn f (total_faults r scalar_part) → IsIn f loop_faults
-    at_globals w =
-        let t = somes-in (λ (x : Contribution). S.target_fault r scalar_part x.slots) scalar_part f w in
-        let u = scalar-given t.0 t.1 in
-        in-back f (faults_by turn all_turns) (total_faults r given_order) (in-somes (λ (x : Contribution). S.target_fault r given_order x.slots) given_order t.0 f u.0 (target-of-scalars t.0 u.1 ∙ t.2))
-
-    at_nodes : IsIn f (faults_between 0 (node_count g)) → IsIn f loop_faults
-    at_nodes w =
-        let t = some-between 0 (node_count g) f (omega arith) w in
-        ⊎_elim
-        (λ (u : IsIn f (faults_by turn (part t.0))).
-        let x = somes-in (λ x. (turn x).fault) (part t.0) f u in
-        in-front f (faults_by turn all_turns) (total_faults r given_order) (in-somes (λ x. (turn x).fault) all_turns x.0 f (part-in t.0 x.0 x.1).0 x.2))
-        (λ (u : IsIn f (total_faults r (to_nodes t.0))).
-        let x = somes-in (λ (y : Contribution). S.target_fault r (to_nodes t.0) y.slots) (to_nodes t.0) f u in
-        in-back f (faults_by turn all_turns) (total_faults r given_order)
-        (in-somes (λ (y : Contribution). S.target_fault r given_order y.slots) given_order x.0 f (in-given-order t.0 t.1 x.0 x.1) (target-of t.0 t.1 x.0 x.1 ∙ x.2)))
-        (in-parts f (faults_by turn (part t.0)) (total_faults r (to_nodes t.0)) t.2)
-
-  to-machine : (f : Fault) → IsIn f loop_faults → IsIn f machine_faults
-  to-machine f o = ⊎_elim of_turn of_total (in-parts f (faults_by turn all_turns) (total_faults r given_order) o) where
-    of_turn : IsIn f (faults_by turn all_turns) → IsIn f machine_faults
-    of_turn w =
-        let x = somes-in (λ x. (turn x).fault) all_turns f w in
-        let j = x.0.1.node in
-        let lt = (T.turn-inside start_of x.0 x.1).1 in
-        in-front f (faults_between 0 (node_count g)) (total_faults r scalar_part) (in-between 0 (node_count g) j f (omega arith) (omega arith)
-        (in-front f (faults_by turn (part j)) (total_faults r (to_nodes j)) (in-somes (λ x. (turn x).fault) (part j) x.0 f (filter-in (λ y. nat_eq (node_of y) j) all_turns x.0 x.1 (eq-eqb j j refl)) x.2)))
-
-    of_total : IsIn f (total_faults r given_order) → IsIn f machine_faults
-    of_total w =
-        let x = somes-in (λ (y : Contribution). S.target_fault r given_order y.slots) given_order f w in
-        by (is_to_scalars x.0) x.0 x.1 x.2 (where-received x.0 x.1) refl where
-          by : (b : Bool) (x : Contribution) → IsIn x given_order → S.target_fault r given_order x.slots ≡ Some f
-              → (j : ℕ) × (j < node_count g) × IsReceived c j all x × IsIn x (given_by turn (part j)) → is_to_scalars x ≡ b → IsIn f machine_faults
-          by true x u e t k =
-              in-back f (faults_between 0 (node_count g)) (total_faults r scalar_part)
-              (in-somes (λ (y : Contribution). S.target_fault r scalar_part y.slots) scalar_part x f (filter-in is_to_scalars given_order x u k) (sym (target-of-scalars x k) ∙ e))
-          by false x u e t k =
-              let at_j : IsIn x (to_nodes t.0) = filter-in is_to_nodes (given_by turn (part t.0)) x t.3 (ap not k) in
-              in-front f (faults_between 0 (node_count g)) (total_faults r scalar_part) (in-between 0 (node_count g) t.0 f (omega arith) (omega arith)
-              (in-back f (faults_by turn (part t.0)) (total_faults r (to_nodes t.0))
-              (in-somes (λ (y : Contribution). S.target_fault r (to_nodes t.0) y.slots) (to_nodes t.0) x f at_j (sym (target-of t.0 t.1 x at_j) ∙ e))))
+  -- the second superstep
+  took : TookAll c v all p.registers fields g globals r given_order (faults_by turn turns) (λ ms. ms ≡ []) second
+  took =
+      took-all c v p fields base q2 all g globals s r (receive_block c (segment base all) loop.outer h.iterator loads kind key test body).handlers turns (T.msg first_step) (λ x. (turn x).with_outermost) (λ x. (turn x).fault)
+      (λ xs ms. ms ≡ []) nothing-joins able.apart gs refl fit block2 shown (λ x. refl) inside
+      (λ x o.
+      ran c p fields base all loop h.iterator loads kind key test body globals (slice_index_or s.fields x.1.node []) x.1.node r (T.msg first_step) table around result able typed (T.incl first_step) fit
+      (T.node-shows first_step x.1.node (inside x o)) x (T.message-of first_step x.1.node x o refl))
+      first (T.first-globals first_step) (T.first-sent first_step) (T.first-fields first_step) (apart-given sent_order given_order same-bag apart-sent)
 
   abbrev meant_faults : List Fault
-  meant_faults = somes (map (λ x. x.fault) its) ++ total_faults r sent_order
+  meant_faults = somes (map (λ x. x.fault) (T.its first_step)) ++ total_faults r sent_order
 
-  faults-same : least meant_faults ≡ least machine_faults
+  abbrev taken_faults : List Fault
+  taken_faults = faults_by turn turns ++ total_faults r given_order
+
+  faults-same : least meant_faults ≡ least taken_faults
   faults-same =
-      least-append (somes (map (λ x. x.fault) its)) (total_faults r sent_order)
-      ∙ ap (λ o. lesser_of o (least (total_faults r sent_order))) (faults-from 0 (node_count g) (omega arith))
-      ∙ ap (lesser_of (least (faults_by turn all_turns))) (total_faults-same r apart-sent.one same-bag)
-      ∙ sym (least-append (faults_by turn all_turns) (total_faults r given_order))
-      ∙ least-members loop_faults machine_faults to-machine to-loop
+      least-append (somes (map (λ x. x.fault) (T.its first_step))) (total_faults r sent_order)
+      ∙ ap (λ o. lesser_of o (least (total_faults r sent_order))) (T.faults-are first_step turn-gave)
+      ∙ ap (lesser_of (least (faults_by turn turns))) (total_faults-same r apart-sent.one same-bag)
+      ∙ sym (least-append (faults_by turn turns) (total_faults r given_order))
 
-  second-fields : second.nodes.fields ≡ map (λ x. x.state.fields) (twos 0 s.fields)
-  second-fields = ap (λ t. t.nodes.fields) second-is
-
-  node-after : (j : ℕ) → j < node_count g → slice_index_or second.nodes.fields j [] ≡ (two_step (j, fields_at j)).state.fields
-  node-after j lt =
-      ap (λ fss. slice_index_or fss j []) second-fields
-      ∙ two-fields 0 s.fields j (subst (λ m. j < m) (sym shown.all_nodes) lt)
-      ∙ ap (λ z. (two_step (z, fields_at j)).state.fields) (let z : 0 + j ≡ j = omega arith in z)
-
-  -- the store that the loop leaves
   abbrev left : Store
   left = settled_store r sent_order
 
-  away : (x : ℕ) → here c (slots.Scalar x) ≡ false → left.scalar x ≡ r.scalar x
-  away x e = value-of-scalar x ∙ value-away r (slots.Scalar x) scalar_part (λ y o. let t = scalar-given y o in not-here (here c) (slots.Scalar x) y.slots ((where-received y t.0).2.scalars t.1) e)
-
-  and-false : (a b : Bool) → b ≡ false → a && b ≡ false
-  and-false true b e = e
-  and-false false b e = refl
-
-  register-no_global : (x : ℕ) → is_register (variable_at c.declarations x) ≡ true → is_global (variable_at c.declarations x) ≡ false
-  register-no_global x e = by (is_global (variable_at c.declarations x)) refl where
-    by : (b : Bool) → is_global (variable_at c.declarations x) ≡ b → b ≡ false
-    by true f = absurd (both_ways (is_register (variable_at c.declarations x)) (global-no_register (variable_at c.declarations x) f) e)
-    by false f = refl
+  left-is : settled_store r given_order ≡ left
+  left-is = sym (settled_store-same r apart-sent.one same-bag)
 
   leaves-store : least meant_faults ≡ None → Leaves c p.registers fields g globals left second
   leaves-store fine = record {
-    fine = second-fault ∙ ap (fault_or_none v) (sym faults-same ∙ fine);
+    fine = took.fault ∙ ap (fault_or_none v) (sym faults-same ∙ fine);
     shown = record {
-      scalars = scalars;
-      locals = λ x lt e. shown.locals x lt e ∙ sym (away x (and-false (nat_lt x (length c.declarations)) (is_global (variable_at c.declarations x)) (register-no_global x e)));
-      properties = λ j lt y o. ap (λ fs. value_at fs (c.field y)) (node-after j lt) ∙ (receives-at j lt).properties y o ∙ sym (value-at-node y j lt);
-      widths = λ j lt. ap length (node-after j lt) ∙ (receives-at j lt).field_count;
-      all_nodes = ap length second-fields ∙ two-length 0 s.fields ∙ shown.all_nodes;
-      idle = ap (λ t. t.nodes.sent) second-is ∙ two-sent 0 s.fields every-two;
+      scalars = now.scalars;
+      locals = now.locals;
+      properties = now.properties;
+      widths = now.widths;
+      all_nodes = now.all_nodes;
+      idle = took.sent;
     };
-    others = λ z none. ap (λ vs. value_at vs z) globals-are ∙ settles.others z (λ x o. none-has z none x.slots (let t = scalar-given x o in (where-received x t.0).2.scalars t.1));
-    count = ap length globals-are ∙ settles.count;
+    others = took.others;
+    count = took.count;
   } where
-    scalars : (x : ℕ) → x < length c.declarations → is_register (variable_at c.declarations x) ≡ false → has_value (variable_at c.declarations x) ≡ true → phase_value c second.globals x ≡ left.scalar x
-    scalars x lt e f = by (is_global (variable_at c.declarations x)) refl where
-      by : (b : Bool) → is_global (variable_at c.declarations x) ≡ b → (if b then value_at second.globals (c.global x) else zero_of (variable_at c.declarations x).vtype) ≡ left.scalar x
-      by true o =
-          ap (λ vs. value_at vs (c.global x)) globals-are
-          ∙ settles.values (slots.Scalar x) (ap (λ b. b && is_global (variable_at c.declarations x)) (lt-ltb x (length c.declarations) lt) ∙ o)
-          ∙ sym (value-of-scalar x)
-      by false o =
-          sym (ap (λ b. if b then value_at globals (c.global x) else zero_of (variable_at c.declarations x).vtype) o)
-          ∙ shown.scalars x lt e f ∙ sym (away x (and-false (nat_lt x (length c.declarations)) (is_global (variable_at c.declarations x)) o))
-
-    none-has : (z : ℕ) → ((x : ℕ) → x < length c.declarations → is_global (variable_at c.declarations x) ≡ true → c.global x ≢ z) → (xs : List Slot) → list_all (here c) xs ≡ true → is_among z (map (slot_at c) xs) ≡ false
-    none-has z none [] o = refl
-    none-has z none (slots.Scalar x ∷ xs) o =
-        let t = both-true (here c (slots.Scalar x)) (list_all (here c) xs) o in
-        let u = both-true (nat_lt x (length c.declarations)) (is_global (variable_at c.declarations x)) t.0 in
-        ap (λ b. b || is_among z (map (slot_at c) xs)) (ne_eqb (c.global x) z (none x (ltb-true x (length c.declarations) u.0) u.1)) ∙ none-has z none xs t.1
-    none-has z none (slots.Node x k ∷ xs) o = absurd (both_ways false refl o)
-
-  -- the loop, on the first store
-  loop-is : parallel loop mask_key mask inner (nodes g) r ≡ unless_fault (least meant_faults) (Ok left)
-  loop-is =
-      ap (λ st. unless_fault (least (somes (map (λ x. x.fault) its) ++ total_faults st given_all)) (Ok (overlaid (settled_store st given_all) (joined (map (λ x. x.deferred) its))))) own-is
-      ∙ ap (λ cs. unless_fault (least (somes (map (λ x. x.fault) its) ++ total_faults r cs)) (Ok (overlaid (settled_store r cs) (joined (map (λ x. x.deferred) its))))) given-is
-      ∙ ap (λ ds. unless_fault (least meant_faults) (Ok (overlaid left ds))) (deferred-from 0 (node_count g) (omega arith)) where
-        given_all : List Contribution
-        given_all = given_in loop mask_key mask inner r
+    now : Shown c p.registers fields g second.globals (record (second.nodes) { sent = [] }) left
+    now = subst (λ st. Shown c p.registers fields g second.globals (record (second.nodes) { sent = [] }) st) left-is took.shown
 
   pub message-loop : (first.fault ≡ None) × (first.globals ≡ globals) × StepIs c v all p.registers fields g globals (parallel loop mask_key mask inner (nodes g) r) second
-  message-loop = (T.first-fault start_of, (T.first-globals start_of), subst (λ a. StepIs c v all p.registers fields g globals a second) (sym loop-is) (by (least meant_faults) refl)) where
+  message-loop = (
+    T.first-fault first_step,
+    T.first-globals first_step,
+    subst (λ a. StepIs c v all p.registers fields g globals a second) (sym (T.loop-is first_step turn-gave)) (by (least meant_faults) refl),
+  ) where
     by : (o : Option Fault) → least meant_faults ≡ o → StepIs c v all p.registers fields g globals (unless_fault o (Ok left)) second
     by None e = leaves-store e
-    by (Some f) e = (second-fault ∙ ap (fault_or_none v) (sym faults-same ∙ e), machine-spotted f (least-is machine_faults f (sym faults-same ∙ e)).is_in)
+    by (Some f) e = (took.fault ∙ ap (fault_or_none v) (sym faults-same ∙ e), took.spotted f (least-is taken_faults f (sym faults-same ∙ e)).is_in)
 
 pub message-loops : MessageLoopsAreTwoSupersteps
 message-loops c p fields base q q2 kind all loop mask_key mask key place h test body loads globals s r table around result sender able typed gs all_is fit block block2 shown edges in_graph within apart =
-    message-loop (record { c = c; p = p; fields = fields; base = base; q = q; q2 = q2; kind = kind; all = all; loop = loop; mask_key = mask_key; mask = mask; key = key; place = place; h = h; test = test; body = body; loads = loads; globals = globals; s = s; r = r; sender = sender; table = table; around = around; result = result; able = able; typed = typed; gs = gs; all_is = all_is; fit = fit; block = block; block2 = block2; shown = shown; edges = edges; in_graph = in_graph; within = within; apart = apart })
+    message-loop c p fields base q q2 kind all loop mask_key mask key place h test body loads globals s r table around result sender able typed gs all_is fit block block2 shown edges in_graph within apart

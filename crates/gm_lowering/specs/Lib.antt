@@ -31,3 +31,5 @@ pub mod OwnSends
 pub mod SenderSupersteps
 pub mod SenderLoops
 pub mod OwnSendLoops
+pub mod ReceiverSends
+pub mod ReceiverSendLoops

@@ -10,6 +10,8 @@ ghost use Rattle.gm_lowering.specs.OwnLoops.{OwnStepsAreIterations};
 ghost use Rattle.gm_lowering.specs.OwnSendLoops.{SendingOwnLoopsAreTwoSupersteps};
 ghost use Rattle.gm_lowering.specs.OwnSends.{SendingOwnStepsAreIterations};
 ghost use Rattle.gm_lowering.specs.Phases.{OwnLoopsAreSupersteps};
+ghost use Rattle.gm_lowering.specs.ReceiverSendLoops.{SendingMessageLoopsAreThreeSupersteps};
+ghost use Rattle.gm_lowering.specs.ReceiverSends.{SendingHandlersAreTurns, SendingReceiversAreTurns};
 ghost use Rattle.gm_lowering.specs.Receiving.{ReceivingStepsAreTurns};
 ghost use Rattle.gm_lowering.specs.SenderLoops.{SendingLoopsAreTwoSupersteps};
 ghost use Rattle.gm_lowering.specs.SenderSteps.{SendingStepsAreIterations};
@@ -213,4 +215,28 @@ pub fn sending_own_steps_are_iterations()
 /// and the store have the types of the declarations, and their nodes are the graph's.
 pub fn sending_own_loops_are_two_supersteps()
     ensures { SendingOwnLoopsAreTwoSupersteps }
+{}
+
+/// The run of the handler of a message whose body sends through node variables is the inner loop's turn at the edge of the
+/// message: it has the turn's fault; it has put what the turn gives to scalars of the procedure, folded what it gives to
+/// properties of its node that are none of those that are sent, and sent the rest to the nodes that the variables hold, also
+/// before a fault, each message by the kind of its reduction.
+pub fn sending_handlers_are_turns()
+    ensures { SendingHandlersAreTurns }
+{}
+
+/// The step of a vertex with such a handler, with the messages of some turns that reach its node, takes what the turns give but
+/// for what is sent: its fields hold what the reductions to its node's properties leave, it has put what goes to scalars of the
+/// procedure, its fault is the least of the turns' and of the totals at its node, and its messages carry the rest.
+pub fn sending_receivers_are_turns()
+    ensures { SendingReceiversAreTurns }
+{}
+
+/// The three supersteps of a message loop whose receivers send through node variables are the loop, where the totals of what is
+/// sent come behind all its other faults: the first has no fault and leaves the globals; the second has the loop's fault, at the
+/// index of its place; or it has none, and the third has the loop's, or globals and nodes show the store that the loop leaves, no
+/// message waits, and the other globals keep their values. The body and the store have the types of the declarations, and their
+/// nodes are the graph's.
+pub fn sending_message_loops_are_three_supersteps()
+    ensures { SendingMessageLoopsAreThreeSupersteps }
 {}

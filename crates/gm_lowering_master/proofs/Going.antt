@@ -52,6 +52,7 @@ use Rattle.gm_lowering.specs.MessageLoops.{is_to_scalars, is_to_nodes, IsMessage
 use Rattle.gm_lowering.specs.Sends.{send_block}
 use Rattle.gm_lowering.specs.Receiving.{receive_block, inner_spots}
 use Rattle.gm_lowering.specs.TwoSupersteps.{IsInside, StepsWithin}
+use Rattle.gm_lowering.specs.ReceiverSends.{TurnsAreTyped}
 use Rattle.gm_lowering.specs.HomeTurns.{IsHomeLoop, home_finds}
 use Rattle.gm_lowering.specs.HomeSteps.{home_block, home_turns, given_inside, HasEach}
 use Rattle.gm_lowering.specs.HomeLoops.{home_spots}
@@ -74,12 +75,14 @@ use Rattle.gm_lowering_master.specs.Follows.{IsFault, StepsAre, IsPoint, LoopGoe
 use Rattle.gm_lowering_master.specs.Going.{phase_loop, GiveApart, OwnLoopsGo, IsOwnSending, OwnSendingLoopsGo, IsMessage, MessageLoopsGo, IsHome, HomeLoopsGo, IsSending, SendingLoopsGo, HasBodySpares}
 use Rattle.gm_lowering_master.proofs.Indices.{place-found}
 use Rattle.gm_lowering_master.proofs.Ranks.{get-within}
+use Rattle.gm_lowering_master.proofs.OwnLast.{own-totals-last}
 use Rattle.gm_lowering_master.proofs.SentLast.{totals-last}
 use Rattle.gm_lowering_master.proofs.Standing.{get-is-index_or}
 use Rattle.gm_lowering.proofs.OwnFolds.{fold-way}
 use Rattle.gm_lowering.proofs.OwnFacts.{keep-way}
 use Rattle.gm_semantics.specs.declared.slots.Slot.TheVariants.{Scalar}
 use Rattle.gm_value.specs.declared.values.Value.TheVariants.{At}
+use Rattle.gm_forms.specs.Cut.{can_overflow}
 use Rattle.gm_forms.specs.Typing.{is_typed_in, keeps_tuples}
 use Rattle.gm_forms.specs.Uses.{uses_in, uses_of, uses_of_head}
 use Rattle.gm_typed_stores.specs.Tells.{takes_nodes, tells, tells_in}
@@ -133,7 +136,7 @@ stands-long : {A : Type 0} (all : List A) (i : ℕ) (x : A) (xs : List A) → St
 stands-long all i x [] h = let l = get-within all i x h.0 in omega (arith, l)
 stands-long all i x (y ∷ ys) h = let l = stands-long all (suc i) y ys h.1 in omega (arith, l)
 
-have-room : (places : List Place) (base : ℕ) (spots : List Spot) → StandsAt places base (shown_places (segment base spots)) → HaveRoom base spots (length places)
+pub have-room : (places : List Place) (base : ℕ) (spots : List Spot) → StandsAt places base (shown_places (segment base spots)) → HaveRoom base spots (length places)
 have-room places base spots stands z h = by (ascending spots) (ascending-has z.fault spots (fault-has z spots h)) stands where
   by : (xs : List Spot) → HasFault z.fault xs → StandsAt places base (map (λ s. s.shown) xs) → base + length xs ≤ length places
   by [] f st = absurd f
@@ -269,7 +272,7 @@ pushes-nothing c n p found sets (S.Foreach j at h e body) o = absurd (both_ways 
 pushes-nothing c n p found sets _ h = refl
 
 -- globals of scalars are apart
-globals-apart : (s : Setting) → IsSetting s → (globals : List Value) → length globals ≡ length s.image.globals → GlobalsApart s.frame.layout (length globals)
+pub globals-apart : (s : Setting) → IsSetting s → (globals : List Value) → length globals ≡ length s.image.globals → GlobalsApart s.frame.layout (length globals)
 globals-apart s is' globals e = record {
   within = λ x lt o. subst (λ m. s.frame.layout.global x < m) (sym e) (is'.cells.within (OfScalar x) (scalar x lt o));
   apart = λ x y lx ly ox oy same. ap number (is'.cells.apart (OfScalar x) (OfScalar y) (scalar x lx ox) (scalar y ly oy) same);
@@ -284,18 +287,18 @@ globals-apart s is' globals e = record {
   number (FlagOf d) = 0
 
 -- the machine after supersteps without a fault
-abbrev rest_of : Stepped → Stepped
+abbrev pub rest_of : Stepped → Stepped
 rest_of t = record { nodes = t.nodes; globals = t.globals; fault = None }
 
 module _ (s : Setting) (v : Env) (base : ℕ) (spots : List Spot) (places : v.place ≡ place_index (segment base spots)) (stands : StandsAt s.image.places base (shown_places (segment base spots))) (one : ShowOne spots) where
-  fault-shown : (f : Fault) → HasSpot (spot_of_fault f) spots → IsFault s.image (fault_of v f) f
+  pub fault-shown : (f : Fault) → HasSpot (spot_of_fault f) spots → IsFault s.image (fault_of v f) f
   fault-shown f h = (
     refl,
     ap (λ p. place_at s.image (p f.key f.place)) places
         ∙ place-found s.image base spots (spot_of_fault f) stands h (λ z i e. one z (spot_of_fault f) i (has-member (spot_of_fault f) spots h) e),
   )
 
-  step-is : (globals : List Value) (result : Result Store Fault) (t : Stepped) → length globals ≡ length s.image.globals
+  pub step-is : (globals : List Value) (result : Result Store Fault) (t : Stepped) → length globals ≡ length s.image.globals
       → ((r : Store) → result ≡ Ok r → EdgesShown s.frame.layout s.run.graph r)
       → StepIs s.frame.layout v spots s.image.registers (length s.image.fields) s.run.graph globals result t
       → StepsAre s globals result (step_ends t.fault (λ f. t) (rest_of t))
@@ -306,7 +309,7 @@ module _ (s : Setting) (v : Env) (base : ℕ) (spots : List Spot) (places : v.pl
       subst (λ o. StepsAre s globals (Err f) (step_ends o (λ g. t) (rest_of t))) (sym h.0) (fault_of v f, h.0, fault-shown f h.1)
 
 -- what is asked of a loop whose blocks and places are these
-abbrev GoesAs : Setting → L.At → Lowered → Key → Place → Head → Expr → Stmt → Type 0
+abbrev pub GoesAs : Setting → L.At → Lowered → Key → Place → Head → Expr → Stmt → Type 0
 GoesAs s at l k place h test body =
     StandsAt s.image.blocks at.block l.blocks → StandsAt s.image.places at.place (shown_places l.segment)
     → (globals : List Value) (held : Nodes) (its : List ℕ) (state : State) → Between s globals held state.store → IsPoint s its (S.Foreach k place h test body) state
@@ -316,13 +319,13 @@ module _ (s : Setting) (is' : IsSetting s) where
   abbrev c : Layout
   c = s.frame.layout
 
-  depth-is : (x : ℕ) → (variable_at s.run.declarations x).depth ≡ (variable_at c.declarations x).depth
+  pub depth-is : (x : ℕ) → (variable_at s.run.declarations x).depth ≡ (variable_at c.declarations x).depth
   depth-is x = ap (λ ds. (variable_at ds x).depth) is'.declarations
 
-  type-is : (x : ℕ) → (variable_at s.run.declarations x).vtype ≡ (variable_at c.declarations x).vtype
+  pub type-is : (x : ℕ) → (variable_at s.run.declarations x).vtype ≡ (variable_at c.declarations x).vtype
   type-is x = ap (λ ds. (variable_at ds x).vtype) is'.declarations
 
-  edges-stay : (l : Loop) (key : Key) (test : Expr) (body : Stmt) (ks : List ℕ) (globals : List Value) (held : Nodes) (r q : Store) → Between s globals held r → parallel l key test body ks r ≡ Ok q → EdgesShown c s.run.graph q
+  pub edges-stay : (l : Loop) (key : Key) (test : Expr) (body : Stmt) (ks : List ℕ) (globals : List Value) (held : Nodes) (r q : Store) → Between s globals held r → parallel l key test body ks r ≡ Ok q → EdgesShown c s.run.graph q
   edges-stay l key test body ks globals held r q between e p d lt o less = between.edges p d lt o less ∙ ap (λ f. f p d) (sym (loop-edges l key test body ks r q e))
 
 -- the body of a loop has types where each of its iterations begins
@@ -347,10 +350,10 @@ typed-start : (s : Setting) (is' : IsSetting s) (its : List ℕ) (k : Key) (plac
 typed-start s is' its k place h test body state point i lt picks = are-typed-start s is' its k place h test body state point i lt
 
 -- and so has the body of an inner loop where each of its turns begins
-typed-turns : (s : Setting) (is' : IsSetting s) (its : List ℕ) (k : Key) (place : Place) (outer : Head) (mask : Expr) (j : Key) (inner_place : Place) (h : Head) (test : Expr) (body : Stmt) (state : State)
+pub are-typed-turns : (s : Setting) (is' : IsSetting s) (its : List ℕ) (k : Key) (place : Place) (outer : Head) (mask : Expr) (j : Key) (inner_place : Place) (h : Head) (test : Expr) (body : Stmt) (state : State)
     → IsPoint s its (S.Foreach k place outer mask (S.Foreach j inner_place h test body)) state
-    → TurnsTyped s.frame.layout s.table (h.iterator ∷ (outer.iterator ∷ its)) s.result (phase_loop s outer.iterator (S.Foreach j inner_place h test body)) h.iterator body state.store
-typed-turns s is' its k place outer mask j inner_place h test body state point a b from to picks =
+    → TurnsAreTyped s.frame.layout s.table (h.iterator ∷ (outer.iterator ∷ its)) s.result (phase_loop s outer.iterator (S.Foreach j inner_place h test body)) h.iterator body state.store
+are-typed-turns s is' its k place outer mask j inner_place h test body state point a b from to =
     let table = s.table in
     let inner = S.Foreach j inner_place h test body in
     let around = outer.iterator ∷ its in
@@ -374,6 +377,11 @@ typed-turns s is' its k place outer mask j inner_place h test body state point a
         deferred = tt;
       };
     }
+
+typed-turns : (s : Setting) (is' : IsSetting s) (its : List ℕ) (k : Key) (place : Place) (outer : Head) (mask : Expr) (j : Key) (inner_place : Place) (h : Head) (test : Expr) (body : Stmt) (state : State)
+    → IsPoint s its (S.Foreach k place outer mask (S.Foreach j inner_place h test body)) state
+    → TurnsTyped s.frame.layout s.table (h.iterator ∷ (outer.iterator ∷ its)) s.result (phase_loop s outer.iterator (S.Foreach j inner_place h test body)) h.iterator body state.store
+typed-turns s is' its k place outer mask j inner_place h test body state point a b from to picks = are-typed-turns s is' its k place outer mask j inner_place h test body state point a b from to
 
 pub own-loops-go : OwnLoopsGo
 own-loops-go s at k place h test body is' own spares apart =
@@ -652,17 +660,15 @@ home-loops-go s at k place outer mask j inner_place h test body is' m spares apa
 pub own-sending-loops-go : OwnSendingLoopsGo
 own-sending-loops-go s at k place h test body is' own spares apart last = own-sending-goes s at k place h test body is' own spares apart (λ its state globals held point spotted sent. last its state point)
 
--- totals of what is sent come last where none of the loop's spots comes behind theirs
+-- totals of what is sent come last where none of the loop's spots comes behind those of Sums and Products
 pub last-own-sending-loops-go : (s : Setting) (at : L.At) (k : Key) (place : Place) (h : Head) (test : Expr) (body : Stmt)
     → IsSetting s → IsOwnSending s.frame.layout h.iterator k test body → HasBodySpares s body → GiveApart s k place h test body
-    → ((a : Away) → IsIn a (aways s.frame.layout.declarations h.iterator body) → (z : Spot) → IsIn z (own_spots s.frame.layout h.iterator k test body) → spot_lt (spot_of_total a.total) z ≡ false)
+    → ((a : Away) → IsIn a (aways s.frame.layout.declarations h.iterator body) → can_overflow a.reduce ≡ true → (z : Spot) → IsIn z (own_spots s.frame.layout h.iterator k test body) → spot_lt (spot_of_total a.total) z ≡ false)
     → LoopGoes s at k place h test body
 last-own-sending-loops-go s at k place h test body is' own spares apart ends =
     own-sending-goes s at k place h test body is' own spares apart (λ its state globals held point spotted sent.
-    let turns = map (iteration (phase_loop s h.iterator body) k test body state.store) (nodes s.run.graph) in
-    totals-last at.kind (aways s.frame.layout.declarations h.iterator body) s.run.graph (own_spots s.frame.layout h.iterator k test body) (own_left state.store (nodes s.run.graph) turns)
-    (somes (map (λ it. it.fault) turns)) (given_in (phase_loop s h.iterator body) k test body state.store) (superstep s.image s.run.graph at.block globals held).nodes.sent
-    own.shows spotted sent (λ a i. ((own.taken a i).spotted, ends a i)))
+    own-totals-last s is' its k place h test body state point at.kind (aways s.frame.layout.declarations h.iterator body) (own_spots s.frame.layout h.iterator k test body)
+    own.shows (apart its state point) (λ a i. ((own.taken a i).spotted, ends a i)) (superstep s.image s.run.graph at.block globals held).nodes.sent spotted sent)
 
 pub sending-loops-go : SendingLoopsGo
 sending-loops-go s at k place outer mask j inner_place h test body is' m spares apart last =

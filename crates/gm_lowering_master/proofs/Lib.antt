@@ -18,6 +18,12 @@ pub mod Puts
 pub mod Starting
 pub mod Inside
 pub mod SentLast
+pub mod TotalsFit
+pub mod OwnLast
 pub mod Going
+pub mod ReceiverGoing
+pub mod Picks
+pub mod TuplePicks
+pub mod PicksGoing
 pub mod Plain
 mod PlainRows

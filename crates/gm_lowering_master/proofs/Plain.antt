@@ -4,6 +4,7 @@ use Rattle.std.specs.Prelude.{◌&&◌, ◌||◌, not, nat_eq, nat_lt, max}
 use Rattle.std.specs.List.{list_all, list_any}
 use Rattle.std.proofs.lemmas.Bool.{both_ways, eqb-true, not-true, ltb-true, eqb-false}
 use Rattle.gm_base.specs.declared.places.Place.{Place}
+use Rattle.gm_value.specs.declared.reductions.Reduce.{Reduce}
 use Rattle.gm_value.specs.Bag.{IsIn}
 use Rattle.gm_ast.specs.declared.tree.Domain.{Domain}
 use Rattle.gm_ast.specs.declared.tree.Domain.TheVariants.{Nodes, OutNbrs, InNbrs, UpNbrs, DownNbrs}
@@ -15,17 +16,20 @@ use Rattle.gm_ast.specs.Keys.{Fault, fault_lt}
 use Rattle.gm_ast.specs.Program as S
 use Rattle.gm_ast.specs.Program.{Expr, Stmt}
 use Rattle.gm_forms.proofs.Named.{both-true}
+use Rattle.gm_forms.specs.Cut.{can_overflow}
+use Rattle.gm_forms.specs.Typing.{keeps_tuples}
 use Rattle.gm_semantics.specs.Levels.{numbers_from}
 use Rattle.gm_semantics.specs.Statements.{variable_at}
-use Rattle.gm_lowering.specs.Layouts.{Layout, is_register, body_positions}
+use Rattle.gm_lowering.specs.Layouts.{Layout, is_register, phase_positions, body_positions}
 use Rattle.gm_lowering.specs.Plans.{carried, is_here, Away, aways}
 use Rattle.gm_lowering.specs.Places.{Spot, spot_lt, spot_of_total, segment, spot_at, spots_in, shown_places}
 use Rattle.gm_lowering.specs.Terms.{master_env, term}
 use Rattle.gm_lowering.specs.Blocks.{reads_scalar}
-use Rattle.gm_lowering.specs.Sites.{is_body, is_local}
+use Rattle.gm_lowering.specs.Sites.{is_body, is_local, same_length}
 use Rattle.gm_lowering.specs.OwnLoops.{are_any, own_finds, own_sets, own_gives, is_kept_property, HasSpares}
 use Rattle.gm_lowering.specs.Phases.{own_spots}
 use Rattle.gm_lowering.specs.OwnSends.{sending_gives}
+use Rattle.gm_lowering.specs.ReceiverSends.{receiver_sends}
 use Rattle.gm_lowering.specs.MessageLoops.{receiver_finds, sets_nothing, inner_gives}
 use Rattle.gm_lowering.specs.Receiving.{inner_spots}
 use Rattle.gm_lowering.specs.TwoSupersteps.{is_readable}
@@ -40,14 +44,16 @@ use Rattle.gm_lowering.specs.Made.{gives_apart}
 use Rattle.gm_lowering.proofs.Made.{loops-give-apart, turns-give-apart}
 use Rattle.gm_lowering.proofs.Orders.{lt-itself, lt-tie}
 use Rattle.gm_lowering.proofs.Receiving.{or-cases}
-use Rattle.gm_lowering_master.specs.Cells.{Setting, IsSetting}
-use Rattle.gm_lowering_master.specs.Follows.{LoopGoes, LoopsGo}
-use Rattle.gm_lowering_master.specs.Going.{phase_loop, GiveApart, AreNested, HasBodySpares}
+use Rattle.gm_lowering_master.specs.Cells.{Setting, IsSetting, HasSpareGlobals}
+use Rattle.gm_lowering_master.specs.Follows.{tells, LoopGoes, LoopsGo}
+use Rattle.gm_lowering_master.specs.Going.{phase_loop, GiveApart, AreNested, HasBodySpares, HasPhaseSpares, is_phase_target, IsPick}
 use Rattle.gm_lowering_master.specs.Whole.{setting}
-use Rattle.gm_lowering_master.specs.Plain.{same_place, shows_with, all_show_one, is_neighbours, reads_no_local, own_goes, is_last_through, own_sending_goes, are_nested, message_goes, home_goes, is_same_spot, is_last_among, is_sent_last, sending_goes, loop_goes, is_plain, PlainLoopsGo, PlainProgramsRun}
+use Rattle.gm_lowering_master.specs.Plain.{same_place, shows_with, all_show_one, is_neighbours, reads_no_local, own_goes, is_sent_well, is_sent_through, own_sending_goes, are_nested, message_goes, home_goes, is_same_spot, is_last_among, is_sent_last, sending_goes, sent_properties, receiver_sending_goes, loop_goes, pick_goes, is_plain, PlainLoopsGo, PlainProgramsRun}
 use Rattle.gm_lowering_master.proofs.Going.{own-loops-go, last-own-sending-loops-go, message-loops-go, home-loops-go, last-sending-loops-go}
+use Rattle.gm_lowering_master.proofs.ReceiverGoing.{last-receiver-sending-loops-go}
 use Rattle.gm_lowering_master.proofs.Inside.{runs-are-followed}
-use Rattle.gm_lowering_master.proofs.Ranks.{layouts-are-settings}
+use Rattle.gm_lowering_master.proofs.PicksGoing.{fewer-globals, picks-go}
+use Rattle.gm_lowering_master.proofs.Ranks.{layouts-are-settings, layouts-have-globals}
 use Rattle.gm_lowering.proofs.TupleFacts.{fewer-spares}
 use Rattle.gm_lowering.proofs.Ranks.{layouts-have-spares}
 
@@ -117,6 +123,25 @@ sent-last c n spots a o =
     let taken : IsTaken c spots a = record { owner = n; some = q.0; kept = r.0; spotted = spot-told last spots t.0 } in
     (taken, λ z i. not-true (spot_lt last z) (all-in (λ z. not (spot_lt last z)) spots z t.1 i))
 
+-- one that is sent well
+sent-well : (c : Layout) (n : ℕ) (spots : List Spot) (a : Away) → is_sent_well c n spots a ≡ true
+    → IsTaken c spots a × (can_overflow a.reduce ≡ true → (z : Spot) → IsIn z spots → spot_lt (spot_of_total a.total) z ≡ false)
+sent-well c n spots a o =
+    let last = spot_of_total a.total in
+    let behind = not (can_overflow a.reduce) || list_all (λ z. not (spot_lt last z)) spots in
+    let q = both-true (are_any a.targets) (list_all (is_kept_property c n) a.targets && (list_any (is_same_spot last) spots && behind)) o in
+    let r = both-true (list_all (is_kept_property c n) a.targets) (list_any (is_same_spot last) spots && behind) q.1 in
+    let t = both-true (list_any (is_same_spot last) spots) behind r.1 in
+    let taken : IsTaken c spots a = record { owner = n; some = q.0; kept = r.0; spotted = spot-told last spots t.0 } in
+    (taken, λ e z i. not-true (spot_lt last z) (all-in (λ z. not (spot_lt last z)) spots z (ap (λ b. not b || list_all (λ z. not (spot_lt last z)) spots) (sym e) ∙ t.1) i))
+
+-- so for a reduction through a node variable
+sent-through : (c : Layout) (spots : List Spot) (a : Away) (ts : List Target) → is_sent_through c spots a ts ≡ true
+    → IsTaken c spots a × (can_overflow a.reduce ≡ true → (z : Spot) → IsIn z spots → spot_lt (spot_of_total a.total) z ≡ false)
+sent-through c spots a [] o = absurd (both_ways false refl o)
+sent-through c spots a (T.Scalar x at' ∷ ts) o = absurd (both_ways false refl o)
+sent-through c spots a (T.Property x p at' ∷ ts) o = sent-well c x spots a o
+
 not-any : {A : Type 0} (xs : List A) → are_any xs ≡ false → xs ≡ []
 not-any [] h = refl
 not-any (x ∷ xs) h = absurd (both_ways true h refl)
@@ -168,7 +193,7 @@ module _ (s : Setting) (is' : IsSetting s) where
       let n = h.iterator in
       let spots = own_spots c n k test body in
       let sends = aways c.declarations n body in
-      let last = list_all (λ a. is_last_through c spots a a.targets) sends in
+      let last = list_all (λ a. is_sent_through c spots a a.targets) sends in
       let fits = is_body c (own_finds c n) (own_sets c n) (sending_gives c n (own_finds c n)) body in
       let rest = all_show_one spots && (gives_apart c.declarations n body && (are_any sends && last)) in
       let a = both-true (not (is_register (variable_at c.declarations n))) (own_finds c n test && (fits && rest)) o in
@@ -177,7 +202,7 @@ module _ (s : Setting) (is' : IsSetting s) where
       let e = both-true (all_show_one spots) (gives_apart c.declarations n body && (are_any sends && last)) d.1 in
       let f = both-true (gives_apart c.declarations n body) (are_any sends && last) e.1 in
       let g = both-true (are_any sends) last f.1 in
-      let each = λ (a : Away) (i : IsIn a sends). last-through spots a a.targets (all-in (λ a. is_last_through c spots a a.targets) sends a g.1 i) in
+      let each = λ (a : Away) (i : IsIn a sends). sent-through c spots a a.targets (all-in (λ a. is_sent_through c spots a a.targets) sends a g.1 i) in
       last-own-sending-loops-go s at k place h test body is'
       (record {
         iterator = not-true (is_register (variable_at c.declarations n)) a.0;
@@ -189,11 +214,7 @@ module _ (s : Setting) (is' : IsSetting s) where
       })
       spares
       (give-apart k place h test body f.0)
-      (λ a i z l. (each a i).1 z l) where
-        last-through : (spots : List Spot) (a : Away) (ts : List Target) → is_last_through c spots a ts ≡ true → IsTaken c spots a × ((z : Spot) → IsIn z spots → spot_lt (spot_of_total a.total) z ≡ false)
-        last-through spots a [] o = absurd (both_ways false refl o)
-        last-through spots a (T.Scalar x at' ∷ ts) o = absurd (both_ways false refl o)
-        last-through spots a (T.Property x p at' ∷ ts) o = sent-last c x spots a o
+      (λ a i e z l. (each a i).1 e z l)
 
   nested-are : (n : ℕ) (h : Head) → are_nested c n h ≡ true → AreNested c n h
   nested-are n h o =
@@ -288,15 +309,54 @@ module _ (s : Setting) (is' : IsSetting s) where
         (give-apart k place outer mask inner apart)
         (λ a i z l. (sent-last c h.iterator spots a (all-in (is_sent_last c h.iterator spots) sends a a7.1 i)).1 z l)
 
+    receiver-sending-goes : AreNested c n h → HasBodySpares s body → gives_apart c.declarations n inner ≡ true → receiver_sending_goes c n k mask j h test body ≡ true → LoopGoes s at k place outer mask inner
+    receiver-sending-goes nested spares apart o =
+        let loads = carried n test body in
+        let found = receiver_finds c n h.iterator loads in
+        let spots = spots_in mask k ++ inner_spots c n h.iterator j test body in
+        let sends = aways c.declarations h.iterator body in
+        let out = sent_properties sends in
+        let fits = is_body c found sets_nothing (receiver_sends c n h.iterator out found) body in
+        let last = list_all (λ a. is_sent_through c spots a a.targets) sends in
+        let r1 = all_show_one spots && (are_any sends && last) in
+        let r2 = not (are_any (spots_in mask k)) && (list_all (is_readable c) loads && (found test && (fits && r1))) in
+        let a1 = both-true (not (is_here c.declarations n h test body)) (own_finds c n mask && r2) o in
+        let a3 = both-true (own_finds c n mask) r2 a1.1 in
+        let a4 = both-true (not (are_any (spots_in mask k))) (list_all (is_readable c) loads && (found test && (fits && r1))) a3.1 in
+        let a5 = both-true (list_all (is_readable c) loads) (found test && (fits && r1)) a4.1 in
+        let a6 = both-true (found test) (fits && r1) a5.1 in
+        let a7 = both-true fits r1 a6.1 in
+        let a8 = both-true (all_show_one spots) (are_any sends && last) a7.1 in
+        let a9 = both-true (are_any sends) last a8.1 in
+        let each = λ (a : Away) (i : IsIn a sends). sent-through c spots a a.targets (all-in (λ a. is_sent_through c spots a a.targets) sends a a9.1 i) in
+        last-receiver-sending-loops-go s at k place outer mask j inner_place h out test body is'
+        (record {
+          nested = nested;
+          away = not-true (is_here c.declarations n h test body) a1.0;
+          masked = a3.0;
+          quiet = not-any (spots_in mask k) (not-true (are_any (spots_in mask k)) a4.0);
+          readable = a5.0;
+          found = a6.0;
+          fits = a7.0;
+          sends = a9.0;
+          taken = λ a i. (each a i).0;
+          shows = show-one spots a8.0;
+        })
+        spares
+        (give-apart k place outer mask inner apart)
+        (λ a i e z l. (each a i).1 e z l)
+
     inner-goes : HasBodySpares s body → loop_goes c n k mask inner ≡ true → LoopGoes s at k place outer mask inner
     inner-goes spares o =
         let messages = message_goes c n k mask j h test body in
         let home = home_goes c n k mask j h test body in
         let sending = sending_goes c n k mask j h test body in
-        let a = both-true (are_nested c n h) (gives_apart c.declarations n inner && (messages || (home || sending))) o in
-        let b = both-true (gives_apart c.declarations n inner) (messages || (home || sending)) a.1 in
+        let receiving = receiver_sending_goes c n k mask j h test body in
+        let a = both-true (are_nested c n h) (gives_apart c.declarations n inner && (messages || (home || (sending || receiving)))) o in
+        let b = both-true (gives_apart c.declarations n inner) (messages || (home || (sending || receiving))) a.1 in
         let nested = nested-are n h a.0 in
-        or-cases messages (home || sending) b.1 (message-goes nested spares b.0) (λ r. or-cases home sending r (home-goes nested spares b.0) (sending-goes nested spares b.0))
+        or-cases messages (home || (sending || receiving)) b.1 (message-goes nested spares b.0) (λ r.
+        or-cases home (sending || receiving) r (home-goes nested spares b.0) (λ q. or-cases sending receiving q (sending-goes nested spares b.0) (receiver-sending-goes nested spares b.0)))
 
   loop-goes : (at : L.At) (k : Key) (place : Place) (h : Head) (test : Expr) (body : Stmt) → HasBodySpares s body → loop_goes c h.iterator k test body ≡ true → LoopGoes s at k place h test body
   loop-goes at k place h test (S.Foreach j inner_place i e b) spares o = inner-goes at k place h test j inner_place i e b spares o
@@ -310,25 +370,46 @@ module _ (s : Setting) (is' : IsSetting s) where
   spares-second : (a b : Stmt) → HasSpares c (length s.image.registers) (max (body_positions c.declarations a) (body_positions c.declarations b)) → HasBodySpares s b
   spares-second a b h = fewer-spares c (length s.image.registers) (max (body_positions c.declarations a) (body_positions c.declarations b)) (body_positions c.declarations b) (omega arith) h
 
-  plain-goes : (st : Stmt) (at : L.At) → HasBodySpares s st → is_plain c st ≡ true → LoopsGo s st at
-  plain-goes (S.Then a b) at m h =
-      let q = both-true (is_plain c a) (is_plain c b) h in (plain-goes a at (spares-first a b m) q.0, plain-goes b (past s.frame at a (part s.frame a at)) (spares-second a b m) q.1)
-  plain-goes (S.Combine k total r ts es) at m h = absurd (both_ways false refl h)
-  plain-goes (S.Foreach k place f test body) at m h = loop-goes at k place f test body m h
-  plain-goes (S.If k test a b) at m h =
+  -- and so are spare globals
+  abbrev positions : Stmt → ℕ
+  positions st = phase_positions c.declarations st
+
+  globals-first : (a b : Stmt) → HasSpareGlobals c s.returns s.depth (length s.image.globals) (max (positions a) (positions b)) → HasPhaseSpares s a
+  globals-first a b h = fewer-globals c s.returns s.depth (length s.image.globals) (max (positions a) (positions b)) (positions a) (omega arith) h
+
+  globals-second : (a b : Stmt) → HasSpareGlobals c s.returns s.depth (length s.image.globals) (max (positions a) (positions b)) → HasPhaseSpares s b
+  globals-second a b h = fewer-globals c s.returns s.depth (length s.image.globals) (max (positions a) (positions b)) (positions b) (omega arith) h
+
+  -- what is reduced at once
+  is-pick : (r : Reduce) (ts : List Target) (es : List Expr) → pick_goes c r ts es ≡ true → IsPick c r ts es
+  is-pick r ts es h =
+      let values = same_length ts es && list_all (tells c) es in
+      let a1 = both-true (keeps_tuples r) (are_any ts && (list_all (is_phase_target c) ts && values)) h in
+      let a2 = both-true (are_any ts) (list_all (is_phase_target c) ts && values) a1.1 in
+      let a3 = both-true (list_all (is_phase_target c) ts) values a2.1 in
+      let a4 = both-true (same_length ts es) (list_all (tells c) es) a3.1 in
+      record { keeps = a1.0; some = a2.0; scalars = a3.0; long = a4.0; told = a4.1 }
+
+  plain-goes : (st : Stmt) (at : L.At) → HasBodySpares s st → HasPhaseSpares s st → is_plain c st ≡ true → LoopsGo s st at
+  plain-goes (S.Then a b) at m o h =
+      let q = both-true (is_plain c a) (is_plain c b) h in
+      (plain-goes a at (spares-first a b m) (globals-first a b o) q.0, plain-goes b (past s.frame at a (part s.frame a at)) (spares-second a b m) (globals-second a b o) q.1)
+  plain-goes (S.Combine k total r ts es) at m o h = picks-go s at k total r ts es is' (is-pick r ts es h) o
+  plain-goes (S.Foreach k place f test body) at m o h = loop-goes at k place f test body m h
+  plain-goes (S.If k test a b) at m o h =
       let q = both-true (is_plain c a) (is_plain c b) h in
       let start = lines_on 1 (places_on (shown_places (segment at.place (spots_in test k))) at) in
-      (plain-goes a start (spares-first a b m) q.0, plain-goes b (lines_on 1 (past s.frame start a (part s.frame a start))) (spares-second a b m) q.1)
-  plain-goes (S.While k place test body) at m h = plain-goes body (lines_on 1 (places_on (shown_places (segment at.place (spots_in test k))) at)) m h
-  plain-goes (S.Do k place body test) at m h = plain-goes body (lines_on 3 (deeper (places_on (shown_places (segment at.place (spots_in test k))) at))) m h
-  plain-goes (S.For k place f test body) at m h =
+      (plain-goes a start (spares-first a b m) (globals-first a b o) q.0, plain-goes b (lines_on 1 (past s.frame start a (part s.frame a start))) (spares-second a b m) (globals-second a b o) q.1)
+  plain-goes (S.While k place test body) at m o h = plain-goes body (lines_on 1 (places_on (shown_places (segment at.place (spots_in test k))) at)) m o h
+  plain-goes (S.Do k place body test) at m o h = plain-goes body (lines_on 3 (deeper (places_on (shown_places (segment at.place (spots_in test k))) at))) m o h
+  plain-goes (S.For k place f test body) at m o h =
       let g = segment at.place (spot_at k place ∷ spots_in test k) in
-      plain-goes body (lines_on (4 + length (test_lines 0 (term (master_env c g) k test))) (deeper (places_on (shown_places g) at))) m h
-  plain-goes _ at m h = tt
+      plain-goes body (lines_on (4 + length (test_lines 0 (term (master_env c g) k test))) (deeper (places_on (shown_places g) at))) m o h
+  plain-goes _ at m o h = tt
 
 pub plain-loops-go : PlainLoopsGo
-plain-loops-go s st at is' spares h = plain-goes s is' st at spares h
+plain-loops-go s st at is' spares globals h = plain-goes s is' st at spares globals h
 
 pub plain-programs-run : PlainProgramsRun
 plain-programs-run p g args bound face typed fits columns h plain =
-    runs-are-followed p g args bound face typed fits columns h (plain-loops-go (setting p g bound) p.body L.start (layouts-are-settings p g bound fits.graph.graph) (layouts-have-spares p) plain)
+    runs-are-followed p g args bound face typed fits columns h (plain-loops-go (setting p g bound) p.body L.start (layouts-are-settings p g bound fits.graph.graph) (layouts-have-spares p) (layouts-have-globals p) plain)

@@ -3,10 +3,11 @@ use Rattle.std.specs.Prelude.{◌≡◌, ℕ, Bool, true, false, List, [], ◌�
 use Rattle.gm_value.specs.declared.operations.Op2.TheVariants as two
 use Rattle.gm_value.specs.declared.reductions.Reduce.{Reduce}
 use Rattle.gm_value.specs.declared.reductions.Reduce.TheVariants as reduce
-use Rattle.gm_ast.specs.Program.{always, Expr, Program, Binary, sequence, Assign, Combine, Declare}
+use Rattle.gm_ast.specs.declared.tree.Domain.TheVariants.{InNbrs}
+use Rattle.gm_ast.specs.Program.{always, Expr, Program, Stmt, Binary, sequence, Assign, Combine, Declare, Foreach}
 use Rattle.gm_lowering.specs.Layouts.{layout}
-use Rattle.gm_lowering.proofs.Samples.{at, key, neighbours, reduces, property, variable, to_property, int, sum, weigh, hops, total, scalar}
-use Rattle.gm_lowering.proofs.MoreSamples.{home, random, picks, folds, bounds, caps, pairs, tops, gifts}
+use Rattle.gm_lowering.proofs.Samples.{at, key, over, neighbours, reduces, property, variable, to_property, int, sum, weigh, hops, total, scalar}
+use Rattle.gm_lowering.proofs.MoreSamples.{home, random, picks, folds, bounds, caps, pairs, tops, gifts, marks, turns}
 use Rattle.gm_lowering_master.specs.Follows.{is_followed}
 use Rattle.gm_lowering_master.specs.Whole.{has_result}
 use Rattle.gm_lowering_master.specs.Plain.{loop_goes, is_plain}
@@ -42,6 +43,26 @@ ands = refl
 -- what is reduced to a local at once is plain
 bounds_facts : facts bounds ≡ true ∷ true ∷ []
 bounds_facts = refl
+
+-- what scalars of the procedure keep at once is plain
+turns_facts : facts turns ≡ true ∷ true ∷ []
+turns_facts = refl
+
+-- but by Min and Max alone
+abbrev phase_keeps : Reduce → List Target → List Expr → Bool
+phase_keeps r ts es = is_plain (layout turns) (Combine (key 3) (total 3 (at 1 3)) r ts es)
+
+one_value : phase_keeps reduce.Min (scalar 5 ∷ []) (int 1 ∷ []) ≡ true
+one_value = refl
+
+one_sum : phase_keeps reduce.Sum (scalar 5 ∷ []) (int 1 ∷ []) ≡ false
+one_sum = refl
+
+one_scalar_twice : phase_keeps reduce.Min (scalar 5 ∷ scalar 5 ∷ []) (int 1 ∷ int 2 ∷ []) ≡ true
+one_scalar_twice = refl
+
+one_local : phase_keeps reduce.Min (scalar 14 ∷ []) (int 1 ∷ []) ≡ false
+one_local = refl
 
 -- what is sent along edges is plain
 hops_facts : facts hops ≡ true ∷ true ∷ []
@@ -103,20 +124,23 @@ totals_at_home = refl
 random_facts : facts random ≡ true ∷ true ∷ []
 random_facts = refl
 
--- but where nothing that may fault comes behind its total
-abbrev behind : Expr → Bool
-behind e =
+-- but where nothing that may fault comes behind the total of a Sum or a Product
+abbrev behind_by : Reduce → Expr → Bool
+behind_by r e =
     loop_goes (layout random) 9 (key 2) always (sequence (
     Declare (key 3) 11 (Some (property 9 7))
-    ∷ Combine (key 4) (total 4 (at 1 4)) reduce.Sum (to_property 11 3 ∷ []) (property 9 1 ∷ [])
+    ∷ Combine (key 4) (total 4 (at 1 4)) r (to_property 11 3 ∷ []) (property 9 1 ∷ [])
     ∷ Assign (key 5) (to_property 9 4) e
     ∷ []))
 
-nothing_behind : behind (property 9 1) ≡ true
+nothing_behind : behind_by reduce.Sum (property 9 1) ≡ true
 nothing_behind = refl
 
-sum_behind : behind (Binary two.Add (at 1 5) (property 9 1) (int 1)) ≡ false
+sum_behind : behind_by reduce.Sum (Binary two.Add (at 1 5) (property 9 1) (int 1)) ≡ false
 sum_behind = refl
+
+sum_behind_least : behind_by reduce.Min (Binary two.Add (at 1 5) (property 9 1) (int 1)) ≡ true
+sum_behind_least = refl
 
 -- the filter of a loop that sends may fault, where its number is below that of the totals
 abbrev goes : ℕ → Bool
@@ -129,3 +153,26 @@ filter_leads = refl
 
 filter_follows : goes 14 ≡ false
 filter_follows = refl
+
+-- what the receivers of messages send through node variables is plain
+marks_facts : facts marks ≡ true ∷ true ∷ []
+marks_facts = refl
+
+-- but to other properties than they reduce themselves, and where nothing that may fault comes behind the total of a Sum or a Product
+abbrev marks_by : List Stmt → Bool
+marks_by rest = loop_goes (layout marks) 9 (key 4) always (Foreach (key 5) (at 1 3) (over 10 InNbrs 9) always (sequence (Declare (key 6) 17 (Some (property 10 7)) ∷ rest)))
+
+sent_alone : marks_by (reduces 9 (at 1 8) reduce.Sum (to_property 17 4) (property 9 1) ∷ []) ≡ true
+sent_alone = refl
+
+other_properties : marks_by (reduces 7 (at 1 6) reduce.Sum (to_property 10 3) (property 9 1) ∷ reduces 9 (at 1 8) reduce.Sum (to_property 17 4) (property 9 1) ∷ []) ≡ true
+other_properties = refl
+
+one_property : marks_by (reduces 7 (at 1 6) reduce.Sum (to_property 10 4) (property 9 1) ∷ reduces 9 (at 1 8) reduce.Sum (to_property 17 4) (property 9 1) ∷ []) ≡ false
+one_property = refl
+
+total_behind : marks_by (reduces 9 (at 1 8) reduce.Sum (to_property 17 4) (property 9 1) ∷ reduces 10 (at 1 9) reduce.Sum (to_property 10 3) (property 9 1) ∷ []) ≡ false
+total_behind = refl
+
+total_behind_least : marks_by (reduces 9 (at 1 8) reduce.Min (to_property 17 4) (property 9 1) ∷ reduces 10 (at 1 9) reduce.Sum (to_property 10 3) (property 9 1) ∷ []) ≡ true
+total_behind_least = refl

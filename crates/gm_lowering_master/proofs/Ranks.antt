@@ -1,9 +1,10 @@
 -- Ranks are apart from each other, and so a program's layout is a setting.
-use Rattle.std.proofs.Common.{◌≡◌, ◌<◌, ◌≤◌, ℕ, zero, suc, Bool, true, false, cond, Option, Some, None, List, [], ◌∷◌, length, refl, ap, ◌∙◌, sym, subst, arith, length-append, ⊎_elim}
+use Rattle.std.proofs.Common.{◌≡◌, ◌≢◌, ◌<◌, ◌≤◌, ℕ, zero, suc, Bool, true, false, cond, Option, Some, None, List, [], ◌∷◌, length, refl, ap, ◌∙◌, sym, subst, arith, length-append, ⊎_elim}
 use Rattle.std.specs.Prelude.{◌+◌, ◌*◌, nat_lt, filter, option_map, slice_get}
 use Rattle.std.proofs.lemmas.Bool.{both_ways, ltb-true, cases_lt}
 use Rattle.std.proofs.lemmas.List.{length-map}
 use Rattle.gm_value.specs.declared.values.VType.{VType}
+use Rattle.gm_value.specs.declared.values.VType.TheVariants as V
 use Rattle.gm_ast.specs.declared.tree.Declaration.{Declaration}
 use Rattle.gm_ast.specs.declared.tree.Sort.TheVariants as Sorts
 use Rattle.gm_ast.specs.Names.{is}
@@ -11,9 +12,9 @@ use Rattle.gm_ast.specs.Program.{Program}
 use Rattle.gm_forms.proofs.Named.{both-true}
 use Rattle.gm_semantics.specs.Levels.{numbers_from}
 use Rattle.gm_semantics.specs.Statements.{variable_at, variable_or}
-use Rattle.gm_lowering.specs.Layouts.{Layout, those, rank, is_global, is_register, has_field, nesting, loop_types, spare_types, types_of, all_those, tested, optional, named_globals, kept_globals, counted_globals, global_types, local_types, register_types, field_types, phase_positions, body_positions, layout}
+use Rattle.gm_lowering.specs.Layouts.{Layout, those, rank, is_global, is_register, has_field, nesting, loop_types, type_number, spare_types, types_of, all_those, tested, optional, named_globals, kept_globals, counted_globals, global_types, local_types, register_types, field_types, phase_positions, body_positions, layout}
 use Rattle.gm_lowering.specs.Sites.{IsApart}
-use Rattle.gm_lowering_master.specs.Cells.{Cell, OfScalar, OfResult, CounterOf, FlagOf, cell_number, is_cell, AreCells}
+use Rattle.gm_lowering_master.specs.Cells.{Cell, OfScalar, OfResult, CounterOf, FlagOf, cell_number, is_cell, AreCells, HasSpareGlobals}
 use Rattle.gm_lowering_master.specs.Whole.{has_result, LayoutsAreSettings}
 use Rattle.gm_lowering.proofs.Registers.{registers-begin}
 use Rattle.gm_model.specs.Graphs.{node_count}
@@ -153,3 +154,37 @@ module _ (p : Program) where
 
 pub layouts-are-settings : LayoutsAreSettings
 layouts-are-settings p g bound graph = record { cells = cells-apart p; rows = rows-apart p; declarations = refl; firsts = registers-begin p; graph = graph; types = refl; below = (let z : node_count g ≤ node_count g = omega arith in z); limit = (let z : node_count g ≤ node_count g = omega arith in z) }
+
+-- a position has four spare globals
+spares-long : (n : ℕ) → length (spare_types n) ≡ 4 * n
+spares-long zero = refl
+spares-long (suc n) = let rest = spares-long n in omega (arith, rest)
+
+few-types : (t : VType) → type_number t ≤ 3
+few-types V.I32 = omega arith
+few-types V.I64 = omega arith
+few-types V.Flag = omega arith
+few-types V.Node = omega arith
+
+-- spare globals stand behind the cells in use
+pub layouts-have-globals : (p : Program) → HasSpareGlobals (layout p) (has_result p.result) (nesting p.body) (length (global_types p)) (phase_positions p.declarations p.body)
+layouts-have-globals p = record {
+  within = λ i t lt.
+      let few = few-types t in
+      let more : length (global_types p) ≡ length (counted_globals p) + length (spare_types (phase_positions p.declarations p.body)) = length-append (counted_globals p) (spare_types (phase_positions p.declarations p.body)) in
+      let spare = spares-long (phase_positions p.declarations p.body) in
+      omega (arith, few, more, spare, lt);
+  apart = λ i j t u l m e. let few = few-types t in let few2 = few-types u in omega (arith, few, few2, e);
+  others = others;
+} where
+  c : Layout
+  c = layout p
+
+  counted-long : length (counted_globals p) ≡ length (kept_globals p) + 2 * nesting p.body
+  counted-long = length-append (kept_globals p) (loop_types (nesting p.body)) ∙ ap (λ n. length (kept_globals p) + n) (loops-long (nesting p.body))
+
+  others : (i : ℕ) (t : VType) (a : Cell) → i < phase_positions p.declarations p.body → is_cell c (has_result p.result) (nesting p.body) a ≡ true → cell_number c a ≢ c.spare_global i t
+  others i t (OfScalar x) lt e same = let l = scalar-low p x e in let k = kept-long p in let n = counted-long in absurd (omega (arith, l, k, n, same))
+  others i t OfResult lt e same = let l = result-long p e in let n = counted-long in absurd (omega (arith, l, n, same))
+  others i t (CounterOf d) lt e same = let less = ltb-true d (nesting p.body) e in let n = counted-long in absurd (omega (arith, less, n, same))
+  others i t (FlagOf d) lt e same = let less = ltb-true d (nesting p.body) e in let n = counted-long in absurd (omega (arith, less, n, same))

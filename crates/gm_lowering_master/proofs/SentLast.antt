@@ -12,13 +12,12 @@ use Rattle.gm_value.specs.Faults.{fault_number}
 use Rattle.gm_value.specs.Taking.{of_rank}
 use Rattle.gm_model.specs.Graphs.{NumberedGraph}
 use Rattle.gm_ast.specs.declared.tree.TotalKey.{TotalKey}
-use Rattle.gm_ast.specs.Keys as K
 use Rattle.gm_ast.specs.Keys.{fault_lt}
 use Rattle.gm_semantics.specs.declared.faults.Fault.{Fault}
 use Rattle.gm_semantics.specs.declared.slots.Slot.{Slot}
 use Rattle.gm_semantics.specs.Contributions.{Contribution, statement_of, to_target, target_taken, target_fault, fault_in, total_faults}
 use Rattle.gm_semantics.specs.Faults as F
-use Rattle.gm_semantics.specs.Faults.{least, lower, comes_before, rank_of}
+use Rattle.gm_semantics.specs.Faults.{lower, comes_before, rank_of}
 use Rattle.gm_semantics.specs.Stores.{Store, slots_eq}
 use Rattle.gm_semantics.proofs.ContributionLaws.{IsIn-filter}
 use Rattle.gm_semantics.proofs.LeastLaws.{lower-first}
@@ -45,7 +44,7 @@ spot-within : (z : Spot) (spots : List Spot) → HasSpot z spots → IsIn z spot
 spot-within z [] h = absurd h
 spot-within z (s ∷ ss) h = ⊎_elim (λ (e : s ≡ z). inl (sym e)) (λ (j : HasSpot z ss). inr (spot-within z ss j)) h
 
-from-map : {A B : Type 0} (f : A → B) (xs : List A) (y : B) → IsIn y (map f xs) → (x : A) × IsIn x xs × (y ≡ f x)
+pub from-map : {A B : Type 0} (f : A → B) (xs : List A) (y : B) → IsIn y (map f xs) → (x : A) × IsIn x xs × (y ≡ f x)
 from-map f [] y i = absurd i
 from-map f (x ∷ xs) y i = ⊎_elim (λ (e : y ≡ f x). (x, inl refl, e)) (λ (j : IsIn y (map f xs)). let q = from-map f xs y j in (q.0, inr q.1, q.2)) i
 
@@ -66,13 +65,13 @@ total-of r cs f i =
           (q.0, (IsIn-filter (λ (y : Contribution). slots_eq slots y.slots) q.0 cs w.0).0, q.2)
 
 -- what is sent is of one of the reductions
-sent-by : (kind : ℕ) (sends : List Away) (g : NumberedGraph) (cs : List Contribution) (ms : List Message) → AreSent kind sends g cs ms → (y : Contribution) → IsIn y cs
-    → (a : Away) × IsIn a sends × (y.total ≡ a.total)
+pub sent-by : (kind : ℕ) (sends : List Away) (g : NumberedGraph) (cs : List Contribution) (ms : List Message) → AreSent kind sends g cs ms → (y : Contribution) → IsIn y cs
+    → (a : Away) × IsIn a sends × (y.total ≡ a.total) × (y.reduce ≡ a.reduce)
 sent-by kind sends g [] ms o y i = absurd i
 sent-by kind sends g (z ∷ cs) [] o y i = absurd o
 sent-by kind sends g (z ∷ cs) (m ∷ ms) o y i =
     ⊎_elim
-    (λ (e : y ≡ z). let q = o.0 in (q.away, found-in sends q.index q.away q.found, ap (λ t. t.total) (e ∙ q.made)))
+    (λ (e : y ≡ z). let q = o.0 in (q.away, found-in sends q.index q.away q.found, ap (λ t. t.total) (e ∙ q.made), ap (λ t. t.reduce) (e ∙ q.made)))
     (λ (w : IsIn y cs). sent-by kind sends g cs ms o.2 y w)
     i
 
@@ -87,7 +86,7 @@ last-kind NilNode p q e = refl
 last-kind Overflow p q e = ap (λ (z : Place). comes_before (3 ∷ p.line ∷ p.col ∷ []) (3 ∷ z.line ∷ z.col ∷ [])) e ∙ before-itself (3 ∷ p.line ∷ p.col ∷ [])
 
 -- a fault among spots of which none comes behind a total's comes before it
-behind : (spots : List Spot) → ShowOne spots → (f : Fault) (t : TotalKey) → HasSpot (spot_of_fault f) spots → HasSpot (spot_of_total t) spots
+pub behind : (spots : List Spot) → ShowOne spots → (f : Fault) (t : TotalKey) → HasSpot (spot_of_fault f) spots → HasSpot (spot_of_total t) spots
     → ((s : Spot) → IsIn s spots → spot_lt (spot_of_total t) s ≡ false) → lower f (F.total_fault t) ≡ f
 behind spots shows f t has own none = lower-first f (F.total_fault t) (by (fault_lt (spot_of_fault f).fault (spot_of_total t).fault) refl) where
   by : (b : Bool) → fault_lt (spot_of_fault f).fault (spot_of_total t).fault ≡ b → comes_before (rank_of (F.total_fault t)) (rank_of f) ≡ false
@@ -97,13 +96,21 @@ behind spots shows f t has own none = lower-first f (F.total_fault t) (by (fault
       tied-rank f (F.total_fault t) same
       ∙ last-kind f.kind t.shown f.shown (shows (spot_of_fault f) (spot_of_total t) (spot-within (spot_of_fault f) spots has) (spot-within (spot_of_total t) spots own) same)
 
+-- a fault that has a spot comes before those of the totals of what messages carry
+pub sent-behind : (kind : ℕ) (sends : List Away) (g : NumberedGraph) (spots : List Spot) (r : Store) (cs : List Contribution) (ms : List Message)
+    → ShowOne spots
+    → AreSent kind sends g cs ms
+    → ((a : Away) → IsIn a sends → HasSpot (spot_of_total a.total) spots × ((s : Spot) → IsIn s spots → spot_lt (spot_of_total a.total) s ≡ false))
+    → (f : Fault) → HasSpot (spot_of_fault f) spots → (x : Fault) → IsIn x (total_faults r cs) → lower f x ≡ f
+sent-behind kind sends g spots r cs ms shows sent ends f has x j =
+    let y = total-of r cs x j in
+    let a = sent-by kind sends g cs ms sent y.0 y.1 in
+    subst (λ z. lower f z ≡ f) (sym (y.2 ∙ ap F.total_fault a.2)) (behind spots shows f a.0.total has (ends a.0 a.1).0 (ends a.0 a.1).1)
+
 pub totals-last : (kind : ℕ) (sends : List Away) (g : NumberedGraph) (spots : List Spot) (r : Store) (faults : List Fault) (given : List Contribution) (ms : List Message)
     → ShowOne spots
     → ((f : Fault) → IsIn f (faults ++ total_faults r (filter is_to_scalars given)) → HasSpot (spot_of_fault f) spots)
     → AreSent kind sends g (filter is_to_nodes given) ms
     → ((a : Away) → IsIn a sends → HasSpot (spot_of_total a.total) spots × ((s : Spot) → IsIn s spots → spot_lt (spot_of_total a.total) s ≡ false))
     → TotalsLast faults r given
-totals-last kind sends g spots r faults given ms shows spotted sent ends f x i j =
-    let y = total-of r (filter is_to_nodes given) x j in
-    let a = sent-by kind sends g (filter is_to_nodes given) ms sent y.0 y.1 in
-    subst (λ z. lower f z ≡ f) (sym (y.2 ∙ ap F.total_fault a.2)) (behind spots shows f a.0.total (spotted f i) (ends a.0 a.1).0 (ends a.0 a.1).1)
+totals-last kind sends g spots r faults given ms shows spotted sent ends f x i j = sent-behind kind sends g spots r (filter is_to_nodes given) ms shows sent ends f (spotted f i) x j

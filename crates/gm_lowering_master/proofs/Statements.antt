@@ -123,7 +123,7 @@ module _ (s : Setting) (is' : IsSetting s) where
       subst (λ course. CourseIs s at.depth (at.line + 1) m (run at.line m) course) (sym (assign-course (view_of s.run state k) x place state (evaluated e (view_of s.run state k))))
       (set-course at k x e m state its (S.Assign k (T.Scalar x place) e) h deep stands reach here)
   follow (S.Assign k (T.Property x p place) e) at its m state h deep stands loops reach here = absurd (both_ways false refl h)
-  follow (S.Combine k total r ts es) at its m state h deep stands loops reach here = loops stands m its state here (reach its (S.Combine k total r ts es) state P.here)
+  follow (S.Combine k total r ts es) at its m state h deep stands loops reach here = loops (omega (arith, deep)) stands m its state here (reach its (S.Combine k total r ts es) state P.here)
   follow (S.Foreach k place f test body) at its m state h deep stands loops reach here =
       let l = loop c at.place at.kind f.iterator k test body in
       let n : ℕ = length l.blocks in

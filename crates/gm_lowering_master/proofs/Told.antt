@@ -26,7 +26,7 @@ use Rattle.gm_machine.specs.Expressions.{value as term_value, value_at}
 use Rattle.gm_machine.specs.Machine.{Nodes, master_view}
 use Rattle.gm_lowering.specs.Layouts.{Layout, is_global, is_register, has_value}
 use Rattle.gm_lowering.specs.Phases.{NodesInGraph}
-use Rattle.gm_lowering.specs.Places.{Spot, Segment, segment, spot_of, spot_at, spots_in, shown_places}
+use Rattle.gm_lowering.specs.Places.{Spot, Segment, segment, spot_of, spot_at, spots_in, spots_in_all, shown_places}
 use Rattle.gm_lowering.specs.Settles.{HasSpot, spot_of_fault}
 use Rattle.gm_lowering.specs.Showing.{Tells, answer_of, fault_of}
 use Rattle.gm_lowering.specs.Sites.{phase_value}
@@ -147,7 +147,12 @@ own-spots (S.Choose e a b) k =
     own-both (spots_in e k) (spots_in a k ++ spots_in b k) (own-spots e k) (own-both (spots_in a k) (spots_in b k) (own-spots a k) (own-spots b k))
 own-spots _ k = λ z i. absurd i
 
-settled-none : (e : Evaluated) → e.hoisted ≡ None → settled e ≡ e.rest
+-- those of several expressions too
+pub own-all : (es : List Expr) (k : Key) → AreOwn (spots_in_all es k)
+own-all [] k = λ z i. absurd i
+own-all (e ∷ es) k = own-both (spots_in e k) (spots_in_all es k) (own-spots e k) (own-all es k)
+
+pub settled-none : (e : Evaluated) → e.hoisted ≡ None → settled e ≡ e.rest
 settled-none e h = ap (λ x. settled (record e { hoisted = x })) h
 
 live-alone : (b : Bool) (a : Answer) → settled (if b then plain a else early a) ≡ a
@@ -170,7 +175,7 @@ module _ (s : Setting) (globals : List Value) (held : Nodes) (state : State) (be
     by true = refl
     by false = refl
 
-  scalar-is : (x : ℕ) → nat_lt x (length c.declarations) ≡ true → is_register (variable_at c.declarations x) ≡ false → has_value (variable_at c.declarations x) ≡ true
+  pub scalar-is : (x : ℕ) → nat_lt x (length c.declarations) ≡ true → is_register (variable_at c.declarations x) ≡ false → has_value (variable_at c.declarations x) ≡ true
       → term_value (master_view s.run.graph globals) (phase_scalar c x) ≡ Ok (state.store.scalar x)
   scalar-is x lt r g = phase-is x ∙ ap Ok (between.shown.scalars x (ltb-true x (length c.declarations) lt) r g)
 

@@ -1,5 +1,5 @@
 -- What globals and nodes show of a state between the statements of a sequential phase.
-use Rattle.std.specs.Prelude.{◌≡◌, ◌<◌, ◌≤◌, ℕ, ◌+◌, nat_lt, Bool, true, false, ◌&&◌, ◌||◌, Option, Some, None, List, [], length, map}
+use Rattle.std.specs.Prelude.{◌≡◌, ◌≢◌, ◌<◌, ◌≤◌, ℕ, ◌+◌, nat_lt, Bool, true, false, ◌&&◌, ◌||◌, Option, Some, None, List, [], length, map}
 use Rattle.gm_value.specs.declared.values.VType.{VType}
 use Rattle.gm_value.specs.declared.values.Value.{Value}
 use Rattle.gm_value.specs.Numbers.{zero_of}
@@ -51,6 +51,12 @@ is_hidden _ = true
 pub record AreCells (c : Layout) (returns : Bool) (depth globals : ℕ) : Type 0 where
   pub within : (a : Cell) → is_cell c returns depth a ≡ true → cell_number c a < globals
   pub apart : (a b : Cell) → is_cell c returns depth a ≡ true → is_cell c returns depth b ≡ true → cell_number c a ≡ cell_number c b → a ≡ b
+
+-- spare globals at so many positions are in range, apart from each other, and none of a cell in use
+pub record HasSpareGlobals (c : Layout) (returns : Bool) (depth globals positions : ℕ) : Type 0 where
+  pub within : (i : ℕ) (t : VType) → i < positions → c.spare_global i t < globals
+  pub apart : (i j : ℕ) (t u : VType) → i < positions → j < positions → c.spare_global i t ≡ c.spare_global j u → i ≡ j
+  pub others : (i : ℕ) (t : VType) (a : Cell) → i < positions → is_cell c returns depth a ≡ true → cell_number c a ≢ c.spare_global i t
 
 -- what stays the same over a run: where things lie and where the run ends, the image, the run of the program, what its types are judged by, the type of the procedure's result and whether it has one, and how many loops with a counter or a flag may stand in each other
 pub record Setting : Type 0 where

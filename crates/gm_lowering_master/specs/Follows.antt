@@ -103,11 +103,11 @@ pub record Stands (s : Setting) (at : L.At) (x : L.Part) : Type 0 where
   pub blocks : StandsAt s.image.blocks at.block x.blocks
   pub places : StandsAt s.image.places at.place x.places
 
--- the lines of a statement do what the statement does, from each moment of a point where it begins
+-- the lines of a statement do what the statement does, from each moment of a point where it begins, where no more loops with a counter or a flag are around than may be
 abbrev pub StatementGoes : Setting → L.At → Stmt → Type 0
 StatementGoes s at st =
     let x = part s.frame st at in
-    Stands s at x → (m : Moment) (its : List ℕ) (state : State) → IsAt s m state → IsPoint s its st state
+    at.depth ≤ s.depth → Stands s at x → (m : Moment) (its : List ℕ) (state : State) → IsAt s m state → IsPoint s its st state
     → CourseIs s at.depth (at.line + length x.commands) m (ends_from s.image s.run.graph at.line m) (sequential st s.run state)
 
 -- what is asked of each parallel loop in a statement: that its supersteps are the loop; and of each reduction that is done at once: that its lines do what it does

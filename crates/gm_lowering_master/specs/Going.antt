@@ -1,23 +1,28 @@
--- Loops of each kind go in the master list: their supersteps are the loop.
-use Rattle.std.specs.Prelude.{◌≡◌, ◌<◌, ◌⊎◌, ℕ, nat_eq, true, false, List, [], ◌++◌, map, length}
+-- Loops of each kind go in the master list: their supersteps are the loop. And reductions that are done at once go: their lines are the reduction.
+use Rattle.std.specs.Prelude.{◌≡◌, ◌<◌, ◌⊎◌, ℕ, nat_eq, Bool, true, false, List, [], ◌++◌, map, length}
 use Rattle.std.specs.List.{list_all}
 use Rattle.gm_base.specs.declared.places.Place.{Place}
 use Rattle.gm_value.specs.Bag.{IsIn}
+use Rattle.gm_value.specs.declared.reductions.Reduce.{Reduce}
 use Rattle.gm_model.specs.Graphs.{node_count}
 use Rattle.gm_ast.specs.declared.tree.Domain.TheVariants.{OutNbrs, InNbrs}
 use Rattle.gm_ast.specs.declared.tree.Head.{Head}
 use Rattle.gm_ast.specs.declared.tree.Key.{Key}
-use Rattle.gm_ast.specs.Program.{Expr, Stmt, Foreach}
+use Rattle.gm_ast.specs.declared.tree.Target.{Target}
+use Rattle.gm_ast.specs.declared.tree.Target.TheVariants as T
+use Rattle.gm_ast.specs.declared.tree.TotalKey.{TotalKey}
+use Rattle.gm_ast.specs.Program.{Expr, Stmt, Combine, Foreach}
+use Rattle.gm_forms.specs.Typing.{keeps_tuples}
 use Rattle.gm_semantics.specs.Faults.{somes}
 use Rattle.gm_semantics.specs.Iterations.{Loop}
 use Rattle.gm_semantics.specs.Levels.{no_levels, nodes}
 use Rattle.gm_semantics.specs.Loops.{iteration, own_left}
 use Rattle.gm_semantics.specs.Statements.{State, variable_at, loop_of}
-use Rattle.gm_lowering.specs.Layouts.{Layout, is_register, body_positions}
+use Rattle.gm_lowering.specs.Layouts.{Layout, is_register, phase_positions, body_positions}
 use Rattle.gm_lowering.specs.Plans.{carried, is_here, Away, aways}
 use Rattle.gm_lowering.specs.Places.{spots_in}
 use Rattle.gm_lowering.specs.Blocks.{reads_scalar}
-use Rattle.gm_lowering.specs.Sites.{is_body, is_local}
+use Rattle.gm_lowering.specs.Sites.{is_body, is_local, same_length}
 use Rattle.gm_lowering.specs.OwnLoops.{own_finds, own_sets, own_gives, are_any, HasSpares}
 use Rattle.gm_lowering.specs.Phases.{GivesApart, given_in, own_spots}
 use Rattle.gm_lowering.specs.MessageLoops.{receiver_finds, sets_nothing, inner_gives}
@@ -31,8 +36,34 @@ use Rattle.gm_lowering.specs.Lowered as L
 use Rattle.gm_lowering.specs.OwnSends.{sending_gives}
 use Rattle.gm_lowering.specs.TakingSteps.{IsTaken}
 use Rattle.gm_lowering.specs.SenderLoops.{TotalsLast}
-use Rattle.gm_lowering_master.specs.Cells.{Setting, IsSetting}
-use Rattle.gm_lowering_master.specs.Follows.{IsPoint, LoopGoes}
+use Rattle.gm_lowering.specs.ReceiverSends.{receiver_sends}
+use Rattle.gm_lowering.specs.ReceiverSendLoops.{SentLast}
+use Rattle.gm_lowering_master.specs.Cells.{Setting, IsSetting, HasSpareGlobals, is_scalar}
+use Rattle.gm_lowering_master.specs.Follows.{tells, IsPoint, LoopGoes, StatementGoes}
+
+-- there are spare globals for the tuples that a sequential phase keeps
+abbrev pub HasPhaseSpares : Setting → Stmt → Type 0
+HasPhaseSpares s st = HasSpareGlobals s.frame.layout s.returns s.depth (length s.image.globals) (phase_positions s.frame.layout.declarations st)
+
+-- whether a target is a scalar of the procedure
+abbrev pub is_phase_target : Layout → Target → Bool
+is_phase_target c (T.Scalar x at) = is_scalar c x
+is_phase_target c (T.Property x p at) = false
+
+-- a reduction that a sequential phase does at once: scalars of the procedure keep by Min or Max the better of what they hold and of values that the master list tells
+pub record IsPick (c : Layout) (r : Reduce) (ts : List Target) (es : List Expr) : Type 0 where
+  pub keeps : keeps_tuples r ≡ true
+  pub some : are_any ts ≡ true
+  pub scalars : list_all (is_phase_target c) ts ≡ true
+  pub long : same_length ts es ≡ true
+  pub told : list_all (tells c) es ≡ true
+
+-- its lines do what it does, where there are spare globals for its tuple
+abbrev pub PicksGo : Type 0
+PicksGo =
+    (s : Setting) (at : L.At) (k : Key) (total : TotalKey) (r : Reduce) (ts : List Target) (es : List Expr)
+    → IsSetting s → IsPick s.frame.layout r ts es → HasPhaseSpares s (Combine k total r ts es)
+    → StatementGoes s at (Combine k total r ts es)
 
 -- a parallel loop of the sequential phase
 abbrev pub phase_loop : Setting → ℕ → Stmt → Loop
@@ -167,4 +198,34 @@ SendingLoopsGo =
     → let inner = Foreach j inner_place h test body in
     IsSetting s → IsSending s.frame.layout outer.iterator k mask j h test body → HasBodySpares s body → GiveApart s k place outer mask inner
     → SentTotalsLast s k place outer mask j inner_place h test body
+    → LoopGoes s at k place outer mask inner
+
+-- a message loop whose receivers send through node variables: as one whose receivers do not, and it reduces besides through node variables, by one reduction at least, whose totals are among its spots; no property to which it reduces so is reduced at a receiver
+pub record IsReceiverSending (c : Layout) (n : ℕ) (k : Key) (mask : Expr) (j : Key) (h : Head) (out : List ℕ) (test : Expr) (body : Stmt) : Type 0 where
+  pub nested : AreNested c n h
+  pub away : is_here c.declarations n h test body ≡ false
+  pub masked : own_finds c n mask ≡ true
+  pub quiet : spots_in mask k ≡ []
+  pub readable : list_all (is_readable c) (carried n test body) ≡ true
+  pub found : receiver_finds c n h.iterator (carried n test body) test ≡ true
+  pub fits : is_body c (receiver_finds c n h.iterator (carried n test body)) sets_nothing (receiver_sends c n h.iterator out (receiver_finds c n h.iterator (carried n test body))) body ≡ true
+  pub sends : are_any (aways c.declarations h.iterator body) ≡ true
+  pub taken : (a : Away) → IsIn a (aways c.declarations h.iterator body) → IsTaken c (spots_in mask k ++ inner_spots c n h.iterator j test body) a
+  pub shows : ShowOne (spots_in mask k ++ inner_spots c n h.iterator j test body)
+
+-- the totals of what its receivers send come behind all its other faults, at each point where it begins
+abbrev pub ReceiversTotalsLast : Setting → Key → Place → Head → Expr → Key → Place → Head → List ℕ → Expr → Stmt → Type 0
+ReceiversTotalsLast s k place outer mask j inner_place h out test body =
+    let inner = Foreach j inner_place h test body in
+    let loop = phase_loop s outer.iterator inner in
+    (its : List ℕ) (state : State) → IsPoint s its (Foreach k place outer mask inner) state
+    → SentLast out (somes (map (λ it. it.fault) (map (iteration loop k mask inner state.store) (nodes loop.graph)))) state.store (given_in loop k mask inner state.store)
+
+-- the three supersteps of such a loop are the loop, where there are spare registers for its tuples
+abbrev pub ReceiverSendingLoopsGo : Type 0
+ReceiverSendingLoopsGo =
+    (s : Setting) (at : L.At) (k : Key) (place : Place) (outer : Head) (mask : Expr) (j : Key) (inner_place : Place) (h : Head) (out : List ℕ) (test : Expr) (body : Stmt)
+    → let inner = Foreach j inner_place h test body in
+    IsSetting s → IsReceiverSending s.frame.layout outer.iterator k mask j h out test body → HasBodySpares s body → GiveApart s k place outer mask inner
+    → ReceiversTotalsLast s k place outer mask j inner_place h out test body
     → LoopGoes s at k place outer mask inner

@@ -2,6 +2,7 @@
 use Rattle.std.specs.Prelude.{◌≡◌, ℕ, nat_eq, Bool, true, false, not, ◌&&◌, ◌||◌, List, [], ◌∷◌, ◌++◌, length}
 use Rattle.std.specs.List.{list_all, list_any}
 use Rattle.gm_base.specs.declared.places.Place.{Place}
+use Rattle.gm_value.specs.declared.reductions.Reduce.{Reduce}
 use Rattle.gm_value.specs.declared.values.Value.{Value}
 use Rattle.gm_model.specs.Graphs.{NumberedGraph, node_count}
 use Rattle.gm_ast.specs.declared.tree.Domain.{Domain}
@@ -11,6 +12,8 @@ use Rattle.gm_ast.specs.declared.tree.Key.{Key}
 use Rattle.gm_ast.specs.declared.tree.Target.{Target}
 use Rattle.gm_ast.specs.declared.tree.Target.TheVariants as T
 use Rattle.gm_ast.specs.Program.{Program, Expr, Stmt, Then, Combine, Foreach, For, If, While, Do}
+use Rattle.gm_forms.specs.Cut.{can_overflow}
+use Rattle.gm_forms.specs.Typing.{keeps_tuples}
 use Rattle.gm_semantics.specs.Levels.{numbers_from}
 use Rattle.gm_semantics.specs.Outcomes.{mean}
 use Rattle.gm_semantics.specs.Statements.{variable_at}
@@ -20,10 +23,11 @@ use Rattle.gm_lowering.specs.Layouts.{Layout, layout, is_register}
 use Rattle.gm_lowering.specs.Plans.{carried, is_here, Away, aways}
 use Rattle.gm_lowering.specs.Places.{Spot, spot_lt, spot_of_total, spots_in}
 use Rattle.gm_lowering.specs.Blocks.{reads_scalar}
-use Rattle.gm_lowering.specs.Sites.{is_body, is_local}
+use Rattle.gm_lowering.specs.Sites.{is_body, is_local, same_length}
 use Rattle.gm_lowering.specs.OwnLoops.{are_any, own_finds, own_sets, own_gives, is_kept_property}
 use Rattle.gm_lowering.specs.Phases.{own_spots}
 use Rattle.gm_lowering.specs.OwnSends.{sending_gives}
+use Rattle.gm_lowering.specs.ReceiverSends.{receiver_sends}
 use Rattle.gm_lowering.specs.MessageLoops.{receiver_finds, sets_nothing, inner_gives}
 use Rattle.gm_lowering.specs.Receiving.{inner_spots}
 use Rattle.gm_lowering.specs.TwoSupersteps.{is_readable}
@@ -33,8 +37,8 @@ use Rattle.gm_lowering.specs.Lowered as L
 use Rattle.gm_lowering.specs.Lowered.{lowered}
 use Rattle.gm_lowering.specs.Made.{gives_apart}
 use Rattle.gm_lowering_master.specs.Cells.{Setting, IsSetting}
-use Rattle.gm_lowering_master.specs.Follows.{is_followed, LoopsGo}
-use Rattle.gm_lowering_master.specs.Going.{HasBodySpares}
+use Rattle.gm_lowering_master.specs.Follows.{tells, is_followed, LoopsGo}
+use Rattle.gm_lowering_master.specs.Going.{HasBodySpares, HasPhaseSpares, is_phase_target}
 use Rattle.gm_lowering_master.specs.Whole.{has_result, HasInterface, HasEdgeColumns}
 
 -- whether two spots stand apart in the order of faults, or show one place
@@ -76,19 +80,29 @@ is_last_among spots z = list_any (is_same_spot z) spots && list_all (λ s. not (
 abbrev pub is_sent_last : Layout → ℕ → List Spot → Away → Bool
 is_sent_last c i spots a = are_any a.targets && (list_all (is_kept_property c i) a.targets && is_last_among spots (spot_of_total a.total))
 
--- whether a reduction through a node variable has the last of some spots
-abbrev pub is_last_through : Layout → List Spot → Away → List Target → Bool
-is_last_through c spots a (T.Property x p at ∷ ts) = is_sent_last c x spots a
-is_last_through c spots a _ = false
+-- whether the total of a reduction that is sent is among some spots, and none of them comes behind that of a Sum or a Product. No total of another reduction is out of range
+abbrev pub is_spotted_last : List Spot → Away → Bool
+is_spotted_last spots a =
+    let z = spot_of_total a.total in
+    list_any (is_same_spot z) spots && (not (can_overflow a.reduce) || list_all (λ s. not (spot_lt z s)) spots)
 
--- whether a loop of own statements sends through node variables, and no spot comes behind the totals of what it sends
+-- whether such a reduction goes to properties of an iterator that have fields
+abbrev pub is_sent_well : Layout → ℕ → List Spot → Away → Bool
+is_sent_well c i spots a = are_any a.targets && (list_all (is_kept_property c i) a.targets && is_spotted_last spots a)
+
+-- whether one through a node variable does
+abbrev pub is_sent_through : Layout → List Spot → Away → List Target → Bool
+is_sent_through c spots a (T.Property x p at ∷ ts) = is_sent_well c x spots a
+is_sent_through c spots a _ = false
+
+-- whether a loop of own statements sends through node variables, and no spot comes behind the totals of Sums and Products that it sends
 abbrev pub own_sending_goes : Layout → ℕ → Key → Expr → Stmt → Bool
 own_sending_goes c n k test body =
     let spots = own_spots c n k test body in
     let sends = aways c.declarations n body in
     not (is_register (variable_at c.declarations n)) && (own_finds c n test
     && (is_body c (own_finds c n) (own_sets c n) (sending_gives c n (own_finds c n)) body
-    && (all_show_one spots && (gives_apart c.declarations n body && (are_any sends && list_all (λ a. is_last_through c spots a a.targets) sends)))))
+    && (all_show_one spots && (gives_apart c.declarations n body && (are_any sends && list_all (λ a. is_sent_through c spots a a.targets) sends)))))
 
 -- whether two iterators are nested: no locals, and the inner one is of neighbours of the outer one
 abbrev pub are_nested : Layout → ℕ → Head → Bool
@@ -121,17 +135,43 @@ sending_goes c n k mask j h test body =
     && (found test && (is_body c found sets_nothing (inner_gives c h.iterator found) body
     && (all_show_one spots && (are_any sends && list_all (is_sent_last c h.iterator spots) sends))))))
 
+-- the properties to which some reductions are sent
+abbrev pub properties_of : List Target → List ℕ
+properties_of [] = []
+properties_of (T.Scalar x at ∷ ts) = properties_of ts
+properties_of (T.Property x p at ∷ ts) = p ∷ properties_of ts
+
+abbrev pub sent_properties : List Away → List ℕ
+sent_properties [] = []
+sent_properties (a ∷ rest) = properties_of a.targets ++ sent_properties rest
+
+-- whether a loop goes by messages whose receivers send through node variables, to other properties than they reduce themselves, and no spot comes behind the totals of Sums and Products that they send
+abbrev pub receiver_sending_goes : Layout → ℕ → Key → Expr → Key → Head → Expr → Stmt → Bool
+receiver_sending_goes c n k mask j h test body =
+    let loads = carried n test body in
+    let found = receiver_finds c n h.iterator loads in
+    let spots = spots_in mask k ++ inner_spots c n h.iterator j test body in
+    let sends = aways c.declarations h.iterator body in
+    not (is_here c.declarations n h test body) && (own_finds c n mask && (not (are_any (spots_in mask k)) && (list_all (is_readable c) loads
+    && (found test && (is_body c found sets_nothing (receiver_sends c n h.iterator (sent_properties sends) found) body
+    && (all_show_one spots && (are_any sends && list_all (λ a. is_sent_through c spots a a.targets) sends)))))))
+
 -- whether a loop over nodes is plain
 abbrev pub loop_goes : Layout → ℕ → Key → Expr → Stmt → Bool
 loop_goes c n k mask (Foreach j place h test body) =
     are_nested c n h && (gives_apart c.declarations n (Foreach j place h test body)
-    && (message_goes c n k mask j h test body || (home_goes c n k mask j h test body || sending_goes c n k mask j h test body)))
+    && (message_goes c n k mask j h test body || (home_goes c n k mask j h test body || (sending_goes c n k mask j h test body || receiver_sending_goes c n k mask j h test body))))
 loop_goes c n k test body = own_goes c n k test body || own_sending_goes c n k test body
 
--- whether all loops of a sequential phase are, and it does no reduction at once
+-- whether a reduction that is done at once goes: by Min or Max, in scalars of the procedure, of values that the master list tells
+abbrev pub pick_goes : Layout → Reduce → List Target → List Expr → Bool
+pick_goes c r ts es =
+    keeps_tuples r && (are_any ts && (list_all (is_phase_target c) ts && (same_length ts es && list_all (tells c) es)))
+
+-- whether all loops of a sequential phase are, and what it reduces at once goes
 abbrev pub is_plain : Layout → Stmt → Bool
 is_plain c (Then a b) = is_plain c a && is_plain c b
-is_plain c (Combine k total r ts es) = false
+is_plain c (Combine k total r ts es) = pick_goes c r ts es
 is_plain c (Foreach k place h test body) = loop_goes c h.iterator k test body
 is_plain c (For k place h test body) = is_plain c body
 is_plain c (If k test a b) = is_plain c a && is_plain c b
@@ -139,9 +179,9 @@ is_plain c (While k place test body) = is_plain c body
 is_plain c (Do k place body test) = is_plain c body
 is_plain c _ = true
 
--- then its loops go, where there are spare registers for their tuples
+-- then its loops go, and what it reduces at once, where there are spare registers and globals for tuples
 abbrev pub PlainLoopsGo : Type 0
-PlainLoopsGo = (s : Setting) (st : Stmt) (at : L.At) → IsSetting s → HasBodySpares s st → is_plain s.frame.layout st ≡ true → LoopsGo s st at
+PlainLoopsGo = (s : Setting) (st : Stmt) (at : L.At) → IsSetting s → HasBodySpares s st → HasPhaseSpares s st → is_plain s.frame.layout st ≡ true → LoopsGo s st at
 
 -- the machine on the image of a program of plain loops has the program's outcome
 abbrev pub PlainProgramsRun : Type 0

@@ -1,7 +1,7 @@
 //! Laws of the master list, as contracts of calls that do nothing.
 
 ghost use Rattle.gm_lowering_master.specs.Follows.{StatementsAreFollowed};
-ghost use Rattle.gm_lowering_master.specs.Going.{HomeLoopsGo, MessageLoopsGo, OwnLoopsGo, OwnSendingLoopsGo, SendingLoopsGo};
+ghost use Rattle.gm_lowering_master.specs.Going.{HomeLoopsGo, MessageLoopsGo, OwnLoopsGo, OwnSendingLoopsGo, PicksGo, ReceiverSendingLoopsGo, SendingLoopsGo};
 ghost use Rattle.gm_lowering_master.specs.Plain.{PlainLoopsGo, PlainProgramsRun};
 ghost use Rattle.gm_lowering_master.specs.Runs.{LinesLead};
 ghost use Rattle.gm_lowering_master.specs.Whole.{FirstMomentsShow, LayoutsAreSettings, RunsAreFollowed};
@@ -41,16 +41,19 @@ pub fn runs_are_followed()
     ensures { RunsAreFollowed }
 {}
 
-/// The supersteps of an own loop, of a home loop, of a message loop and of one that sends along its edges or through node
-/// variables are the loop, at each point of a run where it begins: with the store that it leaves, or with its fault at the
+/// The supersteps of an own loop, of a home loop, of a message loop, of one that sends along its edges or through node
+/// variables, and of a message loop whose receivers send through node variables are the loop, at each point of a run where it begins: with the store that it leaves, or with its fault at the
 /// place that the fault shows. The loop finds what it reads where its kind has it, spots of one fault show one place, and what
-/// the loop gives to one slot is by one reduction. Of what is sent the totals come behind all other faults.
+/// the loop gives to one slot is by one reduction. Of what is sent the totals come behind all other faults. And the lines of
+/// a reduction that is done at once, by Min or Max in scalars of the procedure, do what it does.
 pub fn loops_go()
     ensures own { OwnLoopsGo }
     ensures message { MessageLoopsGo }
     ensures home { HomeLoopsGo }
     ensures sending { SendingLoopsGo }
     ensures through { OwnSendingLoopsGo }
+    ensures receivers { ReceiverSendingLoopsGo }
+    ensures picks { PicksGo }
 {}
 
 /// The machine on the image of a program of plain loops has the program's outcome, with its turns, or its fault and place, or
@@ -58,7 +61,9 @@ pub fn loops_go()
 /// where a test of its text says so: it is of own statements that reduce to scalars of the procedure, at once to properties
 /// of their node and to locals, of values or tuples, and through node variables; or it is one inner loop along edges that
 /// reduces to scalars of the procedure and to properties of one node, that at which it is evaluated or its neighbour, and at
-/// once to its locals, by Min or Max. No other fault comes behind the totals of what it sends.
+/// once to its locals, by Min or Max, and at the receivers of messages through node variables, to other properties. No other
+/// fault comes behind the totals of what it sends. Between loops scalars of the procedure may keep the better of what they
+/// hold and new values, a tuple at once too.
 pub fn plain_programs_run()
     ensures loops { PlainLoopsGo }
     ensures runs { PlainProgramsRun }

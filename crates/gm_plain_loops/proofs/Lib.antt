@@ -1,0 +1,14 @@
+mod Names
+pub mod Followed
+mod Bodies
+mod Inners
+mod Loads
+mod Apart
+mod Spots
+mod Orders
+mod Sends
+mod Picks
+mod Receivers
+pub mod Plain
+pub mod Running
+mod Rows

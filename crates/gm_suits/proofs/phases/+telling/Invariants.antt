@@ -1,0 +1,9 @@
+use Rattle.std.proofs.Common.{◌≡◌, drop, map}
+use Rattle.gm_ast.specs.Program.{sequence}
+use Rattle.gm_ast.specs.Tree.{stmt_of}
+use Rattle.gm_plain_loops.specs.Tests.{tells_phase}
+use Rattle.gm_suits.proofs.phases.+telling.Given as goal
+
+-- what is left of the block decides
+abbrev pub invariant-tell_phases-loop-stmt : goal.invariant-tell_phases-loop-stmt
+invariant-tell_phases-loop-stmt l = tells_phase l.fn.declarations (sequence (map stmt_of (drop l.stmt-index l.stmts.items))) ≡ tells_phase l.fn.declarations (sequence (map stmt_of l.stmts.items))
