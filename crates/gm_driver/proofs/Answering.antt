@@ -13,8 +13,9 @@ use Rattle.gm_words.specs.declared.jobs.Options.{Options}
 use Rattle.gm_words.specs.declared.arguments.Input.{Input}
 use Rattle.gm_value.specs.declared.values.Value.{Value}
 use Rattle.gm_graph.specs.declared.builds.Shape.{Shape}
-use Rattle.gm_run.specs.Answers.{Ran}
-use Rattle.gm_run.specs.Programs.{shape_of, inputs_of}
+use Rattle.gm_source_runs.specs.Answers.{Ran}
+use Rattle.gm_run.specs.Compiled.{RanShown}
+use Rattle.gm_source_runs.specs.Programs.{shape_of, inputs_of}
 use Rattle.gm_input.specs.Answers.{GraphFormat, Saying, IsGraphAnswer, bad_argument, ran as graph_ran, IsTextAnswer, bad_graph, good_graph, edge_list, format_of}
 use Rattle.gm_input.specs.Outside.{Outside, KeepsFiles, IsText, on_input, in_file, IsUnread, input_fault, file_fault, file_absent}
 use Rattle.gm_input.specs.Roads.{Road, IsReply, no_code, bad_code, no_graph, over, IsCode, in_front, alone, AreTexts, parted, apart}
@@ -22,7 +23,7 @@ use Rattle.gm_driver.specs.Fronts.{most_program}
 use Rattle.gm_driver.specs.Checks.{IsVerdict, accepted, refused, IsCheckReply, unread, judged}
 use Rattle.gm_driver.specs.Runs.{SaysRefused, program_road, IsRunReply}
 use Rattle.gm_demo.specs.Texts.{demo_text}
-use Rattle.gm_driver.specs.Demos.{IsDemoAnswer, refused as demo_refused, told, listed, demo_words, usual_turns}
+use Rattle.gm_driver.specs.Demos.{IsDemoAnswer, RanDemo, demo_words, line, listing, ran as demo_ran, refused as demo_refused, usual_turns}
 use Rattle.gm_observe.specs.declared.notes.Note.{Note}
 use Rattle.gm_image.specs.Program.{Program as ImageProgram}
 use Rattle.gm_machine.specs.Machine.{machine}
@@ -30,7 +31,9 @@ use Rattle.gm_exec.specs.Programs as image
 use Rattle.gm_exec.specs.Runs.{Audience, audience}
 use Rattle.gm_exec.specs.Runs as exec
 use Rattle.gm_exec.specs.Replies.{image_road, IsExecReply}
-use Rattle.gm_driver.specs.Whole.{IsJobReply, usage, checked, ran, executed, shown, IsWrittenStatus, IsAnswerStatus, NoneMissed, SomeMiss}
+use Rattle.gm_compile.specs.Compiled.{compiled}
+use Rattle.gm_driver.specs.Images.{IsCompiled, written, unwritten, IsCompileReply, not_read, was_read, SaysNoRun, refused as refused_run, no_image, shown_road, IsShownReply}
+use Rattle.gm_driver.specs.Whole.{IsJobReply, usage, checked, compiled as was_compiled, ran, ran_shown, executed, demonstrated, IsWrittenStatus, IsAnswerStatus, NoneMissed, SomeMiss}
 
 -- ---- the statuses of answers
 
@@ -65,15 +68,31 @@ program_answers p turns g args text status says = status_given status (status_of
 image_answers : (p : ImageProgram) (turns : ℕ) (watched : Bool) (s : Audience) → SaysAnswers (exec.Ran p turns watched s)
 image_answers p turns watched s g args text status r = status_given status (status_of (machine p g args turns).outcome) r.says.1 (outcome_is_answer (machine p g args turns).outcome)
 
+-- and that of a program by its image, which is shown
+shown_answers : (i : ImageProgram) (p : Program) (turns : ℕ) (watched : Bool) (s : Audience) → SaysAnswers (RanShown i p turns watched s)
+shown_answers i p turns watched s g args text status r = status_given status (status_of (machine i g args turns).outcome) r.says.1 (outcome_is_answer (machine i g args turns).outcome)
+
 verdict_status : (program text : List ℕ) (status : Status) → IsVerdict program text status → IsAnswerStatus status
 verdict_status program text status (accepted p stands says) = status_given status DoneStatus says.1 tt
 verdict_status program text status (refused said) = status_given status RefusedStatus said.says.1 tt
 
+no_run_status : (program text : List ℕ) (status : Status) → SaysNoRun program text status → IsAnswerStatus status
+no_run_status program text status (refused_run said) = status_given status RefusedStatus said.says.1 tt
+no_run_status program text status (no_image said) = status_given status RefusedStatus said.says.1 tt
+
+compiled_status : (program text : List ℕ) (status : Status) → IsCompiled program text status → IsAnswerStatus status
+compiled_status program text status (written p it spelled ended) = status_given status DoneStatus ended tt
+compiled_status program text status (unwritten said) = no_run_status program text status said
+
+-- the procedure of the demonstration says the statuses of outcomes too
+demo_answers : (n : ℕ) (p : Program) → SaysAnswers (RanDemo n p)
+demo_answers n p g args text status (line it ended) = status_given status DoneStatus ended tt
+demo_answers n p g args text status (listing other says) = status_given status (status_of (mean p g args usual_turns)) says.1 (outcome_is_answer (mean p g args usual_turns))
+
 demo_status : (n : ℕ) (text : List ℕ) (status : Status) → IsDemoAnswer n text status → IsAnswerStatus status
 demo_status n text status (demo_refused said) = status_given status RefusedStatus said.says.1 tt
-demo_status n text status (told p stands run ended) = status_given status DoneStatus ended tt
-demo_status n text status (listed p stands none said) =
-    text_status edge_list (shape_of p) (inputs_of p) demo_words (Ran p usual_turns) (demo_text n) text status (program_answers p usual_turns) said
+demo_status n text status (demo_ran p stands said) =
+    text_status edge_list (shape_of p) (inputs_of p) demo_words (RanDemo n p) (demo_text n) text status (demo_answers n p) said
 
 -- ---- the counts
 
@@ -88,10 +107,10 @@ none_missed b a quiet files = record { input = quiet; files = files.quiet; found
 none_since : (b m a : Outside) → NoneMissed b m → NoneMissed m a → NoneMissed b a
 none_since b m a n h = record { input = h.input ∙ n.input; files = h.files ∙ n.files; found = h.found ∙ n.found }
 
-unread_misses : (name : List ℕ) (b a : Outside) (line : List ℕ) → IsUnread name b a line → SomeMiss b a
-unread_misses name b a line (input_fault is rises files e) = inl rises
-unread_misses name b a line (file_fault is input rises none e) = inr (inl rises)
-unread_misses name b a line (file_absent is input none lacks rises e) = inr (inr rises)
+unread_misses : (name : List ℕ) (b a : Outside) (said : List ℕ) → IsUnread name b a said → SomeMiss b a
+unread_misses name b a said (input_fault is rises files e) = inl rises
+unread_misses name b a said (file_fault is input rises none e) = inr (inl rises)
+unread_misses name b a said (file_absent is input none lacks rises e) = inr (inr rises)
 
 text_quiet : (most : ℕ) (name : List ℕ) (b a : Outside) (text : List ℕ) → IsText most name b a text → NoneMissed b a
 text_quiet most name b a text (on_input is reads quiet files) = none_missed b a quiet files
@@ -125,6 +144,10 @@ check_ends : (name : List ℕ) (b a : Outside) (text : List ℕ) (status : Statu
 check_ends name b a text status (unread said) = misses said.says.1 (unread_misses name b a said.line said.unread)
 check_ends name b a text status (judged program t v) = answers (verdict_status program text status v) (text_quiet most_program name b a program t)
 
+compile_ends : (name : List ℕ) (b a : Outside) (text : List ℕ) (status : Status) → IsCompileReply name b a text status → Ends b a status
+compile_ends name b a text status (not_read said) = misses said.says.1 (unread_misses name b a said.line said.unread)
+compile_ends name b a text status (was_read whole t c) = answers (compiled_status whole text status c) (text_quiet most_program name b a whole t)
+
 run_ends : (prog graph : List ℕ) (words : List (List ℕ)) (options : Options) (b a : Outside) (text : List ℕ) (status : Status) → IsRunReply prog graph words options b a text status → Ends b a status
 run_ends prog graph words options b a text status r =
     road_ends (program_road words options) prog graph b a text status
@@ -137,12 +160,21 @@ exec_ends name graph words options s b a text status r =
     (λ whole said. status_given status BadInput said.says.1 tt)
     (λ p whole said. text_status (format_of options.format) (image.shape_of p) (image.inputs_of p) words (exec.Ran p options.turns options.observe s) whole text status (image_answers p options.turns options.observe s) said) r
 
+shown_ends : (prog graph : List ℕ) (words : List (List ℕ)) (options : Options) (s : Audience) (b a : Outside) (text : List ℕ) (status : Status) → IsShownReply prog graph words options s b a text status → Ends b a status
+shown_ends prog graph words options s b a text status r =
+    road_ends (shown_road words options s) prog graph b a text status
+    (λ whole said. no_run_status whole text status said)
+    (λ p whole said. text_status (format_of options.format) (shape_of p) (inputs_of p) words (RanShown (compiled p) p options.turns options.observe s) whole text status
+    (shown_answers (compiled p) p options.turns options.observe s) said) r
+
 job_ends : (asked : Option Job) (ways : List (List Note → List ℕ)) (held : List (List Note)) (b a : Outside) (text : List ℕ) (status : Status) → IsJobReply asked ways held b a text status → Ends b a status
 job_ends asked ways held b a text status (usage is input files says) = answers (status_given status Usage says.1 tt) (none_missed b a input.quiet files)
 job_ends asked ways held b a text status (checked prog is r) = check_ends prog b a text status r
+job_ends asked ways held b a text status (was_compiled prog is r) = compile_ends prog b a text status r
 job_ends asked ways held b a text status (ran prog graph args options is r) = run_ends prog graph args options b a text status r
+job_ends asked ways held b a text status (ran_shown prog graph args options held_then is r) = shown_ends prog graph args options (audience ways held held_then) b a text status r
 job_ends asked ways held b a text status (executed image graph args options held_then is r) = exec_ends image graph args options (audience ways held held_then) b a text status r
-job_ends asked ways held b a text status (shown n options is input files d) = answers (demo_status n text status d) (none_missed b a input.quiet files)
+job_ends asked ways held b a text status (demonstrated n options is input files d) = answers (demo_status n text status d) (none_missed b a input.quiet files)
 
 -- ---- what follows for the whole call
 

@@ -11,9 +11,14 @@ use Rattle.gm_driver.specs.Fronts.{most_program}
 use Rattle.gm_words.specs.declared.jobs.Options.{Options}
 use Rattle.gm_input.proofs.Answering.{text_answer_front}
 use Rattle.gm_input.proofs.Roading.{IsRightRoad}
-use Rattle.gm_run.specs.Answers.{Ran}
-use Rattle.gm_run.specs.Programs.{shape_of, inputs_of}
+use Rattle.gm_source_runs.specs.Answers.{Ran}
+use Rattle.gm_run.specs.Compiled.{RanShown}
+use Rattle.gm_source_runs.specs.Programs.{shape_of, inputs_of}
 use Rattle.gm_driver.specs.Checks.{IsVerdict, accepted, refused}
+use Rattle.gm_exec.specs.Runs as exec
+use Rattle.gm_compile.specs.Compiled.{compiled}
+use Rattle.gm_driver.specs.Images.{HasImage, HasNoImage, IsCompiled, unwritten, written, SaysNoRun, no_image, shown_road}
+use Rattle.gm_driver.specs.Images.{refused as refused_run}
 use Rattle.gm_driver.specs.Runs.{SaysRefused, program_road}
 
 -- the first bytes of a text are all of it, where they are fewer
@@ -68,4 +73,34 @@ program_right words options = record {
   bad = λ whole text status said. said_refused most_program whole text status refl said;
   short = λ bytes p stands. let few : length bytes ≤ MAX_TEXT = stands.spelled.scanned.0 in omega (arith, few);
   over = λ p whole text status answer. text_answer_front options.format (shape_of p) (inputs_of p) words (Ran p options.turns) whole text status answer;
+}
+
+-- ---- compilation
+
+has_front : (n : ℕ) (whole : List ℕ) (p : Program) → n ≡ MAX_TEXT + 1 → HasImage (take n whole) p → HasImage whole p
+has_front n whole p is it = record { stands = whole_stands n whole p is it.stands; has = it.has; represents = it.represents }
+
+lacks_front : (n : ℕ) (whole : List ℕ) → n ≡ MAX_TEXT + 1 → HasNoImage (take n whole) → HasNoImage whole
+lacks_front n whole is it = record { source = it.source; stands = whole_stands n whole it.source is it.stands; none = it.none }
+
+no_run_front : (n : ℕ) (whole text : List ℕ) (status : Status) → n ≡ MAX_TEXT + 1 → SaysNoRun (take n whole) text status → SaysNoRun whole text status
+no_run_front n whole text status is (refused_run said) = refused_run (said_refused n whole text status is said)
+no_run_front n whole text status is (no_image said) = no_image (record { none = lacks_front n whole is said.none; says = said.says })
+
+compiled_front : (n : ℕ) (whole text : List ℕ) (status : Status) → n ≡ MAX_TEXT + 1 → IsCompiled (take n whole) text status → IsCompiled whole text status
+compiled_front n whole text status is (written p it spelled ended) = written p (has_front n whole p is it) spelled ended
+compiled_front n whole text status is (unwritten said) = unwritten (no_run_front n whole text status is said)
+
+-- what is compiled of what was read of a text is compiled of the text
+pub front_compiled : (bytes whole text : List ℕ) (status : Status) → bytes ≡ take most_program whole → IsCompiled bytes text status → IsCompiled whole text status
+front_compiled bytes whole text status e c = compiled_front most_program whole text status refl (rw e at c)
+
+-- the road of a program whose image is shown is right
+pub shown_right : (words : List (List ℕ)) (options : Options) (a : exec.Audience) → IsRightRoad (shown_road words options a)
+shown_right words options a = record {
+  stands = λ whole p it. has_front most_program whole p refl it;
+  bad = λ whole text status said. no_run_front most_program whole text status refl said;
+  short = λ bytes p it. let few : length bytes ≤ MAX_TEXT = it.stands.spelled.scanned.0 in omega (arith, few);
+  over = λ p whole text status answer.
+      text_answer_front options.format (shape_of p) (inputs_of p) words (RanShown (compiled p) p options.turns options.observe a) whole text status answer;
 }

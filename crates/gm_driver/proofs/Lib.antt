@@ -1,3 +1,5 @@
 pub mod Checking
-pub mod Answering
+pub mod Imaging
+pub mod Executing
 pub mod DemoLemmas
+pub mod Answering

@@ -9,7 +9,7 @@ use Rattle.gm_canon.specs.Verdict.{Breaks, StandsFor}
 use Rattle.gm_input.specs.Outside.{Outside}
 use Rattle.gm_input.specs.Roads.{Road, IsReply}
 use Rattle.gm_input.specs.Texts.{Says}
-use Rattle.gm_run.specs.Answers.{IsTextAnswer}
+use Rattle.gm_source_runs.specs.Answers.{IsTextAnswer}
 use Rattle.gm_driver.specs.Fronts.{most_program}
 use Rattle.gm_driver.specs.Texts.{refused_text}
 

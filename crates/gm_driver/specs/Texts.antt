@@ -12,3 +12,6 @@ accepted_text = codes "accepted" ++ line_end
 
 abbrev pub refused_text : Refusal → List ℕ
 refused_text r = refusal_text r ++ line_end
+
+abbrev pub no_image_text : List ℕ
+no_image_text = codes "program NoImage" ++ line_end

@@ -14,33 +14,27 @@ use Rattle.gm_input.specs.Texts.{Says}
 use Rattle.gm_driver.specs.Texts.{usage_text}
 use Rattle.gm_input.specs.Outside.{Outside, KeepsInput, KeepsFiles}
 use Rattle.gm_driver.specs.Checks.{IsCheckReply}
+use Rattle.gm_driver.specs.Images.{IsCompileReply, IsShownReply}
 use Rattle.gm_driver.specs.Runs.{IsRunReply}
 use Rattle.gm_driver.specs.Demos.{IsDemoAnswer}
 
--- nothing is done of a job: there is none, or it is one that is not built yet, to compile, or to show the image that is
--- run
-abbrev pub IsUsage : Option Job → Type 0
-IsUsage None = Unit {0}
-IsUsage (Some (job.Compile prog)) = Unit {0}
-IsUsage (Some (job.Exec image graph args options)) = ⊥
-IsUsage (Some (job.Run prog graph args options true)) = Unit {0}
-IsUsage (Some (job.Run prog graph args options false)) = ⊥
-IsUsage (Some (job.Check prog)) = ⊥
-IsUsage (Some (job.Demo n options)) = ⊥
-
--- what is to be written for a job, and the status: the usage line, or the reply of a check, a run, the run of an image or
--- a demonstration. There are observers, each with a way to report and the notes that it holds: where the run of an image
--- is to be observed, they are told of it, and what they report of all that they then hold is written behind its listing.
+-- what is to be written for a job, and the status: the usage line where the words ask for none, or the reply of a check, a
+-- compilation, a run, which shows the program's image or does not, the run of an image or a demonstration. There are
+-- observers, each with a way to report and the notes that it holds: where the run of an image is to be observed, they are
+-- told of it, and what they report of all that they then hold is written behind its listing.
 -- Of the other options of a run the format of its graph and its bound on turns alone change what is written. Nothing is
 -- read for the usage line and for a demonstration
 pub data IsJobReply (asked : Option Job) (ways : List (List Note → List ℕ)) (held : List (List Note)) (before after : Outside) (text : List ℕ) (status : Status) : Type 0 where
-  usage : IsUsage asked → KeepsInput before after → KeepsFiles before after → Says text status usage_text Usage → IsJobReply asked ways held before after text status
+  usage : asked ≡ None → KeepsInput before after → KeepsFiles before after → Says text status usage_text Usage → IsJobReply asked ways held before after text status
   checked : (prog : List ℕ) → asked ≡ Some (job.Check prog) → IsCheckReply prog before after text status → IsJobReply asked ways held before after text status
+  compiled : (prog : List ℕ) → asked ≡ Some (job.Compile prog) → IsCompileReply prog before after text status → IsJobReply asked ways held before after text status
   ran : (prog graph : List ℕ) (args : List (List ℕ)) (options : Options) → asked ≡ Some (job.Run prog graph args options false)
       → IsRunReply prog graph args options before after text status → IsJobReply asked ways held before after text status
+  ran_shown : (prog graph : List ℕ) (args : List (List ℕ)) (options : Options) (held_then : List (List Note)) → asked ≡ Some (job.Run prog graph args options true)
+      → IsShownReply prog graph args options (audience ways held held_then) before after text status → IsJobReply asked ways held before after text status
   executed : (image graph : List ℕ) (args : List (List ℕ)) (options : Options) (held_then : List (List Note)) → asked ≡ Some (job.Exec image graph args options)
       → IsExecReply image graph args options (audience ways held held_then) before after text status → IsJobReply asked ways held before after text status
-  shown : (n : ℕ) (options : Options) → asked ≡ Some (job.Demo n options) → KeepsInput before after → KeepsFiles before after
+  demonstrated : (n : ℕ) (options : Options) → asked ≡ Some (job.Demo n options) → KeepsInput before after → KeepsFiles before after
       → IsDemoAnswer n text status → IsJobReply asked ways held before after text status
 
 -- what is to be written for the words of a command line, with these observers, and the status

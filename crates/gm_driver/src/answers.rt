@@ -37,8 +37,8 @@ pub fn refused(alloc: Global, refusal: Refusal) -> Result<Answer, NoMemory>
     fixed_answer(alloc, line.as_bytes(), Status::Refused)
 }
 
-// The work on the program that a text stands for. `Refused` comes where the text breaks a rule.
-fn work_in(alloc: Global, text: &[u8]) -> Result<Work, Stop>
+/// The work on the program that a text stands for. `Refused` comes where the text breaks a rule.
+pub fn work_in(alloc: Global, text: &[u8]) -> Result<Work, Stop>
     ensures accepted { IfOk result (λ work. StandsFor text.now (program_of work)) }
     ensures refused { IfErr result (IsVerdictOf text.now) }
 {

@@ -4,8 +4,11 @@
 
 mod answers;
 mod demos;
+mod images;
+mod laws;
 mod program;
 mod programs;
 mod runs;
 
+pub use laws::compiled_images_run_alike;
 pub use program::gm;

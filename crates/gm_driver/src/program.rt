@@ -8,12 +8,12 @@ ghost use Rattle.gm_words.specs.Jobs.{AllAssign, AreRight, IsRight};
 ghost use Rattle.gm_words.specs.declared.jobs.Job.TheVariants as job;
 ghost use Rattle.gm_observe.specs.declared.notes.Note.{Note};
 ghost use Rattle.gm_input.specs.Outside.{Outside, outside};
-ghost use Rattle.gm_driver.specs.Whole.{IsAnswerStatus, IsJobReply, IsReply, IsUsage, IsWrittenStatus, NoneMissed, SomeMiss};
+ghost use Rattle.gm_driver.specs.Whole.{IsAnswerStatus, IsJobReply, IsReply, IsWrittenStatus, NoneMissed, SomeMiss};
 
 use crate::answers::usage;
 use crate::demos::demo;
-use crate::programs::check;
-use crate::runs::run;
+use crate::programs::{check, compile};
+use crate::runs::{run, show};
 use gm_base::{Failed, Gate, Items, NoMemory, Status, Text};
 use gm_exec::exec;
 use gm_files::{Files, Sink, Source, write_all};
@@ -23,14 +23,6 @@ use gm_words::{Job, Options, WordsStop, read_words};
 use std::alloc::Global;
 use std::sync::Wait;
 use std::thread::Threads;
-
-// The reply for a job of which nothing is done.
-fn unbuilt(alloc: Global, job: &Job) -> Result<Answer, NoMemory>
-    requires { IsUsage (Some job.now) }
-    ensures { IfOk result (λ a. (ways : List (List Note → List ℕ)) → (held : List (List Note)) → (o : Outside) → IsJobReply (Some job.now) ways held o o a.text.items a.status) }
-{
-    usage(alloc)
-}
 
 // The reply for the check of a program.
 fn check_job<S: Source, F: Files>(
@@ -45,8 +37,22 @@ fn check_job<S: Source, F: Files>(
     check(alloc, prog.as_str(), input, files)
 }
 
-// The reply for the run of a program, which shows its image or does not.
-fn run_job<S: Source, F: Files>(
+// The reply for the compilation of a program.
+fn compile_job<S: Source, F: Files>(
+    alloc: Global,
+    prog: &Text,
+    input: &mut S,
+    files: &mut F,
+) -> Result<Answer, NoMemory>
+    ensures { IfOk result (λ a. (ways : List (List Note → List ℕ)) → (held : List (List Note)) → IsJobReply (Some (job.Compile prog.now)) ways held
+        (outside S.Source F.Files input.old files.old) (outside S.Source F.Files input.new files.new) a.text.items a.status) }
+{
+    compile(alloc, prog.as_str(), input, files)
+}
+
+// The reply for the run of a program, which shows its image or does not. The observers may be told of the first alone.
+fn run_job<R: Threads + Wait + Sync, S: Source, F: Files, G: Gate>(
+    rt: &R,
     alloc: Global,
     prog: &Text,
     graph: &Text,
@@ -55,18 +61,23 @@ fn run_job<S: Source, F: Files>(
     image: bool,
     input: &mut S,
     files: &mut F,
+    gate: &G,
+    observers: &mut [Box<dyn Observer>],
 ) -> Result<Answer, NoMemory>
-    requires { AllAssign args.now }
-    ensures { IfOk result (λ a. (ways : List (List Note → List ℕ)) → (held : List (List Note)) → IsJobReply (Some (job.Run prog.now graph.now args.now options.now image)) ways held
+    requires assign { AllAssign args.now }
+    requires right { AreRight options.now }
+    ensures { IfOk result (λ a. IsJobReply (Some (job.Run prog.now graph.now args.now options.now image)) (map (λ o. says_of o) observers.old) (map (λ o. seen o) observers.old)
         (outside S.Source F.Files input.old files.old) (outside S.Source F.Files input.new files.new) a.text.items a.status) }
 {
     let program = prog.as_str();
     let over = graph.as_str();
     let words = args.as_slice();
     if image {
-        usage(alloc)
+        show(
+            rt, alloc, program, over, words, options, input, files, gate, observers,
+        )
     } else {
-        run(alloc, program, over, words, options, input, files)
+        run(rt, alloc, program, over, words, options, input, files, gate)
     }
 }
 
@@ -97,12 +108,19 @@ fn exec_job<R: Threads + Wait + Sync, S: Source, F: Files, G: Gate>(
 }
 
 // The reply for a demonstration.
-fn demo_job(alloc: Global, nodes: u32, options: Options) -> Result<Answer, NoMemory>
+fn demo_job<R: Threads + Wait + Sync, G: Gate>(
+    rt: &R,
+    alloc: Global,
+    nodes: u32,
+    options: Options,
+    gate: &G,
+) -> Result<Answer, NoMemory>
     requires some { 1 ≤ nodes }
     requires few { nodes ≤ 1000000 }
+    requires right { AreRight options }
     ensures { IfOk result (λ a. (ways : List (List Note → List ℕ)) → (held : List (List Note)) → (o : Outside) → IsJobReply (Some (job.Demo nodes options)) ways held o o a.text.items a.status) }
 {
-    demo(alloc, nodes, options)
+    demo(rt, alloc, nodes, options, gate)
 }
 
 // The reply for a job.
@@ -126,9 +144,11 @@ fn reply_for<R: Threads + Wait + Sync, S: Source, F: Files, G: Gate>(
             args,
             options,
             image,
-        } => run_job(alloc, prog, graph, args, options, *image, input, files),
+        } => run_job(
+            rt, alloc, prog, graph, args, options, *image, input, files, gate, observers,
+        ),
         Job::Check { prog } => check_job(alloc, prog, input, files),
-        Job::Demo { n, options } => demo_job(alloc, *n, *options),
+        Job::Demo { n, options } => demo_job(rt, alloc, *n, *options, gate),
         Job::Exec {
             image,
             graph,
@@ -137,7 +157,7 @@ fn reply_for<R: Threads + Wait + Sync, S: Source, F: Files, G: Gate>(
         } => exec_job(
             rt, alloc, image, graph, args, options, input, files, gate, observers,
         ),
-        Job::Compile { .. } => unbuilt(alloc, job),
+        Job::Compile { prog } => compile_job(alloc, prog, input, files),
     }
 }
 
@@ -165,15 +185,19 @@ fn reply<R: Threads + Wait + Sync, S: Source, F: Files, G: Gate>(
 /// input and `files` as the files that the words name, and writes the answer to `out` in one piece. A file name `-`
 /// stands for standard input.
 ///
-/// `check PROG` answers `accepted`, or the rule that the program breaks with its place. `run PROG GRAPH NAME=VALUE ..`
-/// checks the program in the same way, and runs it over the graph; where both are `-`, the graph stands behind the
-/// first line that is exactly `%%`. `exec IMAGE GRAPH NAME=VALUE ..` reads and judges an image in the same way, and runs
-/// it over the graph by `--workers` workers, among whom the nodes are dealt out by `--partition`, and each worker enters the
-/// gate before it computes a superstep; with `--observe` each of the observers is told one note for each superstep, and
-/// their reports follow the listing, in their order. With `--format mtx` the graph of `run` and `exec` is a Matrix Market text. `demo N`
-/// runs the shortest paths over a graph of N nodes that it makes itself.
-/// The command `compile`, and `run` with `--image`, are answered by the usage line so far, as are words that ask for no
-/// job.
+/// `check PROG` answers `accepted`, or the rule that the program breaks with its place. `compile PROG` checks the program in
+/// the same way, and answers the text of its image. `run PROG GRAPH NAME=VALUE ..` runs that image over the graph by
+/// `--workers` workers, among whom the nodes are dealt out by `--partition`, and each worker enters the gate before it
+/// computes a superstep; what is written is what the program means. Where both names are `-`, the graph stands behind the first
+/// line that is exactly `%%`. With `--image` the text of the image stands first, and the last line has the supersteps and messages
+/// of its run. `exec IMAGE GRAPH NAME=VALUE ..` reads and judges an image, and runs it over the graph. With `--observe` each of
+/// the observers is told one note for each superstep of a run with `--image` or of `exec`, and their reports follow the listing,
+/// in their order. With `--format mtx` the graph of `run` and `exec` is a Matrix Market text. `demo N` runs the shortest paths
+/// over a graph of N nodes that it makes itself, by their image and the workers as `run` does. Words that ask for no job are
+/// answered by the usage line.
+///
+/// A few kinds of programs have no image yet: `run` evaluates them on one thread, and `compile` and `run --image` answer
+/// `program NoImage`.
 ///
 /// Afterwards there are no observers: each of them is let go, whether an answer was written or not.
 ///

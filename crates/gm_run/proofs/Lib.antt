@@ -1,0 +1,3 @@
+pub mod SameColumns
+pub mod Asked
+pub mod CompiledLemmas

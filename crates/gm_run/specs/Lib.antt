@@ -1,4 +1,1 @@
-pub mod Walks
-pub mod Programs
-pub mod Answers
-pub mod Rows
+pub mod Compiled

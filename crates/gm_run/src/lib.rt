@@ -1,10 +1,8 @@
-//! What comes between a checked program and its listing: its graph, its arguments and its run.
+//! What comes between a checked program and the listing of its image's run: its image, its graph, its arguments and its run.
 #![tactic(auto)]
 
-mod answers;
-mod laws;
-mod programs;
-mod walks;
+mod compiling;
+mod interfaces;
 
-pub use answers::run_text;
-pub use laws::rows_are_worked;
+pub use compiling::{Compiled, compile_program, evaluate_compiled, run_compiled, show_compiled};
+pub use interfaces::Interface;

@@ -13,5 +13,5 @@ pub returns-in-Err-Usage : goal.returns-in-Err-Usage
 returns-in-Err-Usage g c =
     let none : job_of (map string_bytes c.args.words.now) ≡ None = c.in-Err-Usage.ensures.usage (ap Err c.in-Err-Usage.field-0-is) in
     IfOk-weaker c.usage.result _ _
-    (λ a says. asked_so (job_of (map string_bytes c.args.words.now)) None _ _ _ _ a.text.items a.status none (usage tt (record { left = refl; quiet = refl }) (record { map = refl; quiet = refl; found = refl }) says))
+    (λ a says. asked_so (job_of (map string_bytes c.args.words.now)) None _ _ _ _ a.text.items a.status none (usage refl (record { left = refl; quiet = refl }) (record { map = refl; quiet = refl; found = refl }) says))
     c.usage.ensures

@@ -1,4 +1,3 @@
-use Rattle.gm_ast.specs.Tree.{program_of}
 use Rattle.gm_input.specs.Outside.{outside}
 use Rattle.gm_input.specs.Roads.{no_code}
 use Rattle.gm_input.proofs.Answering.{said_on, said_weaker, weaker}
@@ -14,15 +13,15 @@ returns-in_err-front g c =
     said_on (λ s. IsRunReply c.args.prog.now c.args.graph.now c.args.words.now c.args.options.now b a s.text.items s.status) c.from_residual.result c.in_err-front.field-0.0 c.from_residual.ensures.1
     (weaker _ _ c.in_err-front.field-0.0 (λ s said. no_code said) c.in_err-front.ensures.halt)
 
-pub returns-in_err-work : goal.returns-in_err-work
-returns-in_err-work g c =
+pub returns-in_err-it : goal.returns-in_err-it
+returns-in_err-it g c =
     let b = outside g.S.Source g.F.Files c.args.input.now c.args.files.now in
     let a = outside g.S.Source g.F.Files c.read_code.new.input c.read_code.new.files in
-    said_on (λ s. IsRunReply c.args.prog.now c.args.graph.now c.args.words.now c.args.options.now b a s.text.items s.status) c.from_residual-in_err-work.result c.in_err-work.field-0.0 c.from_residual-in_err-work.ensures.1
-    (weaker _ _ c.in_err-work.field-0.0
+    said_on (λ s. IsRunReply c.args.prog.now c.args.graph.now c.args.words.now c.args.options.now b a s.text.items s.status) c.from_residual-in_err-it.result c.in_err-it.field-0.0 c.from_residual-in_err-it.ensures.1
+    (weaker _ _ c.in_err-it.field-0.0
     (λ s said. bad_replied (program_road c.args.words.now c.args.options.now) c.args.prog.now c.args.graph.now b a c.in_ok-front.front.program.items c.in_ok-front.front.ahead.items c.in_ok-front.front.ended s.text.items s.status
     (program_right c.args.words.now c.args.options.now) c.in_ok-front.ensures.read said)
-    c.in_err-work.ensures.halt)
+    c.in_err-it.ensures.halt)
 
 pub returns-in_err-text : goal.returns-in_err-text
 returns-in_err-text g c =
@@ -32,7 +31,7 @@ returns-in_err-text g c =
     said_on (λ s. IsRunReply c.args.prog.now c.args.graph.now c.args.words.now c.args.options.now b a s.text.items s.status) c.from_residual-in_err-text.result c.in_err-text.field-0.0 c.from_residual-in_err-text.ensures.1
     (weaker _ _ c.in_err-text.field-0.0
     (λ s said. unread_replied (program_road c.args.words.now c.args.options.now) c.args.prog.now c.args.graph.now b m a c.in_ok-front.front.program.items c.in_ok-front.front.ahead.items c.in_ok-front.front.ended
-    (program_of c.in_ok-work.work) s.text.items s.status (program_right c.args.words.now c.args.options.now) c.in_ok-front.ensures.read c.in_ok-work.ensures.stands said)
+    c.in_ok-it.ensures.runs.source s.text.items s.status (program_right c.args.words.now c.args.options.now) c.in_ok-front.ensures.read c.in_ok-it.ensures.runs.stands said)
     c.in_err-text.ensures.halt)
 
 pub returns : goal.returns
@@ -40,7 +39,10 @@ returns g c =
     let b = outside g.S.Source g.F.Files c.args.input.now c.args.files.now in
     let m = outside g.S.Source g.F.Files c.read_code.new.input c.read_code.new.files in
     let a = outside g.S.Source g.F.Files c.read_graph.new.input c.read_graph.new.files in
-    said_weaker _ (λ s. IsRunReply c.args.prog.now c.args.graph.now c.args.words.now c.args.options.now b a s.text.items s.status) c.run_text.result
+    said_weaker _ (λ s. IsRunReply c.args.prog.now c.args.graph.now c.args.words.now c.args.options.now b a s.text.items s.status) c.run_over.result
     (λ s said. all_replied (program_road c.args.words.now c.args.options.now) c.args.prog.now c.args.graph.now b m a c.in_ok-front.front.program.items c.in_ok-front.front.ahead.items c.in_ok-front.front.ended
-    c.in_ok-text.text.items (program_of c.in_ok-work.work) s.text.items s.status (program_right c.args.words.now c.args.options.now) c.in_ok-front.ensures.read c.in_ok-work.ensures.stands c.in_ok-text.ensures.read said)
-    c.run_text.ensures
+    c.in_ok-text.text.items c.in_ok-it.ensures.runs.source s.text.items s.status (program_right c.args.words.now c.args.options.now) c.in_ok-front.ensures.read c.in_ok-it.ensures.runs.stands c.in_ok-text.ensures.read (said c.in_ok-it.ensures.runs.source c.in_ok-it.ensures.runs.runs))
+    c.run_over.ensures
+
+pub run_over-requires-clause-rows : goal.run_over-requires-clause-rows
+run_over-requires-clause-rows g c = λ _ _. c.in_ok-it.ensures.runs.rows

@@ -1,0 +1,13 @@
+use Rattle.std.proofs.lemmas.Result.{IfOk-weaker}
+use Rattle.gm_input.specs.Outside.{outside}
+use Rattle.gm_input.proofs.Answering.{settled_said}
+use Rattle.gm_driver.specs.Images.{IsShownReply}
+use Rattle.gm_driver.proofs.runs.show.Goals as goal
+
+pub returns : goal.returns
+returns g c =
+    let b = outside g.S.Source g.F.Files c.args.input.now c.args.files.now in
+    let a = outside g.S.Source g.F.Files c.show_steps-answer.new.input c.show_steps-answer.new.files in
+    IfOk-weaker c.settled.result _ _
+    (λ s is. settled_said (λ t. IsShownReply c.args.prog.now c.args.graph.now c.args.words.now c.args.options.now _ b a t.text.items t.status) c.show_steps-answer.result s c.show_steps-answer.ensures is)
+    c.settled.ensures

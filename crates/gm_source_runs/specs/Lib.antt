@@ -1,0 +1,4 @@
+pub mod Walks
+pub mod Programs
+pub mod Answers
+pub mod Rows
