@@ -6,6 +6,8 @@ mod accesses;
 #[cfg(test)]
 mod branches;
 #[cfg(test)]
+mod compare;
+#[cfg(test)]
 mod compounds;
 #[cfg(test)]
 mod conditions;
@@ -13,8 +15,6 @@ mod conditions;
 mod deferred;
 #[cfg(test)]
 mod dissecting;
-#[cfg(test)]
-mod example_texts;
 #[cfg(test)]
 mod flips;
 #[cfg(test)]

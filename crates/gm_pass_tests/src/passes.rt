@@ -18,6 +18,7 @@ use gm_dissecting::dissect::dissect;
 use gm_flip::flip::flip;
 use gm_hoisting::hoisting::inner_folds_out;
 use gm_locals::locals::locals_out;
+use gm_outward::outward::outward;
 use gm_picks::picks::picks_out;
 use gm_prepare::declared::declare_locals;
 use gm_prepare::filters::save_filters;
@@ -28,6 +29,7 @@ use gm_reductions::accesses::accesses_out;
 use gm_reductions::folds::folds_out;
 use gm_slices::slices::slice_inner_loops;
 use std::alloc::Global;
+use std::test::Fail;
 
 /// A pass, or several in one call.
 #[derive(Clone, Copy, Debug, PartialEq, Eq)]
@@ -50,6 +52,7 @@ pub enum Pass {
     CutBodies,
     SliceInnerLoops,
     Flip,
+    Outward,
     PlaceIterators,
     DeclareLocals,
     SaveFilters,
@@ -57,6 +60,47 @@ pub enum Pass {
     ReadNodes,
     StatementsApart,
     Dissect,
+}
+
+// All of them.
+const EVERY: [Pass; 26] = [
+    Pass::GroupsOut,
+    Pass::CompoundsOut,
+    Pass::LiteralsOut,
+    Pass::ConditionsOut,
+    Pass::ReadsOut,
+    Pass::PicksOut,
+    Pass::AccessesOut,
+    Pass::FoldsOut,
+    Pass::InnerFoldsOut,
+    Pass::DesugarPhases,
+    Pass::Desugar,
+    Pass::BfsOut,
+    Pass::DeferredOut,
+    Pass::SaveConditions,
+    Pass::LocalsOut,
+    Pass::CutBodies,
+    Pass::SliceInnerLoops,
+    Pass::Flip,
+    Pass::Outward,
+    Pass::PlaceIterators,
+    Pass::DeclareLocals,
+    Pass::SaveFilters,
+    Pass::SaveConditionsApart,
+    Pass::ReadNodes,
+    Pass::StatementsApart,
+    Pass::Dissect,
+];
+
+/// The pass of a name.
+pub fn pass_named(alloc: Global, name: &str) -> Result<Pass, Fail> {
+    for pass in EVERY {
+        let said = format!(in alloc; "{pass:?}")?;
+        if said.as_str() == name {
+            return Ok(pass);
+        }
+    }
+    Err(Fail::from("no such pass"))
 }
 
 // What a pass, or several in one call, makes of a program.
@@ -91,9 +135,10 @@ fn after_more(alloc: Global, pass: Pass, program: Work) -> Result<Work, NoMemory
     }
 }
 
-// The same of the other passes that cut bodies, and of all in one call.
+// The same of the other passes that cut bodies, of all in one call, and of the last pass.
 fn after_cutting(alloc: Global, pass: Pass, program: Work) -> Result<Work, NoMemory> {
     match pass {
+        Pass::Outward => outward(alloc, program),
         Pass::PlaceIterators => place_iterators(alloc, program),
         Pass::DeclareLocals => declare_locals(alloc, program),
         Pass::SaveFilters => save_filters(alloc, program),
@@ -168,11 +213,19 @@ pub const FLIPPED: [Pass; 2] = [Pass::CutBodies, Pass::Flip];
 /// Inner loops in slices.
 pub const SLICES: [Pass; 2] = [Pass::CutBodies, Pass::SliceInnerLoops];
 
-/// Inner loops in slices, then loops that pull turned round.
-pub const SLICES_FLIPPED: [Pass; 3] = [Pass::CutBodies, Pass::SliceInnerLoops, Pass::Flip];
+/// The same, then what loops ask at their nodes first.
+pub const ASKED: [Pass; 3] = [Pass::CutBodies, Pass::Flip, Pass::Outward];
 
-/// All passes that cut bodies, one after another, then loops that pull turned round.
-pub const DISSECTING: [Pass; 11] = [
+/// Inner loops in slices, then loops that pull turned round, and what they ask at their nodes first.
+pub const SLICES_FLIPPED: [Pass; 4] = [
+    Pass::CutBodies,
+    Pass::SliceInnerLoops,
+    Pass::Flip,
+    Pass::Outward,
+];
+
+/// All passes that cut bodies, one after another, then those behind them.
+pub const DISSECTING: [Pass; 12] = [
     Pass::PlaceIterators,
     Pass::DeclareLocals,
     Pass::DeferredOut,
@@ -184,7 +237,17 @@ pub const DISSECTING: [Pass; 11] = [
     Pass::StatementsApart,
     Pass::SliceInnerLoops,
     Pass::Flip,
+    Pass::Outward,
 ];
 
-/// The same in one call, then loops that pull turned round.
-pub const DISSECTED: [Pass; 2] = [Pass::Dissect, Pass::Flip];
+/// The same in one call, then those behind them.
+pub const DISSECTED: [Pass; 3] = [Pass::Dissect, Pass::Flip, Pass::Outward];
+
+/// All passes in few calls.
+pub const PARTED: [Pass; 5] = [
+    Pass::Desugar,
+    Pass::BfsOut,
+    Pass::Dissect,
+    Pass::Flip,
+    Pass::Outward,
+];

@@ -1,17 +1,23 @@
 //! Programs as texts, what passes make of them, and what is written of their runs.
 
+ghost use Rattle.std.specs.Prelude.{IfOk};
+ghost use Rattle.gm_words.specs.Jobs.{AllAssign};
+
+use crate::compare::{all_read, holds};
 use crate::forms::{form_after, has_form, words_out};
 use crate::passes::{ALL_STEPS, Pass, STEPS, WHOLE, after};
 use crate::sources::source_of;
-use gm_ast::forms::Work;
-use gm_base::{Items, NoMemory};
+use gm_ast::forms::{Checked, Work};
+use gm_base::{Items, NoMemory, Stop, Text};
 use gm_canon::verdict;
 use gm_graph::{Graph, Shape, Walks};
-use gm_input::{graph_of, settled};
+use gm_input::{Answer, graph_of, settled};
 use gm_meaning::{evaluate, work_of};
-use gm_run::run_text;
+use gm_model::Outcome;
+use gm_source_runs::run_text;
+use gm_tables::is_line;
 use gm_value::{VType, Value};
-use gm_words::{Format, Job, read_words};
+use gm_words::{Format, Job, Options, read_words};
 use std::alloc::{AllocError, Global};
 use std::process::Abort;
 use std::test::Fail;
@@ -40,14 +46,20 @@ fn head_of(frame: Frame) -> &'static str {
     }
 }
 
-/// The text of a procedure with a body.
-pub fn text_of(alloc: Global, frame: Frame, body: &str) -> Result<String, AllocError> {
+// The text of a procedure with a body.
+fn text_of(alloc: Global, frame: Frame, body: &str) -> Result<String, AllocError> {
     format!(in alloc; "{}\n{body}\n}}", head_of(frame))
+}
+
+// The program of a text that is accepted, by a call that promises nothing. (What `verdict` promises of every program would
+// be tried at each goal behind it.)
+fn checked(alloc: Global, text: &[u8]) -> Result<Checked, Stop> {
+    verdict(alloc, text)
 }
 
 /// The program of a text, which is to break no rule.
 pub fn program_of(rt: &impl Abort, alloc: Global, text: &str) -> Result<Work, Fail> {
-    match verdict(alloc, text.as_bytes()) {
+    match checked(alloc, text.as_bytes()) {
         Ok(checked) => Ok(work_of(checked)),
         Err(stop) => panic!(rt; "{stop}: {text}"),
     }
@@ -64,21 +76,40 @@ fn words_in(alloc: Global, line: &str) -> Result<Vec<String>, AllocError> {
     Ok(words)
 }
 
-// What is written of a program's run over a graph, with the words of a command line. Nothing is where they ask for no run.
-fn written_of(alloc: Global, program: &Work, line: &str, graph: &str) -> Result<Vec<u8>, NoMemory> {
+// What a program writes over the text of a graph, by a call that promises nothing.
+fn answer_of(
+    alloc: Global,
+    program: &Work,
+    words: &[Text],
+    options: &Options,
+    text: Vec<u8>,
+) -> Result<Answer, NoMemory>
+    requires { AllAssign words.now }
+{
+    settled(run_text(alloc, program, words, options, text))
+}
+
+// The words NAME=VALUE and the options of a command line that runs a program.
+fn command(alloc: Global, line: &str) -> Result<(Items<Text>, Options), Fail>
+    ensures { IfOk result (λ x. AllAssign x.0) }
+{
     let words = words_in(alloc, line)?;
-    let text = Vec::from_slice(alloc, graph.as_bytes())?;
-    match read_words(alloc, &words) {
-        Ok(Job::Run { args, options, .. }) => {
-            let answer = settled(run_text(alloc, program, args.as_slice(), &options, text))?;
-            Ok(answer.text)
-        }
-        _ => Ok(Vec::new(alloc)),
+    match read_words(alloc, &words)? {
+        Job::Run { args, options, .. } => Ok((args, options)),
+        _ => Err(Fail::from("no run")),
     }
 }
 
+// What is written of a program's run over a graph, with the words of a command line.
+fn written_of(alloc: Global, program: &Work, line: &str, graph: &str) -> Result<Vec<u8>, Fail> {
+    let (args, options) = command(alloc, line)?;
+    let text = Vec::from_slice(alloc, graph.as_bytes())?;
+    let answer = answer_of(alloc, program, args.as_slice(), &options, text)?;
+    Ok(answer.text)
+}
+
 /// What is written of a program's run over a graph, with the words of a command line.
-pub fn listing(alloc: Global, program: &Work, line: &str, graph: &str) -> Result<String, NoMemory> {
+pub fn listing(alloc: Global, program: &Work, line: &str, graph: &str) -> Result<String, Fail> {
     let written = written_of(alloc, program, line, graph)?;
     Ok(String::from_utf8_lossy(alloc, &written)?)
 }
@@ -151,6 +182,17 @@ fn graph_in(rt: &impl Abort, alloc: Global, text: &str) -> Result<Graph, Fail> {
     }
 }
 
+// How a run ends, by a call that promises nothing.
+fn outcome_of(
+    alloc: Global,
+    program: &Work,
+    graph: &Graph,
+    inputs: &[Value],
+    turns: u64,
+) -> Result<Outcome, NoMemory> {
+    evaluate(alloc, program, graph, inputs, turns)
+}
+
 // How a run ends, in words.
 fn ending(
     alloc: Global,
@@ -159,11 +201,32 @@ fn ending(
     inputs: &[Value],
     turns: u64,
 ) -> Result<String, NoMemory> {
-    let outcome = evaluate(alloc, program, graph, inputs, turns)?;
+    let outcome = outcome_of(alloc, program, graph, inputs, turns)?;
     Ok(format!(in alloc; "{outcome:?}")?)
 }
 
-// Whether two programs end the same over a graph, with each bound of a frame.
+// Compares how two runs end.
+fn same_ends(rt: &impl Abort, seen: &str, wanted: &str, inputs: &[Value], turns: u64, what: &str) {
+    assert_eq!(rt; seen, wanted, "{inputs:?} {turns} {what}");
+}
+
+// Whether two programs end the same over a graph, with a bound.
+fn ends_agree_at(
+    rt: &impl Abort,
+    alloc: Global,
+    programs: (&Work, &Work),
+    graph: &Graph,
+    inputs: &[Value],
+    turns: u64,
+    what: &str,
+) -> Result<(), Fail> {
+    let wanted = ending(alloc, programs.0, graph, inputs, turns)?;
+    let seen = ending(alloc, programs.1, graph, inputs, turns)?;
+    same_ends(rt, seen.as_str(), wanted.as_str(), inputs, turns, what);
+    Ok(())
+}
+
+// The same with each bound of a frame.
 fn ends_agree(
     rt: &impl Abort,
     alloc: Global,
@@ -173,12 +236,9 @@ fn ends_agree(
     inputs: &[Value],
     what: &str,
 ) -> Result<(), Fail> {
-    let (before, later) = programs;
     let (least, most) = bounds_of(frame);
     for turns in least..=most {
-        let wanted = ending(alloc, before, graph, inputs, turns)?;
-        let seen = ending(alloc, later, graph, inputs, turns)?;
-        assert_eq!(rt; seen.as_str(), wanted.as_str(), "{inputs:?} {turns} {what}");
+        ends_agree_at(rt, alloc, programs, graph, inputs, turns, what)?;
     }
     Ok(())
 }
@@ -191,6 +251,21 @@ fn inputs_of(alloc: Global, frame: Frame, root: Option<u32>) -> Result<Vec<Value
     }
 }
 
+// Whether two programs end the same in a run of a frame.
+fn run_agrees(
+    rt: &impl Abort,
+    alloc: Global,
+    frame: Frame,
+    programs: (&Work, &Work),
+    run: Run,
+    what: &str,
+) -> Result<(), Fail> {
+    let (text, root) = run;
+    let inputs = inputs_of(alloc, frame, root)?;
+    let graph = graph_in(rt, alloc, text)?;
+    ends_agree(rt, alloc, frame, programs, &graph, &inputs, what)
+}
+
 // Whether two programs end the same in all runs of a frame.
 fn runs_agree(
     rt: &impl Abort,
@@ -200,62 +275,136 @@ fn runs_agree(
     later: &Work,
     what: &str,
 ) -> Result<(), Fail> {
-    for (text, root) in runs_of(frame) {
-        let graph = graph_in(rt, alloc, text)?;
-        let inputs = inputs_of(alloc, frame, *root)?;
-        ends_agree(rt, alloc, frame, (before, later), &graph, &inputs, what)?;
+    for run in runs_of(frame) {
+        run_agrees(rt, alloc, frame, (before, later), *run, what)?;
     }
     Ok(())
 }
 
-/// Whether a program has the form of the results of a pass.
-pub fn has_form_of(alloc: Global, pass: Pass, program: &Work) -> Result<bool, NoMemory> {
+// Whether a program has none of the words that a pass takes out.
+fn has_none_of(alloc: Global, words: &[&str], program: &Work) -> Result<bool, NoMemory> {
     let source = source_of(alloc, program.tree())?;
-    for word in words_out(pass) {
+    for word in words {
         if source.as_str().contains(*word) {
             return Ok(false);
         }
     }
+    Ok(true)
+}
+
+// Whether a program has the form behind a pass.
+fn has_form_behind(pass: Pass, program: &Work) -> bool {
     match form_after(pass) {
-        Some(form) => Ok(has_form(form, &program.tree().body)),
-        None => Ok(true),
+        Some(form) => has_form(form, &program.tree().body),
+        None => true,
     }
 }
 
-// Whether a body ends the same in all runs of its frame before the passes and after each of them, and each result has
-// what its pass ends with.
-fn body_runs_same(
+/// Whether a program has the form of the results of a pass.
+pub fn has_form_of(alloc: Global, pass: Pass, program: &Work) -> Result<bool, NoMemory> {
+    let has_none = has_none_of(alloc, words_out(pass), program)?;
+    Ok(has_none && has_form_behind(pass, program))
+}
+
+// Whether a program ends the same in all runs of a frame as what a pass made of it, which has what the pass ends with.
+fn agrees_behind(
+    rt: &impl Abort,
+    alloc: Global,
+    frame: Frame,
+    programs: (&Work, &Work),
+    body: &str,
+    pass: Pass,
+) -> Result<(), Fail> {
+    let what = format!(in alloc; "{pass:?} of {body}")?;
+    runs_agree(rt, alloc, frame, programs.0, programs.1, what.as_str())?;
+    let has_form = has_form_of(alloc, pass, programs.1)?;
+    holds(rt, has_form, what.as_str());
+    Ok(())
+}
+
+// What a pass makes of a program, which agrees with what was before all passes.
+fn agreeing(
+    rt: &impl Abort,
+    alloc: Global,
+    frame: Frame,
+    before: &Work,
+    program: Work,
+    body: &str,
+    pass: Pass,
+) -> Result<Work, Fail> {
+    let program = after(alloc, &[pass], program)?;
+    agrees_behind(rt, alloc, frame, (before, &program), body, pass)?;
+    Ok(program)
+}
+
+// Whether a program agrees with what each of some passes makes of it.
+fn all_agree(
+    rt: &impl Abort,
+    alloc: Global,
+    frame: Frame,
+    before: &Work,
+    program: Work,
+    body: &str,
+    passes: &[Pass],
+) -> Result<(), Fail> {
+    let mut program = program;
+    for pass in passes {
+        program = agreeing(rt, alloc, frame, before, program, body, *pass)?;
+    }
+    Ok(())
+}
+
+/// The program of a body.
+pub fn program_in(rt: &impl Abort, alloc: Global, frame: Frame, body: &str) -> Result<Work, Fail> {
+    let text = text_of(alloc, frame, body)?;
+    program_of(rt, alloc, text.as_str())
+}
+
+/// Whether a body ends the same in all runs of its frame before the passes and after each of them, and each result has what
+/// its pass ends with.
+pub fn body_runs_same(
     rt: &impl Abort,
     alloc: Global,
     frame: Frame,
     body: &str,
     passes: &[Pass],
 ) -> Result<(), Fail> {
-    let text = text_of(alloc, frame, body)?;
-    let before = program_of(rt, alloc, text.as_str())?;
-    let mut program = program_of(rt, alloc, text.as_str())?;
-    for pass in passes {
-        program = after(alloc, &[*pass], program)?;
-        let what = format!(in alloc; "{pass:?} of {body}")?;
-        runs_agree(rt, alloc, frame, &before, &program, what.as_str())?;
-        assert!(rt; has_form_of(alloc, *pass, &program)?, "{what}");
-    }
-    Ok(())
+    let before = program_in(rt, alloc, frame, body)?;
+    let program = program_in(rt, alloc, frame, body)?;
+    all_agree(rt, alloc, frame, &before, program, body, passes)
 }
 
-/// Whether each of some bodies ends the same in all runs of its frame before the passes and after each of them, and each
+/// Whether each of so many bodies ends the same in all runs of its frame before the passes and after each of them, and each
 /// result has what its pass ends with.
 pub fn all_run_same(
     rt: &impl Abort,
     alloc: Global,
     frame: Frame,
-    bodies: &[&str],
+    bodies: &str,
+    count: usize,
     passes: &[Pass],
 ) -> Result<(), Fail> {
-    for body in bodies {
-        body_runs_same(rt, alloc, frame, body, passes)?;
+    let mut read = 0usize;
+    for body in bodies.lines() {
+        if is_line(body) {
+            body_runs_same(rt, alloc, frame, body, passes)?;
+            read = read.saturating_add(1);
+        }
     }
+    all_read(rt, read, count);
     Ok(())
+}
+
+// What passes make of a body's program.
+fn program_after(
+    rt: &impl Abort,
+    alloc: Global,
+    frame: Frame,
+    body: &str,
+    passes: &[Pass],
+) -> Result<Work, Fail> {
+    let program = program_in(rt, alloc, frame, body)?;
+    Ok(after(alloc, passes, program)?)
 }
 
 // Whether a body ends the same in all runs of its frame before the passes and after all of them.
@@ -266,41 +415,62 @@ fn body_ends_same(
     body: &str,
     passes: &[Pass],
 ) -> Result<(), Fail> {
-    let text = text_of(alloc, frame, body)?;
-    let before = program_of(rt, alloc, text.as_str())?;
-    let later = after(alloc, passes, program_of(rt, alloc, text.as_str())?)?;
+    let before = program_in(rt, alloc, frame, body)?;
+    let later = program_after(rt, alloc, frame, body, passes)?;
     let what = format!(in alloc; "{passes:?} of {body}")?;
     runs_agree(rt, alloc, frame, &before, &later, what.as_str())
 }
 
-// The same of each of some bodies.
-fn all_end_same(
+// Whether a body runs the same after each pass of desugaring and those up to cutting, and after them in few calls, and each
+// result has what its pass ends with.
+fn body_desugars_same(rt: &impl Abort, alloc: Global, body: &str) -> Result<(), Fail> {
+    body_runs_same(rt, alloc, Frame::Plain, body, &ALL_STEPS)?;
+    body_runs_same(rt, alloc, Frame::Plain, body, &[Pass::DesugarPhases])?;
+    body_runs_same(rt, alloc, Frame::Plain, body, &[Pass::Desugar])?;
+    body_ends_same(rt, alloc, Frame::Plain, body, &STEPS)?;
+    body_ends_same(rt, alloc, Frame::Plain, body, &WHOLE)
+}
+
+/// Whether each of so many bodies does.
+pub fn all_desugar_same(
     rt: &impl Abort,
     alloc: Global,
-    frame: Frame,
-    bodies: &[&str],
-    passes: &[Pass],
+    bodies: &str,
+    count: usize,
 ) -> Result<(), Fail> {
-    for body in bodies {
-        body_ends_same(rt, alloc, frame, body, passes)?;
+    let mut read = 0usize;
+    for body in bodies.lines() {
+        if is_line(body) {
+            body_desugars_same(rt, alloc, body)?;
+            read = read.saturating_add(1);
+        }
     }
+    all_read(rt, read, count);
     Ok(())
 }
 
-/// Whether each of some bodies runs the same after each pass of desugaring and those up to cutting, and after them in few
-/// calls, and each result has what its pass ends with.
-pub fn all_desugar_same(rt: &impl Abort, alloc: Global, bodies: &[&str]) -> Result<(), Fail> {
-    all_run_same(rt, alloc, Frame::Plain, bodies, &ALL_STEPS)?;
-    all_run_same(rt, alloc, Frame::Plain, bodies, &[Pass::DesugarPhases])?;
-    all_run_same(rt, alloc, Frame::Plain, bodies, &[Pass::Desugar])?;
-    all_end_same(rt, alloc, Frame::Plain, bodies, &STEPS)?;
-    all_end_same(rt, alloc, Frame::Plain, bodies, &WHOLE)
+// Whether a body with searches runs the same after these are written out, at once and behind desugaring.
+fn body_searches_same(rt: &impl Abort, alloc: Global, body: &str) -> Result<(), Fail> {
+    body_runs_same(rt, alloc, Frame::Rooted, body, &[Pass::BfsOut])?;
+    body_ends_same(rt, alloc, Frame::Once, body, &WHOLE)
 }
 
-/// Whether each of some bodies with searches runs the same after these are written out, at once and behind desugaring.
-pub fn all_search_same(rt: &impl Abort, alloc: Global, bodies: &[&str]) -> Result<(), Fail> {
-    all_run_same(rt, alloc, Frame::Rooted, bodies, &[Pass::BfsOut])?;
-    all_end_same(rt, alloc, Frame::Once, bodies, &WHOLE)
+/// Whether each of so many bodies does.
+pub fn all_search_same(
+    rt: &impl Abort,
+    alloc: Global,
+    bodies: &str,
+    count: usize,
+) -> Result<(), Fail> {
+    let mut read = 0usize;
+    for body in bodies.lines() {
+        if is_line(body) {
+            body_searches_same(rt, alloc, body)?;
+            read = read.saturating_add(1);
+        }
+    }
+    all_read(rt, read, count);
+    Ok(())
 }
 
 /// What passes make of a body, as source text.
@@ -311,9 +481,7 @@ pub fn source_after(
     body: &str,
     passes: &[Pass],
 ) -> Result<String, Fail> {
-    let text = text_of(alloc, frame, body)?;
-    let program = program_of(rt, alloc, text.as_str())?;
-    let program = after(alloc, passes, program)?;
+    let program = program_after(rt, alloc, frame, body, passes)?;
     Ok(source_of(alloc, program.tree())?)
 }
 
@@ -327,8 +495,6 @@ pub fn listing_after(
     line: &str,
     graph: &str,
 ) -> Result<String, Fail> {
-    let text = text_of(alloc, frame, body)?;
-    let program = program_of(rt, alloc, text.as_str())?;
-    let program = after(alloc, passes, program)?;
-    Ok(listing(alloc, &program, line, graph)?)
+    let program = program_after(rt, alloc, frame, body, passes)?;
+    listing(alloc, &program, line, graph)
 }

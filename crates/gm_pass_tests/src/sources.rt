@@ -107,6 +107,11 @@ fn around(variable: Variable) -> (&'static str, &'static str) {
     }
 }
 
+// The word of a variable that stands within a loop.
+fn depth_word(depth: u32) -> &'static str {
+    if depth > 0 { "inside " } else { "" }
+}
+
 // Whether an expression is the constant True.
 fn is_true(e: &Expr) -> bool {
     match e {
@@ -123,21 +128,39 @@ fn is_empty(s: &Stmt) -> bool {
     }
 }
 
+// The word of a truth value.
+fn flag_word(flag: bool) -> &'static str {
+    if flag { "True" } else { "False" }
+}
+
+// The word of the type of a variable.
+fn type_word(table: &[Declaration], variable: u32) -> &'static str {
+    match table.get(variable as usize) {
+        Some(declaration) => typed(declaration.variable.vtype),
+        None => "?",
+    }
+}
+
+// The name of a variable, which is empty where no text declares it.
+fn name_of(table: &[Declaration], variable: u32) -> &str {
+    match table.get(variable as usize) {
+        Some(declaration) => str::from_utf8(declaration.name.as_slice()).unwrap_or("?"),
+        None => "?",
+    }
+}
+
 impl<'a> Source<'a> {
     fn put(&mut self, text: &str) -> Result<(), AllocError> {
         self.text.push_str(text)
     }
 
     fn put_name(&mut self, variable: u32) -> Result<(), AllocError> {
-        let name = match self.table.get(variable as usize) {
-            Some(declaration) => str::from_utf8(declaration.name.as_slice()).unwrap_or("?"),
-            None => "?",
-        };
+        let name = name_of(self.table, variable);
         if name.is_empty() {
-            let number = format!(in self.alloc; "v{variable}")?;
-            return self.put(number.as_str());
+            self.put_numbered("v", variable)
+        } else {
+            self.put(name)
         }
-        self.put(name)
     }
 
     // A name, and what stands behind it.
@@ -152,14 +175,30 @@ impl<'a> Source<'a> {
     }
 
     fn put_value(&mut self, value: Value) -> Result<(), AllocError> {
-        let text = match value {
-            Value::I32(number) => format!(in self.alloc; "{number}")?,
-            Value::I64(number) => format!(in self.alloc; "{number}L")?,
-            Value::Flag(true) => String::from_str(self.alloc, "True")?,
-            Value::Flag(false) => String::from_str(self.alloc, "False")?,
-            Value::At(None) => String::from_str(self.alloc, "NIL")?,
-            Value::At(Some(node)) => format!(in self.alloc; "node {node}")?,
-        };
+        match value {
+            Value::I32(number) => self.put_number(i64::from(number), ""),
+            Value::I64(number) => self.put_number(number, "L"),
+            Value::Flag(flag) => self.put(flag_word(flag)),
+            Value::At(node) => self.put_node(node),
+        }
+    }
+
+    // A number, and what stands behind it.
+    fn put_number(&mut self, number: i64, behind: &str) -> Result<(), AllocError> {
+        let text = format!(in self.alloc; "{number}{behind}")?;
+        self.put(text.as_str())
+    }
+
+    fn put_node(&mut self, node: Option<u32>) -> Result<(), AllocError> {
+        match node {
+            Some(node) => self.put_numbered("node ", node),
+            None => self.put("NIL"),
+        }
+    }
+
+    // A word, and a number behind it.
+    fn put_numbered(&mut self, word: &str, number: u32) -> Result<(), AllocError> {
+        let text = format!(in self.alloc; "{word}{number}")?;
         self.put(text.as_str())
     }
 
@@ -261,6 +300,13 @@ impl<'a> Source<'a> {
         }
     }
 
+    // An expression between two words.
+    fn put_within(&mut self, word: &str, e: &Expr, end: &str) -> Result<(), AllocError> {
+        self.put(word)?;
+        self.put_expr(e)?;
+        self.put(end)
+    }
+
     fn put_target(&mut self, target: Target) -> Result<(), AllocError> {
         match target {
             Target::Scalar { variable, .. } => self.put_name(variable),
@@ -272,25 +318,37 @@ impl<'a> Source<'a> {
         }
     }
 
-    // The end of a statement that takes a value.
-    fn put_end(&mut self, word: &str, value: &Expr, end: &str) -> Result<(), AllocError> {
-        self.put(word)?;
-        self.put_expr(value)?;
-        self.put(end)
+    // The type of a declared variable, and its name.
+    fn put_typed(&mut self, variable: u32) -> Result<(), AllocError> {
+        self.put(type_word(self.table, variable))?;
+        self.put(" ")?;
+        self.put_name(variable)
+    }
+
+    // The value of a declaration, if it has one, and its end.
+    fn put_start(&mut self, value: &Option<Expr>) -> Result<(), AllocError> {
+        match value {
+            Some(value) => self.put_within(" = ", value, ";"),
+            None => self.put(";"),
+        }
     }
 
     fn put_declaration(&mut self, variable: u32, value: &Option<Expr>) -> Result<(), AllocError> {
-        let word = match self.table.get(variable as usize) {
-            Some(declaration) => typed(declaration.variable.vtype),
-            None => "?",
-        };
-        self.put(word)?;
-        self.put(" ")?;
-        self.put_name(variable)?;
+        self.put_typed(variable)?;
+        self.put_start(value)
+    }
+
+    fn put_return(&mut self, value: &Option<Expr>) -> Result<(), AllocError> {
         match value {
-            Some(value) => self.put_end(" = ", value, ";"),
-            None => self.put(";"),
+            Some(value) => self.put_within("Return ", value, ";"),
+            None => self.put("Return;"),
         }
+    }
+
+    fn put_edge(&mut self, variable: u32, iterator: u32) -> Result<(), AllocError> {
+        self.put("Edge ")?;
+        self.put_named(variable, " = ")?;
+        self.put_named(iterator, ".ToEdge();")
     }
 
     // All targets of a reduction assignment, with words between them.
@@ -308,7 +366,7 @@ impl<'a> Source<'a> {
     fn put_values(&mut self, values: &[Expr]) -> Result<(), AllocError> {
         let mut word = "";
         for value in values {
-            self.put_end(word, value, "")?;
+            self.put_within(word, value, "")?;
             word = "; ";
         }
         Ok(())
@@ -325,9 +383,27 @@ impl<'a> Source<'a> {
         self.put_targets(targets)?;
         self.put(">")?;
         self.put(assigning(reduce))?;
+        self.put_tuple_values(values)
+    }
+
+    // The values of a tuple.
+    fn put_tuple_values(&mut self, values: &[Expr]) -> Result<(), AllocError> {
         self.put("<")?;
         self.put_values(values)?;
         self.put(">;")
+    }
+
+    // A reduction assignment of one variable.
+    fn put_one(
+        &mut self,
+        reduce: Reduce,
+        targets: &[Target],
+        values: &[Expr],
+    ) -> Result<(), AllocError> {
+        self.put_targets(targets)?;
+        self.put(assigning(reduce))?;
+        self.put_values(values)?;
+        self.put(";")
     }
 
     fn put_reduction(
@@ -336,13 +412,11 @@ impl<'a> Source<'a> {
         targets: &[Target],
         values: &[Expr],
     ) -> Result<(), AllocError> {
-        if targets.len() != 1 {
-            return self.put_tuple(reduce, targets, values);
+        if targets.len() == 1 {
+            self.put_one(reduce, targets, values)
+        } else {
+            self.put_tuple(reduce, targets, values)
         }
-        self.put_targets(targets)?;
-        self.put(assigning(reduce))?;
-        self.put_values(values)?;
-        self.put(";")
     }
 
     // A filter, unless it is True.
@@ -350,7 +424,7 @@ impl<'a> Source<'a> {
         if is_true(filter) {
             return self.put(" ");
         }
-        self.put_end(" (", filter, ") ")
+        self.put_within(" (", filter, ") ")
     }
 
     // The beginning of a loop, up to its body.
@@ -368,6 +442,23 @@ impl<'a> Source<'a> {
         self.put_filter(filter)
     }
 
+    // A target, and what it is set to.
+    fn put_set(
+        &mut self,
+        target: Target,
+        word: &str,
+        value: &Expr,
+        end: &str,
+    ) -> Result<(), AllocError> {
+        self.put_target(target)?;
+        self.put_within(word, value, end)
+    }
+
+    fn put_group(&mut self, graph: u32, property: u32, value: &Expr) -> Result<(), AllocError> {
+        self.put_member(graph, property)?;
+        self.put_within(" := ", value, ";")
+    }
+
     // A statement without statements in it.
     fn put_simple(&mut self, s: &Stmt) -> Result<(), AllocError> {
         match s {
@@ -380,19 +471,9 @@ impl<'a> Source<'a> {
                 variable,
                 iterator,
                 ..
-            } => {
-                self.put("Edge ")?;
-                self.put_named(*variable, " = ")?;
-                self.put_named(*iterator, ".ToEdge();")
-            }
-            Stmt::Assign { target, value, .. } => {
-                self.put_target(*target)?;
-                self.put_end(" = ", value, ";")
-            }
-            Stmt::Defer { target, value, .. } => {
-                self.put_target(*target)?;
-                self.put_end(" <= ", value, " @;")
-            }
+            } => self.put_edge(*variable, *iterator),
+            Stmt::Assign { target, value, .. } => self.put_set(*target, " = ", value, ";"),
+            Stmt::Defer { target, value, .. } => self.put_set(*target, " <= ", value, " @;"),
             Stmt::Reduce {
                 reduce,
                 targets,
@@ -404,14 +485,8 @@ impl<'a> Source<'a> {
                 property,
                 value,
                 ..
-            } => {
-                self.put_member(*graph, *property)?;
-                self.put_end(" := ", value, ";")
-            }
-            Stmt::Return { value, .. } => match value {
-                Some(value) => self.put_end("Return ", value, ";"),
-                None => self.put("Return;"),
-            },
+            } => self.put_group(*graph, *property, value),
+            Stmt::Return { value, .. } => self.put_return(value),
             _ => Ok(()),
         }
     }
@@ -450,7 +525,7 @@ impl<'a> Source<'a> {
                 self.put_stmt(body)
             }
             Stmt::If { test, yes, no, .. } => {
-                self.put_end("If (", test, ") ")?;
+                self.put_within("If (", test, ") ")?;
                 self.put_stmt(yes)?;
                 if is_empty(no) {
                     return Ok(());
@@ -459,13 +534,13 @@ impl<'a> Source<'a> {
                 self.put_stmt(no)
             }
             Stmt::While { test, body, .. } => {
-                self.put_end("While (", test, ") ")?;
+                self.put_within("While (", test, ") ")?;
                 self.put_stmt(body)
             }
             Stmt::Do { test, body, .. } => {
                 self.put("Do ")?;
                 self.put_stmt(body)?;
-                self.put_end(" While (", test, ");")
+                self.put_within(" While (", test, ");")
             }
             Stmt::InBfs {
                 search,
@@ -494,25 +569,30 @@ impl<'a> Source<'a> {
         }
     }
 
-    // The declaration of a variable that no text declares.
-    fn put_fresh(&mut self, number: u32, variable: Variable) -> Result<(), AllocError> {
+    // The type of a variable that no text declares.
+    fn put_type(&mut self, variable: Variable) -> Result<(), AllocError> {
         let (before, behind) = around(variable);
-        if variable.depth > 0 {
-            self.put("inside ")?;
-        }
+        self.put(depth_word(variable.depth))?;
         self.put(before)?;
         self.put(typed(variable.vtype))?;
-        self.put(behind)?;
-        self.put_named(number, "; ")
+        self.put(behind)
+    }
+
+    // The declaration of a variable, if no text declares it.
+    fn put_fresh(&mut self, number: u32, declaration: &Declaration) -> Result<(), AllocError> {
+        if declaration.name.as_slice().is_empty() {
+            self.put_type(declaration.variable)?;
+            self.put_named(number, "; ")
+        } else {
+            Ok(())
+        }
     }
 
     // The declarations of all variables that no text declares.
     fn put_table(&mut self) -> Result<(), AllocError> {
         let mut number = 0u32;
         for declaration in self.table {
-            if declaration.name.as_slice().is_empty() {
-                self.put_fresh(number, declaration.variable)?;
-            }
+            self.put_fresh(number, declaration)?;
             number = number.saturating_add(1);
         }
         Ok(())

@@ -1,9 +1,12 @@
 //! The whole program over streams and files in memory, and tables of its answers.
 
+use crate::compare::{all_read, same};
 use gm_base::{Gate, NoMemory, OpenGate, Status};
 use gm_driver::gm;
 use gm_files::{MemFiles, MemSink, MemSource};
 use gm_observe::{Counter, Observer, Table};
+use gm_rows::calls::STATUSES;
+use gm_tables::{is_row, parts_of};
 use std::alloc::{AllocError, Global};
 use std::process::Abort;
 use std::sync::Wait;
@@ -207,19 +210,6 @@ pub fn two_texts(alloc: Global, program: &str, graph: &str) -> Result<Vec<u8>, F
     Ok(text)
 }
 
-// The first words of what is written, each with the name of the status with which a call ends that writes it.
-const STATUSES: &str = "
-refused Refused
-usage: Usage
-graph BadInput
-argument BadInput
-image BadInput
-fault Fault
-cut Cut
-absent ReadFault
-read ReadFault
-";
-
 // The name of the status with which a call ends that writes this text. (A loop over words costs its proof far less than a
 // match on them.)
 pub fn status_of(written: &str) -> &'static str {
@@ -260,41 +250,8 @@ pub fn ends_with(
     ends_as(rt, alloc, ended, text, status_of(text), what)
 }
 
-// Compares two texts.
-pub fn same(rt: &impl Abort, found: &str, wanted: &str, what: &str) {
-    assert_eq!(rt; found, wanted, "{what}");
-}
-
-// The two sides of a mark.
-pub fn sides<'a>(text: &'a str, mark: &str) -> Result<(&'a str, &'a str), Fail> {
-    match text.split_once(mark) {
-        Some(parts) => Ok(parts),
-        None => Err(Fail::from("a row without its parts")),
-    }
-}
-
-// The parts of a row: its first line, what stands behind it up to `=>`, and what stands behind that.
-pub fn parts_of(row: &str) -> Result<(&str, &str, &str), Fail> {
-    let (line, rest) = sides(row, "\n")?;
-    let (given, wanted) = sides(rest, "=>\n")?;
-    Ok((line, given, wanted))
-}
-
-// A number of a row.
-pub fn number_of(text: &str) -> Result<u64, Fail> {
-    match text.trim().parse::<u64>() {
-        Ok(number) => Ok(number),
-        Err(_) => Err(Fail::from("a row without its number")),
-    }
-}
-
-// Whether a part of a table between its `~` is a row: what stands before the first is none.
-pub fn is_row(part: &str) -> bool {
-    part.len() > 1
-}
-
 // The words of a row's first line, behind the name of the row where it has one.
-fn words_of(line: &str) -> &str {
+pub fn words_of(line: &str) -> &str {
     match line.split_once(": ") {
         Some((_, words)) => words,
         None => line,
@@ -327,11 +284,6 @@ fn call_holds(
     let (line, rest, text) = parts_of(row)?;
     let ended = ending(rt, alloc, streams, words_of(line), front, rest)?;
     ends_with(rt, alloc, &ended, text, row)
-}
-
-// Compares how many rows were read with how many a table has.
-pub fn all_read(rt: &impl Abort, read: usize, count: usize) {
-    assert_eq!(rt; read, count, "rows");
 }
 
 // Whether each call of a table, which has so many rows with a `~` before each, gives its answer.

@@ -1,93 +1,15 @@
 //! The command `check`, over a source, files and a sink in memory.
 
-use crate::calls::{PLAIN, Streams, all_read, ends_with, is_row, parts_of, run_with};
+use crate::calls::{PLAIN, Streams, ends_with, run_with};
+use crate::compare::all_read;
 use gm_files::MemFiles;
+use gm_rows::checks::TEXTS;
+use gm_tables::{is_row, parts_of};
 use std::alloc::Global;
 use std::process::Abort;
 use std::sync::Wait;
 use std::test::Fail;
 use std::thread::Threads;
-
-// Program texts, and what is written of them.
-const TEXTS: &str = "
-~
-Procedure f(G: Graph) { }=>
-accepted
-~
-Procedure f(G: Graph) { Int # x; }=>
-refused BadByte at 1:29
-~
-Procedure f(G: Graph) { Int x = 99999999999999999999; }=>
-refused NumberTooLarge at 1:33
-~
-Procedure f(G: Graph) { /* x=>
-refused OpenComment at 1:25
-~
-Procedure f(G: Graph) { Double d; }=>
-refused U1 at 1:25
-~
-=>
-refused Syntax at 1:1
-~
-Procedure f(G: Graph) {
-  Foreach (n: G.=>
-refused Syntax at 2:17
-~
-Procedure f(G: Graph) {{{{{{{{{{{{{{{{{{{{{{{{{{{{{{{{{{{{{{{{{{{{{{{{{{{{{{{{{{{{{{{{{{=>
-refused TooDeep at 1:88
-~
-Procedure h(G: Graph, s: Node, p: N_P<Int>) : Bool { Return s != NIL && p0; }
-=>
-refused T1 at 1:73
-~
-Procedure f(G: Graph) { Int x = True; }=>
-refused T9 at 1:31
-~
-Procedure race(G: Graph; p, q: N_P<Int>) {
-  Foreach (n: G.Nodes) {
-    n.p = Sum(t: n.InNbrs) {t.p};
-  }
-}
-=>
-refused R1 at 3:29
-~
-Procedure race(G: Graph; p, q: N_P<Int>) {
-  Foreach (n: G.Nodes) {
-    Foreach (t: n.Nbrs) { t.q = 1; }
-    n.p = Sum(t: n.InNbrs) {t.p};
-  }
-}
-=>
-refused R4 at 3:27
-~
-Procedure f(G: Graph, s: Node) { Foreach (t: s.Nbrs) { } }=>
-refused C1 at 1:46
-~
-Procedure f(G: Graph) { Foreach (n: G.Nodes) { While (True) { } } }=>
-refused C4 at 1:48
-~
-Procedure e(G: Graph, v: N_P<Int>, w: E_P<Int>; s: N_P<Int>) {
-  Foreach (n: G.Nodes) {
-    Foreach (t: n.Nbrs) {
-      Edge e1 = t.ToEdge();
-        n.s += t.v * e1.w;
-    }
-  }
-}
-=>
-refused C7 at 5:22
-~
-Procedure e(G: Graph, v: N_P<Int>, w: E_P<Int>; s: N_P<Int>) {
-  Foreach (n: G.Nodes) {
-    Foreach (t: n.InNbrs) {
-      Edge e1 = t.ToEdge();
-        n.s += t.v * e1.w;
-    }
-  }
-}
-=>
-accepted
-";
 
 // The rows of these texts.
 fn texts() -> &'static str {

@@ -1,11 +1,11 @@
 //! The programs of the folder `examples`, each over its graph: by files, and the program on standard input.
 
-use crate::calls::{
-    PLAIN, all_read, ends_with, is_row, joined, parts_of, put_file, run, run_with, sides, two_texts,
-};
-use crate::example_texts::{COUNT, examples};
+use crate::calls::{PLAIN, ends_with, joined, put_file, run, run_with, two_texts};
+use crate::compare::all_read;
 use gm_base::Status;
+use gm_examples::{COUNT, examples};
 use gm_files::MemFiles;
+use gm_tables::{is_row, parts_of, sides};
 use std::alloc::Global;
 use std::process::Abort;
 use std::sync::Wait;

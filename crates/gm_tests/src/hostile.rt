@@ -1,11 +1,13 @@
 //! Streams and files that fail in each of their calls in turn, and graphs that are cut anywhere.
 
 use crate::calls::{
-    PLAIN, Streams, all_read, call, ends_as, ends_with, is_row, joined, no_files, number_of,
-    parts_of, put_file, run, run_with, sides, status_of,
+    PLAIN, Streams, call, ends_as, ends_with, joined, no_files, put_file, run, run_with, status_of,
 };
+use crate::compare::all_read;
 use gm_base::{Failed, Status};
 use gm_files::{FileFault, Files, MemFiles, MemSink, MemSource, Source};
+use gm_rows::hostile::{CUT_ANYWHERE, ENDINGS, FILES, FIRST, READINGS};
+use gm_tables::{is_row, number_of, parts_of, sides};
 use std::alloc::Global;
 use std::process::Abort;
 use std::sync::Wait;
@@ -24,72 +26,6 @@ const WRITTEN: &str = "node p\n0 7\n1 7\n2 7\nturns 0\n";
 const DOUBLE: &str = "Procedure f(G: Graph) { Double d; }\n";
 
 const REFUSED: &str = "refused U1 at 1:25\n";
-
-// Calls that end in each way: the words, standard input, and what is written.
-const ENDINGS: &str = "
-~ run - -
-Procedure add(G: Graph; p: N_P<Int>) { Foreach (n: G.Nodes) { n.p = n.p + 7; } }
-%%
-0 1
-1 2
-=>
-node p
-0 7
-1 7
-2 7
-turns 0
-~ run - -
-Procedure add(G: Graph; p: N_P<Int>) { Foreach (n: G.Nodes) { n.p = n.p + 7; } }
-%%
-0 1
-1 x
-=>
-graph BadLine at line 2
-~ run - - k=1
-Procedure add(G: Graph; p: N_P<Int>) { Foreach (n: G.Nodes) { n.p = n.p + 7; } }
-%%
-=>
-argument Unknown k
-~ run - nofile
-Procedure add(G: Graph; p: N_P<Int>) { Foreach (n: G.Nodes) { n.p = n.p + 7; } }
-=>
-absent nofile
-~ run - nofile
-Procedure f(G: Graph) { Double d; }
-=>
-refused U1 at 1:25
-~ run - - --turns 3
-Procedure f(G: Graph) { While (True) { ; } }=>
-cut after 3 turns
-~ run - -
-Procedure f(G: Graph; a: Int) { a = 1 / a; }=>
-fault DivideByZero at 1:39
-~ check -
-Procedure add(G: Graph; p: N_P<Int>) { Foreach (n: G.Nodes) { n.p = n.p + 7; } }
-=>
-accepted
-~ check -
-Procedure f(G: Graph) { Double d; }
-=>
-refused U1 at 1:25
-~ demo 1
-=>
-demo 1 edges 4 reached 1 far 0 turns 1
-";
-
-// The first of them.
-const FIRST: &str = "run - -
-Procedure add(G: Graph; p: N_P<Int>) { Foreach (n: G.Nodes) { n.p = n.p + 7; } }
-%%
-0 1
-1 2
-=>
-node p
-0 7
-1 7
-2 7
-turns 0
-";
 
 // The name of the status of a call of whose text so many bytes were taken before a write failed, if one did.
 fn name_after(text: &str, before: usize) -> &'static str {
@@ -166,51 +102,6 @@ fn each_write_fails_in_turn(rt: HostRuntime) -> Result<(), Fail> {
 fn each_write_of_a_byte_fails_in_turn(rt: HostRuntime) -> Result<(), Fail> {
     writes_fail(&rt, rt.alloc(), FIRST, 1, 32)
 }
-
-// Calls that read standard input to its end: the words, standard input, and what is written.
-const READINGS: &str = "
-~ run - -
-Procedure add(G: Graph; p: N_P<Int>) { Foreach (n: G.Nodes) { n.p = n.p + 7; } }
-%%
-0 1
-1 2
-=>
-node p
-0 7
-1 7
-2 7
-turns 0
-~ run - -
-Procedure add(G: Graph; p: N_P<Int>) { Foreach (n: G.Nodes) { n.p = n.p + 7; } }
-=>
-node p
-turns 0
-~ run - a.graph
-Procedure add(G: Graph; p: N_P<Int>) { Foreach (n: G.Nodes) { n.p = n.p + 7; } }
-=>
-node p
-0 7
-1 7
-2 7
-turns 0
-~ run a.gm -
-0 1
-1 2
-=>
-node p
-0 7
-1 7
-2 7
-turns 0
-~ run - nofile
-Procedure f(G: Graph) { Double d; }
-=>
-refused U1 at 1:25
-~ check -
-Procedure add(G: Graph; p: N_P<Int>) { Foreach (n: G.Nodes) { n.p = n.p + 7; } }
-=>
-accepted
-";
 
 // The files of a program and of its graph, of which the read of this number fails.
 fn two_files(alloc: Global, failing: u64) -> Result<MemFiles, Fail> {
@@ -297,70 +188,6 @@ fn each_read_of_a_byte_fails_in_turn(rt: HostRuntime) -> Result<(), Fail> {
     let row = "run - -\nProcedure f(G: Graph) { }=>\nturns 0\n";
     reads_fail(&rt, rt.alloc(), row, 1, 29)
 }
-
-// The read of a file that fails, the words, and what is written. A small file takes one read, and one that finds its
-// end; a program is read before its graph.
-const FILES: &str = "
-~ 1: run a.gm a.graph
-=>
-read fault a.gm
-~ 2: run a.gm a.graph
-=>
-read fault a.gm
-~ 3: run a.gm a.graph
-=>
-read fault a.graph
-~ 4: run a.gm a.graph
-=>
-read fault a.graph
-~ 5: run a.gm a.graph
-=>
-node p
-0 7
-1 7
-2 7
-turns 0
-~ 0: run a.gm a.graph
-=>
-node p
-0 7
-1 7
-2 7
-turns 0
-~ 3: run a.gm a.gm
-=>
-read fault a.gm
-~ 0: run a.gm a.gm
-=>
-graph BadLine at line 1
-~ 0: run a.gm -- nofile
-=>
-absent nofile
-~ 2: run a.gm nofile
-=>
-read fault a.gm
-~ 3: run a.gm nofile
-=>
-read fault nofile
-~ 0: run nofile a.graph
-=>
-absent nofile
-~ 1: run nofile no.graph
-=>
-read fault nofile
-~ 2: run refused.gm a.graph
-=>
-read fault refused.gm
-~ 3: run refused.gm a.graph
-=>
-refused U1 at 1:25
-~ 0: run refused.gm nofile
-=>
-refused U1 at 1:25
-~ 0: run refused.gm refused.gm k=1
-=>
-refused U1 at 1:25
-";
 
 // Whether a call over the two files gives the answer of a row.
 fn file_fails(
@@ -468,42 +295,6 @@ fn nothing_is_read_where_nothing_is_asked(rt: HostRuntime) -> Result<(), Fail> {
 // The procedure of the shortest paths from a root.
 const PATHS: &str =
     "Procedure sssp(G: Graph, root: Node, len: E_P<Int>; dist: N_P<Int>) { N_P<Int> next; N_P<Bool> on; Bool fin = False; G.dist = G == root ? 0 : INF; G.next = G.dist; G.on = G == root; While (!fin) { Foreach (n: G.Nodes) (n.on) { Foreach (s: n.Nbrs) { Edge e = s.ToEdge(); s.next min= n.dist + e.len; } } G.on = G.next < G.dist; G.dist = G.next; fin = !Exist(n: G.Nodes) {n.on}; } }\n%%\n";
-
-// What is written of the shortest paths over the first bytes of a graph, one byte more in each row.
-const CUT_ANYWHERE: &str = "
-~ argument NoSuchNode root
-~ graph BadLine at line 1
-~ graph BadLine at line 1
-~ graph MissingColumn at line 1
-~ graph MissingColumn at line 1
-~ node dist
-0 0
-1 4
-turns 2
-~ node dist
-0 0
-1 40
-turns 2
-~ node dist
-0 0
-1 40
-turns 2
-~ graph BadLine at line 2
-~ graph BadLine at line 2
-~ graph MissingColumn at line 2
-~ graph MissingColumn at line 2
-~ graph BadLine at line 2
-~ node dist
-0 0
-1 40
-2 2147483647
-turns 2
-~ node dist
-0 0
-1 40
-2 2147483647
-turns 2
-";
 
 // Whether this is written of the shortest paths over so many bytes of a graph.
 fn cut_graph_holds(

@@ -9,15 +9,19 @@ mod calls;
 #[cfg(test)]
 mod checks;
 #[cfg(test)]
+mod compare;
+#[cfg(test)]
+mod compiled;
+#[cfg(test)]
 mod cuts;
 #[cfg(test)]
 mod example_programs;
 #[cfg(test)]
-mod example_texts;
-#[cfg(test)]
 mod faults;
 #[cfg(test)]
 mod first;
+#[cfg(test)]
+mod gates;
 #[cfg(test)]
 mod hostile;
 #[cfg(test)]
@@ -40,6 +44,8 @@ mod readings;
 mod reductions;
 #[cfg(test)]
 mod searches;
+#[cfg(test)]
+mod teams;
 #[cfg(test)]
 mod totals;
 #[cfg(test)]

@@ -2,13 +2,13 @@
 
 ghost use Rattle.std.specs.Prelude.{[]};
 
-use crate::calls::{
-    Streams, all_read, both, ends_as, is_row, joined, no_files, number_of, parts_of, run_watched,
-    sides,
-};
+use crate::calls::{Streams, both, ends_as, joined, no_files, run_watched};
+use crate::compare::all_read;
 use crate::image_rows::TOTAL;
 use gm_base::{NoMemory, Status};
 use gm_observe::{Note, Observer};
+use gm_rows::observers::{WATCHED, WATCHED_TOTAL};
+use gm_tables::{is_row, number_of, parts_of, sides};
 use std::alloc::Global;
 use std::cell::Cell;
 use std::process::Abort;
@@ -159,112 +159,6 @@ fn is_watched(
     assert_eq!(rt; drops, 1, "{row}");
     Ok(())
 }
-
-// For how many notes the first observer has memory, the write that fails, the status and the words; the image, and what is
-// written. The image takes two supersteps, so two notes.
-const WATCHED_TOTAL: &str = "
-~ 1 0 NoMemory: exec - - --observe
-=>
-~ 0 0 NoMemory: exec - - --observe
-=>
-~ 2 0 Done: exec - - --observe
-=>
-node s
-0 0
-1 17
-supersteps 2 messages 3 turns 0
-~ 0 0 Done: exec - -
-=>
-node s
-0 0
-1 17
-supersteps 2 messages 3 turns 0
-~ 9 3 WriteFault: exec - - --observe
-=>
-node s
-0 0\
-~ 9 0 BadInput: exec - - --observe k=1
-=>
-argument Unknown k
-~ 9 0 ReadFault: exec nofile - --observe
-=>
-absent nofile
-~ 9 0 Usage: exec - - --observe --observe
-=>
-usage: gm run PROG GRAPH | check PROG | compile PROG | exec IMAGE GRAPH | demo N
-";
-
-// The same of other images and of programs.
-const WATCHED: &str = "
-~ 9 0 BadInput: exec - - --observe
-gm-image 3
-=>
-image BadText at line 1
-~ 9 0 Fault: exec - - --observe
-gm-image 1
-name d
-inputs 1
-node I v 0
-outputs 0
-result -
-globals 0
-fields 1
-I
-registers 0
-columns 0
-kinds 0
-places 2
-2 4
-3 4
-blocks 1
-block 0
-body 1
-set 0 / 1 c I 1 - 0 f 0 c I 5
-master 2
-step 0
-end
-=>
-fault DivideByZero at 3:4
-~ 9 0 Cut: exec - - --observe --turns=2
-gm-image 1
-name s
-inputs 0
-outputs 0
-result -
-globals 0
-fields 0
-registers 0
-columns 0
-kinds 0
-places 0
-blocks 0
-master 3
-loop 2 c B True
-back 0
-end
-=>
-cut after 2 turns
-~ 9 0 Done: run - -
-Procedure p(G: Graph; a: Int) { a = Count(n: G.Nodes); }
-=>
-a = 2
-turns 0
-~ 9 0 Fault: run - -
-Procedure p(G: Graph; a: Int) { a = 1 / a; }
-=>
-fault DivideByZero at 1:39
-~ 9 0 Cut: run - - --turns=1
-Procedure p(G: Graph; a: Int) { While (True) { a += 1; } }
-=>
-cut after 1 turns
-~ 9 0 Refused: run - -
-Procedure=>
-refused Syntax at 1:10
-~ 9 0 Usage: run -
-Procedure p(G: Graph; a: Int) { a = Count(n: G.Nodes); }
-=>
-usage: gm run PROG GRAPH | check PROG | compile PROG | exec IMAGE GRAPH | demo N
-";
 
 // Whether each row holds over what all of them share.
 fn are_watched(

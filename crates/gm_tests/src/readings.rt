@@ -1,7 +1,10 @@
 //! How far standard input is read: what it has left after a call.
 
-use crate::calls::{all_read, call, is_row, no_files, parts_of};
+use crate::calls::{call, no_files};
+use crate::compare::all_read;
 use gm_files::{MemSink, MemSource, read_all};
+use gm_rows::readings::READINGS;
+use gm_tables::{is_row, parts_of};
 use std::alloc::Global;
 use std::process::Abort;
 use std::sync::Wait;
@@ -35,61 +38,6 @@ fn left_after(
         Err(_) => Err("a read failed")?,
     }
 }
-
-// The words, the text, and what is left of it.
-const READINGS: &str = "
-~ check -
-#Procedure=>
-~ check -
-Procedure f(G: Graph) { }
-%%
-0 1
-=>
-~ run - -
-#ab
-%%
-0 1
-1 2
-=>
- 1
-1 2
-~ run - -
-#ab
-%%
-0 1
-=>
- 1
-~ run - -
-#ab
-%%=>
-~ run - -
-Procedure f(G: Graph) { }
-%%
-0 x
-1 2
-=>
-~ run - none
-#ab
-%%
-0 1
-=>
-~ exec - -
-gm-image 9
-%%
-0 1
-1 2
-=>
-0 1
-1 2
-~ run none -
-#ab
-%%
-0 1
-=>
-#ab
-%%
-0 1
-";
 
 // Whether what is left is what a row says.
 fn leaves(rt: &(impl Abort + Threads + Wait + Sync), alloc: Global, row: &str) -> Result<(), Fail> {

@@ -1,10 +1,12 @@
 //! Images run by several workers: the same bytes whoever owns which node, and the gate that each of them enters.
 
-use crate::calls::{PLAIN, gated_call, joined, no_files, run, same};
+use crate::calls::{PLAIN, gated_call, joined, no_files, run};
+use crate::compare::same;
 use crate::image_rows::{BEST, MOST, TOTAL};
 use gm_base::{Gate, Status};
 use gm_files::{MemSink, MemSource};
 use gm_observe::Observer;
+use gm_rows::workers::{PATHS_OF_NODES, TEAMS};
 use std::alloc::{AllocError, Global};
 use std::process::Abort;
 use std::sync::Wait;
@@ -15,18 +17,6 @@ use std::thread::Threads;
 // The image of shortest paths: each node keeps the least sum of lengths from the root, for as many turns as there is a change.
 const PATHS: &str =
     "gm-image 1\nname sssp\ninputs 2\nscalar N root 0\nedge I len 0\noutputs 1\nnode I dist 0\nresult -\nglobals 3\nN\nB\nB\nfields 3\nI\nI\nB\nregisters 0\ncolumns 1\nI\nkinds 1\n- I\nplaces 1\n12 14\nblocks 3\nblock 0\nbody 3\nset 0 ? == id g 0 c I 0 c I 2147483647\nset 1 f 0\nset 2 == id g 0\nblock 0\nbody 3\nskip 2 f 2\neach out 1\nsend 0 nb + 0 f 0 w 0\nblock 1\non 0 1\nfold min 0 1 m 0\nbody 3\nset 2 < f 1 f 0\nset 0 f 1\nput or 0 2 f 2\nmaster 9\nstep 0\nset 1 c B True\nloop 8 g 1\nset 2 c B False\nstep 1\nstep 2\nset 1 g 2\nback 2\nend\n";
-
-// The words for so many workers, and for how the nodes are dealt out among them.
-const TEAMS: &str = "--workers 1 --partition mod
---workers 1 --partition block
---workers 1 --partition spread:9
---workers 2 --partition mod
---workers 2 --partition block
---workers 2 --partition spread:9
---workers 64 --partition mod
---workers 64 --partition block
---workers 64 --partition spread:9
-";
 
 // The first of them.
 const FIRST_TEAM: &str = "--workers 1 --partition mod";
@@ -130,6 +120,49 @@ fn paths_are_run_by_teams(rt: HostRuntime) -> Result<(), Fail> {
     let edges = edges_by_chance(rt.alloc(), true)?;
     let text = joined(rt.alloc(), PATHS, edges.as_str())?;
     all_write_the_same(&rt, rt.alloc(), "exec - - root=0", &text)
+}
+
+#[test]
+fn programs_are_run_by_teams(rt: HostRuntime) -> Result<(), Fail> {
+    let edges = edges_by_chance(rt.alloc(), true)?;
+    let text = joined(rt.alloc(), PATHS_OF_NODES, edges.as_str())?;
+    all_write_the_same(&rt, rt.alloc(), "run - - root=0", &text)?;
+    all_write_the_same(&rt, rt.alloc(), "run - - root=0 --image --observe", &text)
+}
+
+// What a demonstration writes whose workers send each other many batches, worked out by another program with another way to
+// find the distances.
+const LARGE: &str = "demo 20000 edges 80000 reached 19617 far 512 turns 24\n";
+
+// Whether a team writes it.
+fn large_is_told(
+    rt: &(impl Abort + Threads + Wait + Sync),
+    alloc: Global,
+    team: &str,
+) -> Result<(), Fail> {
+    let written = written_by(rt, alloc, "demo 20000", team, b"")?;
+    same(rt, written.as_str(), LARGE, team);
+    Ok(())
+}
+
+#[test]
+fn a_large_demonstration_by_one_worker(rt: HostRuntime) -> Result<(), Fail> {
+    large_is_told(&rt, rt.alloc(), "--workers 1")
+}
+
+#[test]
+fn a_large_demonstration_by_four_workers(rt: HostRuntime) -> Result<(), Fail> {
+    large_is_told(&rt, rt.alloc(), "--workers 4")
+}
+
+#[test]
+fn a_large_demonstration_by_as_many_as_may_be(rt: HostRuntime) -> Result<(), Fail> {
+    large_is_told(&rt, rt.alloc(), "--workers 64 --partition spread:9")
+}
+
+#[test]
+fn demonstrations_are_run_by_teams(rt: HostRuntime) -> Result<(), Fail> {
+    all_write_the_same(&rt, rt.alloc(), "demo 300", b"")
 }
 
 // A gate that counts who enters.

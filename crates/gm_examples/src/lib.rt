@@ -1,5 +1,6 @@
 //! The programs of the folder `examples` with their graphs, words and what is written of them. `scripts/examples --tests`
-//! writes this file.
+//! writes this file. Tests of the program and of the compiler read them.
+#![tactic(auto)]
 
 // The first line of a row has an example's name and the words for its arguments. Then come its text, the line that parts
 // it from its graph, its graph and what is written. (One function alone names the text, since each that does costs its
@@ -618,10 +619,10 @@ node near
 turns 2
 ";
 
-// The table of the examples.
+/// The table of the examples.
 pub fn examples() -> &'static str {
     EXAMPLES
 }
 
-// How many they are.
+/// How many they are.
 pub const COUNT: usize = 13;

@@ -1,0 +1,18 @@
+//! Comparisons, where a test ends that finds something else.
+
+use std::process::Abort;
+
+/// Compares two texts.
+pub(crate) fn same(rt: &impl Abort, found: &str, wanted: &str, what: &str) {
+    assert_eq!(rt; found, wanted, "{what}");
+}
+
+/// Sees that something holds.
+pub(crate) fn holds(rt: &impl Abort, is_so: bool, what: &str) {
+    assert!(rt; is_so, "{what}");
+}
+
+/// Compares how many rows were read with how many a table has.
+pub(crate) fn all_read(rt: &impl Abort, read: usize, count: usize) {
+    assert_eq!(rt; read, count, "rows");
+}
