@@ -1,5 +1,5 @@
 -- Push, pull and home: where the reductions of an inner loop are evaluated, and which reads of edges that forbids.
-use Rattle.std.specs.Prelude.{ℕ, nat_eq, Bool, true, false, ◌&&◌, ◌||◌, not, if◌then◌else◌, List, [], ◌∷◌, ◌++◌, map, flat_map, filter, Some}
+use Rattle.std.specs.Prelude.{ℕ, nat_eq, Bool, true, false, ◌&&◌, ◌||◌, not, if◌then◌else◌, List, [], ◌∷◌, ◌++◌, map, flat_map, filter, Some, None}
 use Rattle.gm_base.specs.declared.places.Place.{Place}
 use Rattle.gm_ast.specs.declared.tree.Domain.{Domain}
 use Rattle.gm_ast.specs.declared.tree.Domain.TheVariants.{Nodes, OutNbrs, InNbrs, UpNbrs, DownNbrs}
@@ -67,13 +67,19 @@ pub record Action : Type 0 where
 abbrev pub action : Bool → List Target → List Expr → List Mention → List Action
 action r ts es conditions = record { reduces = r; targets = ts; mentioned = flat_map mentions es ++ conditions } ∷ []
 
--- what an inner body does, under conditions that mention these
+-- what a reduction mentions by a target: a scalar, since what it holds is compared or added to, and with a tuple of scalars decides what each of them holds then
+abbrev pub held_of : Target → List Mention
+held_of (Target.Scalar x at) = Alone x ∷ []
+held_of (Target.Property x p at) = []
+
+-- what an inner body does, under conditions that mention these; a declaration without a value sets its local too
 abbrev pub actions : Stmt → List Mention → List Action
 actions (Then a b) cs = actions a cs ++ actions b cs
 actions (If k c a b) cs = actions a (mentions c ++ cs) ++ actions b (mentions c ++ cs)
+actions (Declare k x None) cs = action false (Target.Scalar x (record { line = 0; col = 0 }) ∷ []) [] cs
 actions (Declare k x (Some e)) cs = action false (Target.Scalar x (record { line = 0; col = 0 }) ∷ []) (e ∷ []) cs
 actions (Assign k t e) cs = action false (t ∷ []) (e ∷ []) cs
-actions (Combine k total r ts es) cs = action true ts es cs
+actions (Combine k total r ts es) cs = action true ts es (flat_map held_of ts ++ cs)
 actions _ cs = []
 
 -- the variables that an inner body declares

@@ -2,6 +2,8 @@
 use Rattle.std.specs.Prelude.{◌≡◌, ◌<◌, ◌≤◌, ◌-◌, ℕ, false, List, [], length, map, slice_index_or}
 use Rattle.gm_model.specs.Graphs.{node_count}
 use Rattle.gm_machine.specs.Vertex.{Message}
+use Rattle.gm_image.specs.Views.{program}
+use Rattle.gm_machine.specs.Asking.{IsServed}
 use Rattle.gm_machine.specs.Masters.{FitsGraph, control_of, pause_of}
 use Rattle.gm_core.specs.declared.cores.Setting.{Setting}
 use Rattle.gm_core.specs.declared.cores.CoreRun.{CoreRun}
@@ -53,7 +55,8 @@ pub record IsWide (nodes workers : ℕ) (c : CoreRun) : Type 0 where
   pub waiting : length c.waiting.items ≡ workers
   pub round : IsRound nodes workers c.round
 
--- a graph that fits the image, and an owner among the workers for each node
+-- a graph that fits the image and has the rows for which it asks, and an owner among the workers for each node
 pub record IsSetting (s : Setting) : Type 0 where
   pub columns : FitsGraph s.image.now s.graph.now
+  pub served : IsServed (program s.image.now) s.graph.now s.in_rows.now
   pub dealt : AreOwners s.owners.now (node_count s.graph.now) s.workers

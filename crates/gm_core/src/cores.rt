@@ -1,16 +1,18 @@
 //! The state of a run by workers.
 
 use crate::messages::Outbox;
-use gm_graph::Graph;
+use gm_graph::{Graph, InRows};
 use gm_image::Sound;
 use gm_machine::{Batch, Contributions, Fault, Master, MasterStop};
 use gm_value::Value;
 
-/// What a run by workers does not change: the image, the graph, the owner of each node, and how many workers there are.
+/// What a run by workers does not change: the image, the graph, the rows for which the image asks, the owner of each node, and
+/// how many workers there are.
 #[derive(Clone, Copy)]
 pub(crate) struct Setting<'a> {
     pub(crate) image: &'a Sound,
     pub(crate) graph: &'a Graph,
+    pub(crate) in_rows: &'a Option<InRows<'a>>,
     pub(crate) owners: &'a [u32],
     pub(crate) workers: u32,
 }

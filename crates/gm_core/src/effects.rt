@@ -6,6 +6,7 @@ ghost use Rattle.gm_model.specs.Graphs.{HasNode, node_count};
 ghost use Rattle.gm_image.specs.Views.{program};
 ghost use Rattle.gm_machine.specs.Faults.{lesser};
 ghost use Rattle.gm_machine.specs.Machine.{Steps, inbox};
+ghost use Rattle.gm_machine.specs.Asking.{IsServed};
 ghost use Rattle.gm_machine.specs.Masters.{FitsGraph, control_of, pause_of};
 ghost use Rattle.gm_machine.specs.States.{pause_after};
 ghost use Rattle.gm_machine.specs.Steps.{step_after};
@@ -85,6 +86,7 @@ fn step_node(
     fields: &mut Vec<Vec<Value>>,
 ) -> Result<Sent, NoMemory>
     requires columns { FitsGraph setting.now.image.now setting.now.graph.now }
+    requires served { IsServed (program setting.now.image.now) setting.now.graph.now setting.now.in_rows.now }
     requires node { HasNode setting.now.graph.now node }
     requires here { node < length fields.old.items }
     ensures fields { OnOk result (map (λ row. row.items) fields.new.items ≡ slice_set (map (λ row. row.items) fields.old.items) node
@@ -105,6 +107,7 @@ fn step_node(
         block,
         globals,
         setting.graph,
+        setting.in_rows,
         node,
         row,
         inbox,
@@ -326,6 +329,7 @@ fn settle(
 // How the master list goes on after a superstep that left a fault or none.
 fn go_on(setting: &Setting, fault: Option<Fault>, master: &mut Master) -> MasterStop
     requires columns { FitsGraph setting.now.image.now setting.now.graph.now }
+    requires served { IsServed (program setting.now.image.now) setting.now.graph.now setting.now.in_rows.now }
     requires bounded { master.old.turns ≤ master.old.bound }
     ensures next { pause_of result (master.new.bound - master.new.turns) master.new.line (control_of master.new)
         ≡ pause_after (program setting.now.image.now) setting.now.graph.now (master.old.bound - master.old.turns) master.old.line (control_of master.old) fault }
@@ -335,7 +339,7 @@ fn go_on(setting: &Setting, fault: Option<Fault>, master: &mut Master) -> Master
         Some(fault) => MasterStop::Faulted(fault),
         None => {
             let image = setting.image.image();
-            master_run(image, setting.graph, master)
+            master_run(image, setting.graph, setting.in_rows, master)
         }
     }
 }

@@ -23,7 +23,7 @@ use crate::owners::owners_of;
 use gm_base::NoMemory;
 use gm_graph::Graph;
 use gm_image::{Image, Sound};
-use gm_machine::{Master, MasterStop, end_of_lists, master_run, start_fields};
+use gm_machine::{Master, MasterStop, end_of_lists, master_run, rows_for, start_fields};
 use gm_model::RunEnd;
 use gm_partition::Owner;
 use gm_value::Value;
@@ -112,7 +112,7 @@ fn first_stop(
 {
     let image = setting.image.image();
     let mut master = Master::start(alloc, image, args, turns)?;
-    let next = master_run(image, setting.graph, &mut master);
+    let next = master_run(image, setting.graph, setting.in_rows, &mut master);
     Ok((master, next))
 }
 
@@ -246,9 +246,11 @@ pub fn run_events(
     let nodes = graph.node_count();
     let dealt = owners_of(alloc, owner, workers, nodes)?;
     let owners = dealt.as_slice();
+    let in_rows = rows_for(alloc, image.image(), graph)?;
     let setting = Setting {
         image,
         graph,
+        in_rows: &in_rows,
         owners,
         workers,
     };

@@ -6,7 +6,7 @@ use Rattle.gm_base.specs.declared.statuses.Status.{Status}
 use Rattle.gm_value.specs.declared.values.Value.{Value}
 use Rattle.gm_model.specs.declared.outcomes.Outcome.{Outcome}
 use Rattle.gm_model.specs.declared.outcomes.Outcome.TheVariants.{Done, Fault, Cut}
-use Rattle.gm_model.specs.Graphs.{NumberedGraph}
+use Rattle.gm_model.specs.Graphs.{IsGraph, NumberedGraph}
 use Rattle.gm_image.specs.Program.{Program}
 use Rattle.gm_machine.specs.Machine.{machine}
 use Rattle.gm_machine.specs.Notes.{noted}
@@ -40,14 +40,15 @@ both P Q R (Err e) step p q = tt
 
 -- a run that nobody watches
 pub ran-alone : (p : Program) (turns : ℕ) (ways : List (List Note → List ℕ)) (held : List (List Note)) (g : NumberedGraph) (args : List Value) (text : List ℕ) (status : Status)
-    → Says text status (end_text p g (machine p g args turns)) (status_of (machine p g args turns).outcome) → Ran p turns false (audience ways held held) g args text status
-ran-alone p turns ways held g args text status says = record { told = refl; says = (says.0 ∙ sym (append-nil (end_text p g (machine p g args turns))), says.1) }
+    → IsGraph g → Says text status (end_text p g (machine p g args turns)) (status_of (machine p g args turns).outcome) → Ran p turns false (audience ways held held) g args text status
+ran-alone p turns ways held g args text status known says = record { known = known; told = refl; says = (says.0 ∙ sym (append-nil (end_text p g (machine p g args turns))), says.1) }
 
 -- a run that is watched: its listing, and the reports behind it
 pub ran-watched : (p : Program) (turns : ℕ) (ways same : List (List Note → List ℕ)) (before after : List (List Note)) (g : NumberedGraph) (args : List Value) (text listed : List ℕ) (status ending : Status)
-    → after ≡ told_to_all (noted p g args turns) before → Says listed ending (end_text p g (machine p g args turns)) (status_of (machine p g args turns).outcome)
+    → IsGraph g → after ≡ told_to_all (noted p g args turns) before → Says listed ending (end_text p g (machine p g args turns)) (status_of (machine p g args turns).outcome)
     → same ≡ ways → text ≡ listed ++ reports same after → status ≡ ending → Ran p turns true (audience ways before after) g args text status
-ran-watched p turns ways same before after g args text listed status ending told says is written ends = record {
+ran-watched p turns ways same before after g args text listed status ending known told says is written ends = record {
+  known = known;
   told = told;
   says = (
     written ∙ ap (λ (xs : List ℕ). xs ++ reports same after) says.0 ∙ ap (λ (ws : List (List Note → List ℕ)). end_text p g (machine p g args turns) ++ reports ws after) is,

@@ -4,7 +4,7 @@ use Rattle.gm_base.specs.declared.statuses.Status.{Status}
 use Rattle.gm_base.specs.declared.statuses.Status.TheVariants.{BadInput, ReadFault}
 use Rattle.gm_value.specs.declared.values.Value.{Value}
 use Rattle.gm_model.specs.declared.outcomes.RunEnd.{RunEnd}
-use Rattle.gm_model.specs.Graphs.{NumberedGraph}
+use Rattle.gm_model.specs.Graphs.{IsGraph, NumberedGraph}
 use Rattle.gm_image.specs.Program.{Program}
 use Rattle.gm_machine.specs.Machine.{machine}
 use Rattle.gm_machine.specs.Notes.{noted}
@@ -45,6 +45,7 @@ end_text p g end = listing (scalar_outputs p) (property_outputs p) g.numbers (Co
 -- the run of an image with a bound on turns over a graph, with these arguments: it says the listing of what the machine
 -- does, with its status; where it is watched, the observers are told of each superstep, and their reports follow
 pub record Ran (p : Program) (turns : ℕ) (watched : Bool) (a : Audience) (g : NumberedGraph) (args : List Value) (text : List ℕ) (status : Status) : Type 0 where
+  pub known : IsGraph g
   pub told : a.after ≡ held_after watched (noted p g args turns) a.before
   pub says : Says text status (end_text p g (machine p g args turns) ++ reports_after watched a.ways a.after) (status_of (machine p g args turns).outcome)
 

@@ -14,3 +14,4 @@ mod watches;
 pub use flaws::Flaw;
 pub use laws::rows_are_worked;
 pub use replies::exec;
+pub use walks::walks_of;

@@ -1,122 +1,19 @@
 //! The walks for which an image asks rows of its graph.
 
-ghost use Rattle.std.specs.Prelude.{◌≡◌, map};
-ghost use Rattle.std.specs.List.{list_all};
-ghost use Rattle.gm_image.specs.Parts.{all_leaves, line_terms, terms_of};
-ghost use Rattle.gm_image.specs.Shapes.{leaf_term};
-ghost use Rattle.gm_image.specs.Views.{block, handler, line, program, target, term};
-ghost use Rattle.gm_exec.specs.Walks.{block_outward as block_outward_lem, counts_outward as counts_outward_lem, handler_outward as handler_outward_lem, line_outward as line_outward_lem, walks_of as walks_of_lem};
+ghost use Rattle.std.specs.Prelude.{◌≡◌};
+ghost use Rattle.gm_image.specs.Views.{program};
+ghost use Rattle.gm_exec.specs.Walks.{walks_of as walks_of_lem};
 
 use gm_graph::Walks;
-use gm_image::{Block, Expr, Handler, Image, Leaf, Shape, VertexLine};
+use gm_image::Image;
+use gm_machine::asks_outward;
 
-// Whether what stands alone in an expression does not count the edges that lead to a vertex.
-fn counts_outward(leaf: Leaf) -> bool
-    ensures { result ≡ counts_outward_lem (leaf_term leaf) }
-{
-    match leaf {
-        Leaf::InDegree => false,
-        _ => true,
-    }
-}
-
-// Whether an expression does not.
-#[tactic(auto, using(gm_image::proofs::ByShape::leaves_leaf, gm_image::proofs::ByShape::leaves_one, gm_image::proofs::ByShape::leaves_two))]
-fn reads_outward(expr: &Expr) -> bool
-    ensures { result ≡ all_leaves counts_outward_lem (term expr.now) }
-{
-    match expr.shape() {
-        Shape::Leaf(leaf) => counts_outward(leaf),
-        Shape::One(_, a) => reads_outward(a),
-        Shape::Two(_, a, b) => reads_outward(a) && reads_outward(b),
-        Shape::Choose(c, a, b) => reads_outward(c) && reads_outward(a) && reads_outward(b),
-    }
-}
-
-// Whether no value of a message does.
-fn values_outward(values: &[Expr]) -> bool
-    ensures { result ≡ list_all (all_leaves counts_outward_lem) (map term values.now) }
-{
-    for value in values {
-        if !reads_outward(value) {
-            return false;
-        }
-    }
-    true
-}
-
-// Whether no value of a reduction does.
-fn slots_outward(slots: &[(u32, Expr)]) -> bool
-    ensures { result ≡ list_all (all_leaves counts_outward_lem) (terms_of (map target slots.now)) }
-{
-    for slot in slots {
-        if !reads_outward(&slot.1) {
-            return false;
-        }
-    }
-    true
-}
-
-// Whether a line asks nothing of the edges that lead to a vertex.
-fn line_outward(vertex_line: &VertexLine) -> bool
-    ensures { result ≡ line_outward_lem (line vertex_line.now) }
-{
-    match vertex_line {
-        VertexLine::SetField(_, a) => reads_outward(a),
-        VertexLine::SetRegister(_, a) => reads_outward(a),
-        VertexLine::Skip(_, a) => reads_outward(a),
-        VertexLine::Fold { slots, .. } => slots_outward(slots.as_slice()),
-        VertexLine::Put { slots, .. } => slots_outward(slots.as_slice()),
-        VertexLine::Send { to, values, .. } => {
-            reads_outward(to) && values_outward(values.as_slice())
-        }
-        VertexLine::EachOut(_) => true,
-        VertexLine::EachIn(_) => false,
-    }
-}
-
-// Whether no line does.
-fn lines_outward(lines: &[VertexLine]) -> bool
-    ensures { result ≡ list_all line_outward_lem (map line lines.now) }
-{
-    for vertex_line in lines {
-        if !line_outward(vertex_line) {
-            return false;
-        }
-    }
-    true
-}
-
-// Whether no handler does.
-fn handlers_outward(handlers: &[Handler]) -> bool
-    ensures { result ≡ list_all handler_outward_lem (map handler handlers.now) }
-{
-    for handled in handlers {
-        if !lines_outward(handled.lines.as_slice()) {
-            return false;
-        }
-    }
-    true
-}
-
-// Whether no block does.
-fn blocks_outward(blocks: &[Block]) -> bool
-    ensures { result ≡ list_all block_outward_lem (map block blocks.now) }
-{
-    for one in blocks {
-        if !(handlers_outward(one.handlers.as_slice()) && lines_outward(one.body.as_slice())) {
-            return false;
-        }
-    }
-    true
-}
-
-/// The walks for which an image asks rows of its graph: both ways where a vertex counts the edges that lead to it or goes
-/// over them by `each in`, else outward only.
+/// The walks for which an image asks rows of its graph: both ways where something counts the edges that lead to a vertex or
+/// goes over them by `each in`, else outward only.
 pub fn walks_of(image: &Image) -> Walks
     ensures { result ≡ walks_of_lem (program image.now) }
 {
-    if blocks_outward(image.blocks.as_slice()) {
+    if asks_outward(image) {
         Walks::Outward
     } else {
         Walks::BothWays

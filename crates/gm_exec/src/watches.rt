@@ -140,6 +140,7 @@ fn run_reported<R: Threads + Wait + Sync, G: Gate>(
     ensures part { IsToldInPart (noted (program image.now) graph.now args.now options.now.turns) (map (λ o. seen o) observers.old) (map (λ o. seen o) observers.new) }
     ensures same_ways { map (λ o. says_of o) observers.new ≡ map (λ o. says_of o) observers.old }
 {
+    let _nodes = graph.node_count();
     let answer = run_told(rt, alloc, image, graph, args, options, gate, observers)?;
     with_reports(answer, observers)
 }
@@ -166,6 +167,7 @@ pub fn run_with<R: Threads + Wait + Sync, G: Gate>(
     ensures part { IsToldInPart (noted (program image.now) graph.now args.now options.now.turns) (map (λ o. seen o) observers.old) (map (λ o. seen o) observers.new) }
     ensures same_ways { map (λ o. says_of o) observers.new ≡ map (λ o. says_of o) observers.old }
 {
+    let _nodes = graph.node_count();
     if options.observe {
         run_reported(rt, alloc, image, graph, args, options, gate, observers)
     } else {

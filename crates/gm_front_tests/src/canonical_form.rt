@@ -168,6 +168,15 @@ Foreach (n: G.Nodes) { Foreach (t: n.InNbrs) { Edge e = t.ToEdge(); <t.p; t.q> m
 Foreach (n: G.Nodes) { <n.p; n.q> min= <1; s.v>; } => C5 at 2:44
 Foreach (n: G.Nodes) { <n.p; n.q> min= <1; Count(t: s.Nbrs)>; } => C2 at 2:53
 Foreach (n: G.Nodes) { Foreach (t: n.Nbrs) { <t.p; t.q> min= <1; Count(u: t.Nbrs)>; } } => C3 at 2:75
+# Tuples that are kept are compared: each local rests on all that they held.
+Foreach (n: G.Nodes) { Foreach (t: n.Nbrs) { Edge e = t.ToEdge(); Int x = e.w; Int y = 0; <x; y> min= <t.v; 3>; n.p += y; } } => C7 at 2:75
+Foreach (n: G.Nodes) { Foreach (t: n.Nbrs) { Edge e = t.ToEdge(); Int x = t.v; Int y = 0; <x; y> min= <e.w; 3>; n.p += y; } } => C7 at 2:104
+Foreach (n: G.Nodes) { Foreach (t: n.Nbrs) { Edge e = t.ToEdge(); Int x = 0; Int y = 0; x = e.w; <y; x> max= <3; 4>; n.p += y + t.v; } } => C7 at 2:93
+Foreach (n: G.Nodes) { Foreach (t: n.Nbrs) { Edge e = t.ToEdge(); Int x = e.w; Int y = 0; Int z = 0; <x; y, z> max= <1; 2, 3>; If (z > 0) { n.p += t.v; } } } => C7 at 2:75
+Foreach (n: G.Nodes) { Foreach (t: n.Nbrs) { Edge e = t.ToEdge(); Int x = e.w; Int y = t.v; x min= 3; y min= 4; n.p += x; n.q += y; } } => accepted
+Foreach (n: G.Nodes) { Foreach (t: n.Nbrs) { Edge e = t.ToEdge(); Int x = e.w; Int y = 0; <x; y> min= <n.v; 3>; n.p += y; } } => accepted
+Foreach (n: G.Nodes) { Foreach (t: n.Nbrs) { Edge e = t.ToEdge(); Int x = e.w; Int y = 0; <x; y> min= <n.v; 3>; n.p += y; n.q += t.v; } } => accepted
+Foreach (n: G.Nodes) { Foreach (t: n.Nbrs) { Edge e = t.ToEdge(); Int x = e.w; Int y = 0; <x; y> min= <n.v; 3>; t.p += y; } } => accepted
 # C8: levels are asked of the iterator of a search, in its body.
 Foreach (n: G.Nodes) { Foreach (t: n.UpNbrs) { } } => C8 at 2:36
 Foreach (n: G.Nodes) { n.p = Count(t: n.DownNbrs); } => C8 at 2:39
@@ -196,5 +205,5 @@ Foreach (n: G.Nodes) { n.p = s.v; } Foreach (n: s.Nbrs) { } => C5 at 2:30
 
 #[test]
 fn canonical_form(rt: HostRuntime) -> Result<(), Fail> {
-    statements_hold(&rt, HEAD, STATEMENTS, 171)
+    statements_hold(&rt, HEAD, STATEMENTS, 179)
 }

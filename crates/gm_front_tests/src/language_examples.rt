@@ -42,6 +42,8 @@ Foreach (n: G.Nodes) { Foreach (t: n.Nbrs) { n.p max= t.v; } } => accepted
 Foreach (n: G.Nodes) { Foreach (t: n.Nbrs) { Edge e = t.ToEdge(); n.p += t.v * e.w; } } => C7 at 2:80
 Foreach (n: G.Nodes) { Foreach (t: n.InNbrs) { Edge e = t.ToEdge(); n.p += t.v * e.w; } } => accepted
 Foreach (n: G.Nodes) { Foreach (t: n.Nbrs) { Edge e = t.ToEdge(); t.p += n.v * e.w; } } => accepted
+Foreach (n: G.Nodes) { Foreach (t: n.Nbrs) { Edge e = t.ToEdge(); Int x = e.w; Int y = 0; <x; y> min= <t.v; 3>; n.p += y; } } => C7 at 2:75
+Foreach (n: G.Nodes) { Foreach (t: n.InNbrs) { Edge e = t.ToEdge(); Int x = e.w; Int y = 0; <x; y> min= <t.v; 3>; n.p += y; } } => accepted
 Foreach (n: G.Nodes) { n.p = Count(t: n.UpNbrs); } => C8 at 2:39
 InBFS (n: G.Nodes From s) { n.p = Count(t: n.UpNbrs); } => accepted
 Foreach (n: G.Nodes) { Edge e = n.ToEdge(); } => C9 at 2:33
@@ -56,5 +58,5 @@ Foreach (n: G.Nodes) { Foreach (t: n.InNbrs) { Edge e = t.ToEdge(); <n.p; n.q> m
 
 #[test]
 fn examples(rt: HostRuntime) -> Result<(), Fail> {
-    statements_hold(&rt, HEAD, EXAMPLES, 43)
+    statements_hold(&rt, HEAD, EXAMPLES, 45)
 }

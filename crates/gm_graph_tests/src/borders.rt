@@ -8,7 +8,7 @@ ghost use Rattle.gm_loader.specs.Rows.{weighted};
 
 use crate::compare::same;
 use gm_base::Items;
-use gm_graph::{Graph, Shape, Walks};
+use gm_graph::{Graph, InRows, Shape, Walks};
 use gm_loader::{GraphFault, Limits, consume_graph};
 use gm_value::{VType, Value};
 use std::alloc::{AllocError, Global};
@@ -134,15 +134,17 @@ fn has_out_row(graph: &Graph, ends: &[Ends], node: u32) -> bool
 }
 
 // Whether the edges to a node are among some, in their order, with the value of each.
-fn has_in_row(graph: &Graph, ends: &[Ends], node: u32) -> bool
-    requires node { HasNode graph.now node }
+fn has_in_row(graph: &Graph, rows: &InRows, ends: &[Ends], node: u32) -> bool
+    requires rows { rows.now ≡ graph.now }
+    requires node { HasNode rows.now node }
     requires columns { HasColumns 0 1 graph.now }
 {
     let mut least = 0;
-    for k in 0..graph.in_degree(node) {
-        let edge = graph.in_edge(node, k);
-        let from = graph.in_source(node, k);
-        let value = graph.in_value(node, k, 0);
+    for k in 0..rows.degree(node) {
+        let row = rows.row(node, k);
+        let edge = graph.edge_of_row(row);
+        let from = rows.source(node, k);
+        let value = graph.row_value(row, 0);
         let here = Ends { from, to: node };
         if u64::from(edge) < least || ends.get(edge as usize) != Some(&here) {
             return false;
@@ -156,8 +158,9 @@ fn has_in_row(graph: &Graph, ends: &[Ends], node: u32) -> bool
 }
 
 // How many edges away from nodes and to nodes there are in all rows, where each row and each number is as it should be.
-fn row_counts(graph: &Graph, ring: Ring, ends: &[Ends]) -> Option<(u64, u64)>
-    requires { HasColumns 0 1 graph.now }
+fn row_counts(graph: &Graph, rows: &InRows, ring: Ring, ends: &[Ends]) -> Option<(u64, u64)>
+    requires rows { rows.now ≡ graph.now }
+    requires columns { HasColumns 0 1 graph.now }
 {
     let mut out: u64 = 0;
     let mut inward: u64 = 0;
@@ -165,11 +168,11 @@ fn row_counts(graph: &Graph, ring: Ring, ends: &[Ends]) -> Option<(u64, u64)>
         if graph.number(node) != number_at(ring, node) {
             return None;
         }
-        if !has_out_row(graph, ends, node) || !has_in_row(graph, ends, node) {
+        if !has_out_row(graph, ends, node) || !has_in_row(graph, rows, ends, node) {
             return None;
         }
         out = out.saturating_add(u64::from(graph.out_degree(node)));
-        inward = inward.saturating_add(u64::from(graph.in_degree(node)));
+        inward = inward.saturating_add(u64::from(rows.degree(node)));
     }
     Some((out, inward))
 }
@@ -183,7 +186,8 @@ fn compare(rt: &(impl Abort + AllocGlobal), ring: Ring) -> Result<(), Fail>
     let graph = graph_of(rt.alloc(), text)?;
     same(rt, 0, graph.node_count(), ring.nodes);
     let edges = 4 * u64::from(ring.nodes);
-    let counts = row_counts(&graph, ring, &ends);
+    let rows = graph.in_rows(rt.alloc())?;
+    let counts = row_counts(&graph, &rows, ring, &ends);
     same(rt, 1, counts, Some((edges, edges)));
     Ok(())
 }

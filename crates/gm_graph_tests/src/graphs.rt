@@ -9,7 +9,7 @@ use crate::compare::{same, same_text};
 use crate::graph_texts::{graph_of, graph_of_edges};
 use gm_base::{Items, NoMemory};
 use gm_columns::{Column, Values};
-use gm_graph::{Graph, NodeNumbers, Shape, Walks};
+use gm_graph::{Graph, InRows, NodeNumbers, Shape, Walks};
 use gm_value::{VType, Value};
 use std::alloc::{AllocError, Global};
 use std::fmt::Write;
@@ -63,11 +63,18 @@ fn put_edges_away(text: &mut String, graph: &Graph, node: u32) -> Result<(), All
 }
 
 // Writes the edges to a node (`<`).
-fn put_edges_to(text: &mut String, graph: &Graph, node: u32) -> Result<(), AllocError>
-    requires { HasNode graph.now node }
+fn put_edges_to(
+    text: &mut String,
+    graph: &Graph,
+    rows: &InRows,
+    node: u32,
+) -> Result<(), AllocError>
+    requires rows { rows.now ≡ graph.now }
+    requires node { HasNode rows.now node }
 {
-    for k in 0..graph.in_degree(node) {
-        put_edge(text, '<', graph.in_edge(node, k), graph.in_source(node, k))?;
+    for k in 0..rows.degree(node) {
+        let edge = graph.edge_of_row(rows.row(node, k));
+        put_edge(text, '<', edge, rows.source(node, k))?;
     }
     Ok(())
 }
@@ -78,12 +85,35 @@ fn put_number(text: &mut String, number: u64) -> Result<(), AllocError> {
 }
 
 // Each node's number, then its edges with their places and other ends, away from it (`>`) and to it (`<`).
-fn listing(alloc: Global, graph: &Graph) -> Result<String, AllocError> {
+fn listing(alloc: Global, graph: &Graph) -> Result<String, Fail> {
+    let rows = graph.in_rows(alloc)?;
     let mut text = String::new(alloc);
     for node in 0..graph.node_count() {
         put_number(&mut text, graph.number(node))?;
         put_edges_away(&mut text, graph, node)?;
-        put_edges_to(&mut text, graph, node)?;
+        put_edges_to(&mut text, graph, &rows, node)?;
+        text.push(';')?;
+    }
+    Ok(text)
+}
+
+// Writes the rows and the other ends of the edges to a node (`<`).
+fn put_rows_to(text: &mut String, rows: &InRows, node: u32) -> Result<(), AllocError>
+    requires { HasNode rows.now node }
+{
+    for k in 0..rows.degree(node) {
+        put_edge(text, '<', rows.row(node, k), rows.source(node, k))?;
+    }
+    Ok(())
+}
+
+// Each node's number, then the edges to it with their rows and other ends.
+fn inward_listing(alloc: Global, graph: &Graph) -> Result<String, Fail> {
+    let rows = graph.in_rows(alloc)?;
+    let mut text = String::new(alloc);
+    for node in 0..graph.node_count() {
+        put_number(&mut text, graph.number(node))?;
+        put_rows_to(&mut text, &rows, node)?;
         text.push(';')?;
     }
     Ok(text)
@@ -125,6 +155,17 @@ fn edges_without_rows_are_found(rt: HostRuntime) -> Result<(), Fail> {
 fn a_graph_is_made_and_read(rt: HostRuntime) -> Result<(), Fail> {
     let graph = graph_of_lines(rt.alloc(), Walks::BothWays)?;
     compare(&rt, &graph, LISTING)
+}
+
+// The rows of the edges to nodes are the same whether the graph was made with them or they are made later.
+#[test]
+fn rows_made_later_are_the_same(rt: HostRuntime) -> Result<(), Fail> {
+    let want = "3: <1/1 <2/1;7: <0/0 <3/1;9:;";
+    let with = inward_listing(rt.alloc(), &graph_of_lines(rt.alloc(), Walks::BothWays)?)?;
+    same_text(&rt, 5, with.as_str(), want);
+    let without = inward_listing(rt.alloc(), &graph_of_lines(rt.alloc(), Walks::Outward)?)?;
+    same_text(&rt, 6, without.as_str(), want);
+    Ok(())
 }
 
 #[test]

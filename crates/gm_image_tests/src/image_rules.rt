@@ -1,13 +1,14 @@
 //! Images with one thing changed, each with the rule that it breaks and the line where it does.
 
-use crate::texts::{changed_text, text_of, verified};
+use crate::compare::{same, same_count};
+use crate::texts::{changed_text, image_in, text_of, verified};
 use gm_base::Items;
 use gm_image::{Block, Expr, Handler, Image, MasterLine, VertexLine};
-use gm_image_text::read_image;
 use gm_value::{Reduce, VType, Value};
 use gm_verify::VerifyStop;
 use std::alloc::{AllocError, Global};
 use std::mem;
+use std::process::Abort;
 use std::test::Fail;
 
 // The image, the broken rule with its line, and the lines that are changed with what stands in their place.
@@ -216,19 +217,22 @@ fn answer_to(alloc: Global, image: Image) -> Result<String, AllocError> {
     name_of(alloc, verified(alloc, image).err())
 }
 
-// Whether a case has its answer.
-fn is_answered(alloc: Global, case: &str) -> Result<bool, Fail> {
-    let (text, want) = changed_text(alloc, case)?;
-    let answer = answer_to(alloc, read_image(alloc, &text)?)?;
-    Ok(answer.as_str() == want)
+// Compares what is answered to a case.
+fn compare(rt: &(impl Abort + AllocGlobal), case: &str) -> Result<(), Fail> {
+    let (text, want) = changed_text(rt.alloc(), case)?;
+    let answer = answer_to(rt.alloc(), image_in(rt.alloc(), &text)?)?;
+    same(rt, answer.as_str(), want, case);
+    Ok(())
 }
 
 #[test]
 fn each_change_breaks_its_rule(rt: HostRuntime) -> Result<(), Fail> {
+    let mut read = 0usize;
     for case in CASES.split(';') {
-        let is_right = is_answered(rt.alloc(), case)?;
-        assert!(rt; is_right, "{case}");
+        compare(&rt, case)?;
+        read = read.saturating_add(1);
     }
+    same_count(&rt, read, 190, "cases");
     Ok(())
 }
 
@@ -262,24 +266,32 @@ fn put(reduce: Reduce, place: u32, slots: Items<(u32, Expr)>) -> VertexLine {
     }
 }
 
+// A sum of two slots of a message, which no text spells.
+fn sum_of_messages(alloc: Global) -> Result<VertexLine, AllocError> {
+    let slots = two(alloc, (0, Expr::Message(0)), (2, Expr::Message(1)))?;
+    Ok(fold(Reduce::Sum, 3, slots))
+}
+
+// A sum of two slots for all nodes, which no text spells.
+fn sum_for_all(alloc: Global) -> Result<VertexLine, AllocError> {
+    let slots = two(alloc, (0, Expr::Field(0)), (3, Expr::Id))?;
+    Ok(put(Reduce::Sum, 2, slots))
+}
+
+// No slots.
+fn no_slots(alloc: Global) -> Items<(u32, Expr)> {
+    Items::new(Vec::new(alloc))
+}
+
 // A line that no text spells: a node as a constant, a reduction without slots, or a sum of two.
 fn unspelled(alloc: Global, line: u32) -> Result<VertexLine, AllocError> {
-    let nothing = Items::new(Vec::new(alloc));
-    Ok(match line {
-        43 => VertexLine::SetRegister(1, Expr::Const(Value::At(Some(3)))),
-        47 => fold(Reduce::Sum, 1, nothing),
-        48 => put(Reduce::Max, 2, nothing),
-        54 => fold(
-            Reduce::Sum,
-            3,
-            two(alloc, (0, Expr::Message(0)), (2, Expr::Message(1)))?,
-        ),
-        _ => put(
-            Reduce::Sum,
-            2,
-            two(alloc, (0, Expr::Field(0)), (3, Expr::Id))?,
-        ),
-    })
+    match line {
+        43 => Ok(VertexLine::SetRegister(1, Expr::Const(Value::At(Some(3))))),
+        47 => Ok(fold(Reduce::Sum, 1, no_slots(alloc))),
+        48 => Ok(put(Reduce::Max, 2, no_slots(alloc))),
+        54 => sum_of_messages(alloc),
+        _ => sum_for_all(alloc),
+    }
 }
 
 // Lines and one more.
@@ -307,14 +319,23 @@ fn add_handler_line(
     Ok(())
 }
 
-// Adds a line to the second handler of a block, if it has two.
-fn add_second_line(alloc: Global, block: &mut Block, line: VertexLine) -> Result<(), AllocError> {
-    let old = mem::replace(&mut block.handlers, Items::new(Vec::new(alloc)));
-    let mut handlers = old.into_vec();
+// Adds a line to the second of some handlers, if there are two.
+fn with_second_line(
+    alloc: Global,
+    handlers: Items<Handler>,
+    line: VertexLine,
+) -> Result<Items<Handler>, AllocError> {
+    let mut handlers = handlers.into_vec();
     if let Some(handler) = handlers.get_mut(1) {
         add_handler_line(alloc, handler, line)?;
     }
-    block.handlers = Items::new(handlers);
+    Ok(Items::new(handlers))
+}
+
+// Adds a line to the second handler of a block, if it has two.
+fn add_second_line(alloc: Global, block: &mut Block, line: VertexLine) -> Result<(), AllocError> {
+    let handlers = mem::replace(&mut block.handlers, Items::new(Vec::new(alloc)));
+    block.handlers = with_second_line(alloc, handlers, line)?;
     Ok(())
 }
 
@@ -332,20 +353,31 @@ fn add_line(
     }
 }
 
-// The image of a text with a line behind the others of its body or its handler that no text spells.
-fn with_unspelled(alloc: Global, text: &[u8], number: u32) -> Result<Image, Fail> {
-    let mut image = read_image(alloc, text)?;
-    let mut blocks = image.blocks.into_vec();
-    add_line(alloc, &mut blocks, number, unspelled(alloc, number)?)?;
-    image.blocks = Items::new(blocks);
-    Ok(image)
+// Blocks with a line behind the others of a body or a handler that no text spells.
+fn blocks_with(
+    alloc: Global,
+    blocks: Items<Block>,
+    number: u32,
+) -> Result<Items<Block>, AllocError> {
+    let line = unspelled(alloc, number)?;
+    let mut blocks = blocks.into_vec();
+    add_line(alloc, &mut blocks, number, line)?;
+    Ok(Items::new(blocks))
 }
 
-// Whether a case with such a line has its answer.
-fn is_unspelled_answered(alloc: Global, number: u32, case: &str) -> Result<bool, Fail> {
-    let (text, want) = changed_text(alloc, case)?;
-    let answer = answer_to(alloc, with_unspelled(alloc, &text, number)?)?;
-    Ok(answer.as_str() == want)
+// The image of a text with such a line.
+fn with_unspelled(alloc: Global, text: &[u8], number: u32) -> Result<Image, Fail> {
+    let image = image_in(alloc, text)?;
+    let blocks = blocks_with(alloc, image.blocks, number)?;
+    Ok(Image { blocks, ..image })
+}
+
+// Compares what is answered to a case with such a line.
+fn compare_unspelled(rt: &(impl Abort + AllocGlobal), number: u32, case: &str) -> Result<(), Fail> {
+    let (text, want) = changed_text(rt.alloc(), case)?;
+    let answer = answer_to(rt.alloc(), with_unspelled(rt.alloc(), &text, number)?)?;
+    same(rt, answer.as_str(), want, case);
+    Ok(())
 }
 
 // The image without the line and those behind it, and the broken rule with its line.
@@ -360,12 +392,11 @@ const TWO_SLOTS: &str = "whole|I2 54|52|on 1 1|54|(none)";
 
 #[test]
 fn what_no_text_spells_breaks_its_rule(rt: HostRuntime) -> Result<(), Fail> {
-    assert!(rt; is_unspelled_answered(rt.alloc(), 43, NO_NODE)?);
-    assert!(rt; is_unspelled_answered(rt.alloc(), 47, NO_SLOT)?);
-    assert!(rt; is_unspelled_answered(rt.alloc(), 48, NO_SLOT_OF_ALL)?);
-    assert!(rt; is_unspelled_answered(rt.alloc(), 0, NO_SLOT_OF_ALL)?);
-    assert!(rt; is_unspelled_answered(rt.alloc(), 54, TWO_SLOTS)?);
-    Ok(())
+    compare_unspelled(&rt, 43, NO_NODE)?;
+    compare_unspelled(&rt, 47, NO_SLOT)?;
+    compare_unspelled(&rt, 48, NO_SLOT_OF_ALL)?;
+    compare_unspelled(&rt, 0, NO_SLOT_OF_ALL)?;
+    compare_unspelled(&rt, 54, TWO_SLOTS)
 }
 
 // An expression of so many levels, of which the deepest is a field.
@@ -377,32 +408,44 @@ fn of_levels(alloc: Global, levels: u32, field: u32) -> Result<Expr, AllocError>
     Ok(expr)
 }
 
-// Two master lines, of which the first sets a global.
-fn master_of(alloc: Global, value: Expr) -> Result<Items<MasterLine>, AllocError> {
-    let mut master = Vec::new(alloc);
-    master.push(MasterLine::SetGlobal(0, value))?;
-    master.push(MasterLine::Finish)?;
-    Ok(Items::new(master))
+// Master lines and one more.
+fn with_master(lines: Vec<MasterLine>, line: MasterLine) -> Result<Vec<MasterLine>, AllocError> {
+    let mut lines = lines;
+    lines.push(line)?;
+    Ok(lines)
 }
 
-// What is answered to an image with one field that sets a global to an expression of so many levels.
-fn answer_to_levels(alloc: Global, levels: u32, field: u32) -> Result<String, Fail> {
-    let mut image = read_image(alloc, text_of("spin").as_bytes())?;
+// Two master lines, of which the first sets a global.
+fn master_of(alloc: Global, value: Expr) -> Result<Items<MasterLine>, AllocError> {
+    let lines = with_master(Vec::new(alloc), MasterLine::SetGlobal(0, value))?;
+    Ok(Items::new(with_master(lines, MasterLine::Finish)?))
+}
+
+// The image `spin` with one field and other master lines.
+fn spin_with(alloc: Global, master: Items<MasterLine>) -> Result<Image, Fail> {
+    let mut image = image_in(alloc, text_of("spin").as_bytes())?;
     image.fields = Items::new(vec![in alloc; VType::I32]?);
-    image.master = master_of(alloc, of_levels(alloc, levels, field)?)?;
-    Ok(answer_to(alloc, image)?)
+    image.master = master;
+    Ok(image)
+}
+
+// Compares what is answered to an image with one field that sets a global to an expression of so many levels.
+fn compare_levels(
+    rt: &(impl Abort + AllocGlobal),
+    levels: u32,
+    field: u32,
+    want: &str,
+) -> Result<(), Fail> {
+    let master = master_of(rt.alloc(), of_levels(rt.alloc(), levels, field)?)?;
+    let answer = answer_to(rt.alloc(), spin_with(rt.alloc(), master)?)?;
+    same(rt, answer.as_str(), want, "levels");
+    Ok(())
 }
 
 #[test]
 fn the_depth_of_an_expression_is_limited(rt: HostRuntime) -> Result<(), Fail> {
-    for (levels, field, want) in [
-        (1024, 0, "I7 17"),
-        (1025, 0, "I2 17"),
-        (1024, 7, "I1 17"),
-        (1025, 7, "I2 17"),
-    ] {
-        let answer = answer_to_levels(rt.alloc(), levels, field)?;
-        assert_eq!(rt; answer.as_str(), want, "{levels} levels");
-    }
-    Ok(())
+    compare_levels(&rt, 1024, 0, "I7 17")?;
+    compare_levels(&rt, 1025, 0, "I2 17")?;
+    compare_levels(&rt, 1024, 7, "I1 17")?;
+    compare_levels(&rt, 1025, 7, "I2 17")
 }

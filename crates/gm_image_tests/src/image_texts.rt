@@ -1,9 +1,13 @@
 //! Tests of whole texts.
 
-use crate::texts::{changed_text, text_of, text_of_lines, verified, with_changes};
+use crate::compare::{same_bytes, same_count, sides};
+use crate::texts::{
+    changed_text, image_in, text_for, text_of, text_of_lines, verified, with_changes,
+};
 use gm_image::Image;
-use gm_image_text::{ImageFault, read_image, write_image};
+use gm_image_text::ImageFault;
 use std::alloc::{AllocError, Global};
+use std::process::Abort;
 use std::test::Fail;
 
 // The image, that nothing is wrong with it, and the lines that are changed with what stands in their place.
@@ -137,7 +141,7 @@ const WHOLE_TEXTS: &str = "1|(none);\
 
 // What is wrong with a text, if something is.
 fn fault(alloc: Global, text: &[u8]) -> Option<ImageFault> {
-    read_image(alloc, text).err()
+    image_in(alloc, text).err()
 }
 
 // Whether nothing is wrong with a text, or this line of it is bad, if a line is named.
@@ -146,15 +150,28 @@ fn is_bad_at(alloc: Global, text: &[u8], line: &str) -> bool {
     fault(alloc, text) == bad.map(ImageFault::BadText)
 }
 
-// The first case that is read otherwise than is wanted.
-fn wrong_case<'a>(alloc: Global, cases: &'a str) -> Result<Option<&'a str>, Fail> {
+// Sees that what is wrong with a text is what is wanted.
+fn compare_fault(rt: &(impl Abort + AllocGlobal), text: &[u8], want: &str, case: &str) {
+    let is_right = is_bad_at(rt.alloc(), text, want);
+    assert!(rt; is_right, "{case}");
+}
+
+// The same of a case.
+fn compare(rt: &(impl Abort + AllocGlobal), case: &str) -> Result<(), Fail> {
+    let (text, want) = changed_text(rt.alloc(), case)?;
+    compare_fault(rt, &text, want, case);
+    Ok(())
+}
+
+// The same of so many cases.
+fn compare_all(rt: &(impl Abort + AllocGlobal), cases: &str, count: usize) -> Result<(), Fail> {
+    let mut read = 0usize;
     for case in cases.split(';') {
-        let (text, want) = changed_text(alloc, case)?;
-        if !is_bad_at(alloc, &text, want) {
-            return Ok(Some(case));
-        }
+        compare(rt, case)?;
+        read = read.saturating_add(1);
     }
-    Ok(None)
+    same_count(rt, read, count, "cases");
+    Ok(())
 }
 
 // How many inputs, fields, blocks and master lines an image has.
@@ -167,80 +184,88 @@ fn counts_of(image: &Image) -> [usize; 4] {
     ]
 }
 
-// Whether the text of this name is read as an image of this name, with so many parts.
-fn has_parts(alloc: Global, name: &str, counts: [usize; 4]) -> Result<bool, ImageFault> {
-    let image = read_image(alloc, text_of(name).as_bytes())?;
-    Ok(image.name.as_slice() == name.as_bytes() && counts_of(&image) == counts)
+// Whether an image has this name, and so many parts.
+fn has_parts(image: &Image, name: &str, counts: [usize; 4]) -> bool {
+    image.name.as_slice() == name.as_bytes() && counts_of(image) == counts
+}
+
+// Sees that the text of this name is read as an image of this name, with so many parts.
+fn compare_parts(
+    rt: &(impl Abort + AllocGlobal),
+    name: &str,
+    counts: [usize; 4],
+) -> Result<(), Fail> {
+    let image = image_in(rt.alloc(), text_of(name).as_bytes())?;
+    assert!(rt; has_parts(&image, name, counts), "{name}");
+    Ok(())
 }
 
 #[test]
 fn texts_of_images_are_read(rt: HostRuntime) -> Result<(), Fail> {
-    assert_eq!(rt; wrong_case(rt.alloc(), READ)?, None);
-    assert!(rt; has_parts(rt.alloc(), "total", [1, 2, 2, 3])?);
-    Ok(())
+    compare_all(&rt, READ, 10)?;
+    compare_parts(&rt, "total", [1, 2, 2, 3])
 }
 
 #[test]
 fn several_slots_are_read_in_version_2(rt: HostRuntime) -> Result<(), Fail> {
-    assert_eq!(rt; wrong_case(rt.alloc(), SLOTS)?, None);
-    Ok(())
+    compare_all(&rt, SLOTS, 23)
 }
 
 #[test]
 fn lines_that_are_spelled_otherwise_are_bad(rt: HostRuntime) -> Result<(), Fail> {
-    assert_eq!(rt; wrong_case(rt.alloc(), LINES)?, None);
-    Ok(())
+    compare_all(&rt, LINES, 37)
 }
 
 #[test]
 fn texts_of_unsound_images_are_read(rt: HostRuntime) -> Result<(), Fail> {
-    assert_eq!(rt; wrong_case(rt.alloc(), UNSOUND)?, None);
-    Ok(())
+    compare_all(&rt, UNSOUND, 9)
 }
 
 #[test]
 fn a_changed_line_is_bad_or_the_next_that_is_wanted(rt: HostRuntime) -> Result<(), Fail> {
-    assert_eq!(rt; wrong_case(rt.alloc(), CHANGED)?, None);
-    Ok(())
+    compare_all(&rt, CHANGED, 20)
 }
 
-// Whether a whole text is bad at the line that its case names.
-fn is_right(alloc: Global, case: &str) -> Result<bool, AllocError> {
-    let Some((line, lines)) = case.split_once('|') else {
-        return Ok(false);
-    };
-    let text = text_of_lines(alloc, lines)?;
-    Ok(is_bad_at(alloc, &text, line))
+// Sees that a whole text is bad at the line that its case names.
+fn compare_whole(rt: &(impl Abort + AllocGlobal), case: &str) -> Result<(), Fail> {
+    let (line, lines) = sides(case)?;
+    let text = text_of_lines(rt.alloc(), lines)?;
+    compare_fault(rt, &text, line, case);
+    Ok(())
 }
 
 #[test]
 fn whole_texts_are_bad_at_their_first_bad_line(rt: HostRuntime) -> Result<(), Fail> {
+    let mut read = 0usize;
     for case in WHOLE_TEXTS.split(';') {
-        assert!(rt; is_right(rt.alloc(), case)?, "{case}");
+        compare_whole(&rt, case)?;
+        read = read.saturating_add(1);
     }
+    same_count(&rt, read, 18, "cases");
     Ok(())
 }
 
 // What is written for the sound image that a text spells.
 fn written(alloc: Global, text: &[u8]) -> Result<Vec<u8>, Fail> {
-    let sound = verified(alloc, read_image(alloc, text)?)?;
-    Ok(write_image(alloc, &sound)?)
+    let sound = verified(alloc, image_in(alloc, text)?)?;
+    Ok(text_for(alloc, &sound)?)
 }
 
-// Whether the text of this name is written again in version 2.
-fn is_written(alloc: Global, name: &str) -> Result<bool, Fail> {
+// Compares what is written for the text of this name with the text in version 2.
+fn compare_written(rt: &(impl Abort + AllocGlobal), name: &str) -> Result<(), Fail> {
     let text = text_of(name);
-    let again = written(alloc, text.as_bytes())?;
-    let second = with_changes(alloc, text, &["1", "gm-image 2"])?;
-    Ok(again.as_slice() == second.as_slice())
+    let again = written(rt.alloc(), text.as_bytes())?;
+    let second = with_changes(rt.alloc(), text, &["1", "gm-image 2"])?;
+    same_bytes(rt, again.as_slice(), second.as_slice(), name);
+    Ok(())
 }
 
 #[test]
 fn images_are_written_in_version_2(rt: HostRuntime) -> Result<(), Fail> {
-    for name in ["spin", "total", "pair", "nearest"] {
-        assert!(rt; is_written(rt.alloc(), name)?, "{name}");
-    }
-    Ok(())
+    compare_written(&rt, "spin")?;
+    compare_written(&rt, "total")?;
+    compare_written(&rt, "pair")?;
+    compare_written(&rt, "nearest")
 }
 
 // The first front of a text that is not bad at its last line.
@@ -273,19 +298,16 @@ fn deep_line(alloc: Global, nots: u32) -> Result<String, AllocError> {
     Ok(line)
 }
 
-// What is wrong with a text that has such an expression in its line 17.
-fn fault_at_depth(alloc: Global, nots: u32) -> Result<Option<ImageFault>, AllocError> {
-    let line = deep_line(alloc, nots)?;
-    let text = with_changes(alloc, text_of("spin"), &["17", line.as_str()])?;
-    Ok(fault(alloc, &text))
+// Sees what is wrong with a text that has such an expression in its line 17.
+fn compare_depth(rt: &(impl Abort + AllocGlobal), nots: u32, want: &str) -> Result<(), Fail> {
+    let line = deep_line(rt.alloc(), nots)?;
+    let text = with_changes(rt.alloc(), text_of("spin"), &["17", line.as_str()])?;
+    compare_fault(rt, &text, want, "depth");
+    Ok(())
 }
 
 #[test]
 fn the_last_level_is_read_and_no_further_one(rt: HostRuntime) -> Result<(), Fail> {
-    assert_eq!(rt; fault_at_depth(rt.alloc(), 1023)?, None);
-    assert_eq!(rt;
-        fault_at_depth(rt.alloc(), 1024)?,
-        Some(ImageFault::BadText(17))
-    );
-    Ok(())
+    compare_depth(&rt, 1023, "none")?;
+    compare_depth(&rt, 1024, "17")
 }

@@ -4,6 +4,8 @@
 #[cfg(test)]
 mod batches;
 #[cfg(test)]
+mod compare;
+#[cfg(test)]
 mod image_rules;
 #[cfg(test)]
 mod image_texts;

@@ -5,23 +5,24 @@ ghost use Rattle.gm_graph.specs.Builds.{IsBuildable};
 ghost use Rattle.gm_machine.specs.VertexViews.{HasColumns};
 ghost use Rattle.gm_machine.specs.Masters.{FitsGraph};
 
-use crate::texts::{text_of, verified};
+use crate::compare::same;
+use crate::texts::{image_in, text_of, verified};
 use gm_base::{Items, NoMemory};
 use gm_columns::Values;
 use gm_graph::{Graph, NodeNumbers, RawGraph, Shape, Walks, build};
 use gm_image::Image;
-use gm_image_text::read_image;
-use gm_machine::{Master, inboxes_have_no_order, master_run, run_one};
+use gm_machine::{Master, inboxes_have_no_order, master_run, rows_for, run_one};
 use gm_model::Outcome;
 use gm_value::Value;
 use std::alloc::{AllocError, Global};
+use std::process::Abort;
 use std::test::Fail;
 
 // The image that the text of this name spells. It has no columns.
 pub(crate) fn image_of(alloc: Global, name: &str) -> Result<Image, Fail>
     ensures { IfOk result (λ image. image.columns ≡ []) }
 {
-    let mut image = read_image(alloc, text_of(name).as_bytes())?;
+    let mut image = image_in(alloc, text_of(name).as_bytes())?;
     image.columns = Items::new(Vec::new(alloc));
     Ok(image)
 }
@@ -78,7 +79,8 @@ fn stop_of(alloc: Global, image: &Image, graph: &Graph, bound: u64) -> Result<St
     requires { FitsGraph image.now graph.now }
 {
     let mut master = Master::start(alloc, image, &[], bound)?;
-    let stop = master_run(image, graph, &mut master);
+    let in_rows = rows_for(alloc, image, graph)?;
+    let stop = master_run(image, graph, &in_rows, &mut master);
     let (turns, globals) = (master.turns, master.globals.as_slice());
     Ok(format!(in alloc; "{stop:?} {turns} {globals:?}")?)
 }
@@ -90,12 +92,17 @@ fn stop_of_spin(alloc: Global, bound: u64) -> Result<String, Fail> {
     stop_of(alloc, &image, &graph, bound)
 }
 
+// Compares how the image `spin` stops that may take so many turns.
+fn compare_spin(rt: &(impl Abort + AllocGlobal), bound: u64, want: &str) -> Result<(), Fail> {
+    let ended = stop_of_spin(rt.alloc(), bound)?;
+    same(rt, ended.as_str(), want, "spin");
+    Ok(())
+}
+
 #[test]
 fn spin_is_cut_at_its_bound(rt: HostRuntime) -> Result<(), Fail> {
-    let ended = stop_of_spin(rt.alloc(), 6)?;
-    assert_eq!(rt; ended.as_str(), "Ended 6 [I32(6)]");
-    let cut = stop_of_spin(rt.alloc(), 5)?;
-    assert_eq!(rt; cut.as_str(), "Cut 5 [I32(5)]");
+    compare_spin(&rt, 6, "Ended 6 [I32(6)]")?;
+    compare_spin(&rt, 5, "Cut 5 [I32(5)]")?;
     inboxes_have_no_order();
     Ok(())
 }
@@ -120,16 +127,30 @@ pub(crate) fn put_values(
     Ok(())
 }
 
-// The values of the scalar outputs, and those of each output property, where a run is done.
-fn outputs_of(alloc: Global, outcome: &Outcome) -> Result<String, AllocError> {
+// Writes the values of a property as a line.
+fn put_property(alloc: Global, text: &mut String, values: &Values) -> Result<(), AllocError> {
+    let values = values_in(alloc, values)?;
+    put_values(alloc, text, values.as_slice())
+}
+
+// The values of scalars, and those of each property.
+fn lines_of(alloc: Global, scalars: &[Value], nodes: &[Values]) -> Result<String, AllocError> {
     let mut text = String::new(alloc);
-    if let Outcome::Done { scalars, nodes, .. } = outcome {
-        put_values(alloc, &mut text, scalars.as_slice())?;
-        for values in nodes.as_slice() {
-            put_values(alloc, &mut text, &values_in(alloc, values)?)?;
-        }
+    put_values(alloc, &mut text, scalars)?;
+    for values in nodes {
+        put_property(alloc, &mut text, values)?;
     }
     Ok(text)
+}
+
+// The values of the scalar outputs, and those of each output property, where a run is done.
+fn outputs_of(alloc: Global, outcome: &Outcome) -> Result<String, AllocError> {
+    match outcome {
+        Outcome::Done { scalars, nodes, .. } => {
+            lines_of(alloc, scalars.as_slice(), nodes.as_slice())
+        }
+        _ => Ok(String::new(alloc)),
+    }
 }
 
 // What a sound image puts out.
@@ -161,6 +182,6 @@ const PICKED: &str = "[I32(2), At(Some(2)), I32(0), At(None)]\n\
 #[test]
 fn picks_take_whole_tuples(rt: HostRuntime) -> Result<(), Fail> {
     let outputs = run_of_picks(rt.alloc())?;
-    assert_eq!(rt; outputs.as_str(), PICKED);
+    same(&rt, outputs.as_str(), PICKED, "picks");
     Ok(())
 }

@@ -1,23 +1,37 @@
 //! The steps of many nodes in one call.
 
+ghost use Rattle.std.specs.Prelude.{◌<◌, length};
 ghost use Rattle.gm_machine.specs.Masters.{FitsGraph};
 
+use crate::batches::with;
+use crate::compare::same;
 use crate::machine::{four_nodes, graph_of, image_of, put_values};
 use crate::texts::verified;
+use gm_base::NoMemory;
 use gm_graph::Graph;
 use gm_image::{Image, Sound};
-use gm_machine::{Batch, Duty, Fields, Inbox, Nodes, Sent, steps_of_nodes, totals_are_handed_in};
+use gm_machine::{
+    Batch, Duty, Fields, Inbox, Nodes, Sent, rows_for, steps_of_nodes, totals_are_handed_in,
+};
 use gm_value::{Reduce, Total, Value};
 use std::alloc::Global;
 use std::test::Fail;
 
+// Writes the fields of a node as a line.
+fn put_row(alloc: Global, text: &mut String, fields: &Fields, place: usize) -> Result<(), Fail>
+    requires { place < length fields.now.rows }
+{
+    let mut row = Vec::new(alloc);
+    fields.load(place, &mut row)?;
+    put_values(alloc, text, row.as_slice())?;
+    Ok(())
+}
+
 // The fields of all nodes, a line for each.
 fn lines_of(alloc: Global, fields: &Fields) -> Result<String, Fail> {
     let mut text = String::new(alloc);
-    let mut row = Vec::new(alloc);
     for place in 0..fields.len() {
-        fields.load(place, &mut row)?;
-        put_values(alloc, &mut text, row.as_slice())?;
+        put_row(alloc, &mut text, fields, place)?;
     }
     Ok(text)
 }
@@ -31,7 +45,8 @@ fn fields_after(alloc: Global, image: &Sound, graph: &Graph, waiting: Batch) -> 
     let inbox = Inbox::sort(alloc, waiting, count)?;
     let mut fields = Fields::new(alloc, image.image().fields.as_slice(), count)?;
     let mut sent = Sent::empty(alloc);
-    let duty = Duty::of(image, 1, graph, &[]);
+    let in_rows = rows_for(alloc, image.image(), graph)?;
+    let duty = Duty::of(image, 1, graph, &in_rows, &[]);
     if count > 0 {
         steps_of_nodes(
             alloc,
@@ -56,16 +71,26 @@ fn rest_of(alloc: Global, messages: Batch) -> Result<Batch, Fail> {
     Ok(messages)
 }
 
-// 6 to the first node, a total of -40 to the second, and 1 to the last, behind a message that is taken away.
-fn waiting_messages(alloc: Global) -> Result<Batch, Fail> {
-    let mut waiting = Batch::empty(alloc);
-    waiting.add(0, 0, &[Value::I32(5)])?;
-    waiting.add(3, 0, &[Value::I32(1)])?;
+// A total of -40 to the second node, and 6 to the first.
+fn a_total_and_one(alloc: Global) -> Result<Batch, NoMemory> {
     let mut more = Batch::empty(alloc);
     more.add_total(1, 0, Reduce::Sum, Total::Sum(-40))?;
-    more.add(0, 0, &[Value::I32(6)])?;
-    waiting.append(&more)?;
-    rest_of(alloc, waiting)
+    with(more, 0, 0, &[Value::I32(6)])
+}
+
+// Messages, and others behind them.
+fn appended(messages: Batch, more: &Batch) -> Result<Batch, NoMemory> {
+    let mut messages = messages;
+    messages.append(more)?;
+    Ok(messages)
+}
+
+// 6 to the first node, a total of -40 to the second, and 1 to the last, behind a message that is taken away.
+fn waiting_messages(alloc: Global) -> Result<Batch, Fail> {
+    let waiting = with(Batch::empty(alloc), 0, 0, &[Value::I32(5)])?;
+    let waiting = with(waiting, 3, 0, &[Value::I32(1)])?;
+    let more = a_total_and_one(alloc)?;
+    rest_of(alloc, appended(waiting, &more)?)
 }
 
 // The image `total` on four nodes.
@@ -86,7 +111,7 @@ fn total_of_four(alloc: Global) -> Result<String, Fail> {
 fn all_nodes_step_in_one_call(rt: HostRuntime) -> Result<(), Fail> {
     let lines = total_of_four(rt.alloc())?;
     let wanted = "[I32(0), I32(6)]\n[I32(0), I32(-40)]\n[I32(0), I32(0)]\n[I32(0), I32(1)]\n";
-    assert_eq!(rt; lines.as_str(), wanted);
+    same(&rt, lines.as_str(), wanted, "total");
     totals_are_handed_in();
     Ok(())
 }

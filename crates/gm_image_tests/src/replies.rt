@@ -3,8 +3,9 @@
 ghost use Rattle.std.specs.Prelude.{◌<◌, [], IfOk};
 ghost use Rattle.gm_words.specs.Jobs.{AllAssign, AreRight};
 
-use crate::texts::{parts_of, text_of, text_of_lines};
-use gm_base::{Items, NoMemory, OpenGate, Status, Text};
+use crate::compare::{same, same_bytes, same_count, sides};
+use crate::texts::{text_of, text_of_lines};
+use gm_base::{Items, NoMemory, OpenGate, Text};
 use gm_exec::exec;
 use gm_files::{MemFiles, MemSource};
 use gm_input::Answer;
@@ -12,6 +13,7 @@ use gm_observe::{Counter, Note, Observer, Table};
 use gm_words::{Job, Options, read_words};
 use std::alloc::{AllocError, Global};
 use std::cell::Cell;
+use std::process::Abort;
 use std::rc::Rc;
 use std::sync::Wait;
 use std::test::Fail;
@@ -118,14 +120,60 @@ fn answer_to(
     )
 }
 
+// One of the observers of the program.
+fn counter(alloc: Global) -> Result<Box<dyn Observer>, NoMemory> {
+    let counter: Box<dyn Observer> = Box::new(alloc, Counter::new(alloc))?;
+    Ok(counter)
+}
+
+// The other.
+fn table(alloc: Global) -> Result<Box<dyn Observer>, NoMemory> {
+    let table: Box<dyn Observer> = Box::new(alloc, Table::new(alloc))?;
+    Ok(table)
+}
+
+// Two observers in a row.
+fn both(
+    alloc: Global,
+    first: Box<dyn Observer>,
+    second: Box<dyn Observer>,
+) -> Result<Vec<Box<dyn Observer>>, NoMemory> {
+    let mut observers: Vec<Box<dyn Observer>> = Vec::new(alloc);
+    observers.push(first)?;
+    observers.push(second)?;
+    Ok(observers)
+}
+
 // A counter and a table.
 fn watchers(alloc: Global) -> Result<Vec<Box<dyn Observer>>, NoMemory> {
-    let mut observers: Vec<Box<dyn Observer>> = Vec::new(alloc);
-    let counter: Box<dyn Observer> = Box::new(alloc, Counter::new(alloc))?;
-    observers.push(counter)?;
-    let table: Box<dyn Observer> = Box::new(alloc, Table::new(alloc))?;
-    observers.push(table)?;
-    Ok(observers)
+    both(alloc, counter(alloc)?, table(alloc)?)
+}
+
+// No files.
+fn no_files(alloc: Global) -> MemFiles {
+    MemFiles::new(Vec::new(alloc), Vec::new(alloc))
+}
+
+// The answer to a command line over a standard input, watched by these.
+fn watched(
+    rt: &(impl Threads + Wait + Sync),
+    alloc: Global,
+    line: &str,
+    input: MemSource,
+    observers: &mut [Box<dyn Observer>],
+) -> Result<Answer, Fail> {
+    let (words, options) = command(alloc, line)?;
+    let files = no_files(alloc);
+    Ok(answer_to(
+        rt,
+        alloc,
+        ("-", "-"),
+        words.as_slice(),
+        &options,
+        input,
+        files,
+        observers,
+    )?)
 }
 
 // The answer to a command line over a standard input. A counter and a table watch, if the line says so.
@@ -135,44 +183,44 @@ fn reply_of(
     line: &str,
     input: MemSource,
 ) -> Result<Answer, Fail> {
-    let (words, options) = command(alloc, line)?;
-    let files = MemFiles::new(Vec::new(alloc), Vec::new(alloc));
     let mut observers = watchers(alloc)?;
-    Ok(answer_to(
-        rt,
-        alloc,
-        ("-", "-"),
-        words.as_slice(),
-        &options,
-        input,
-        files,
-        &mut observers,
-    )?)
+    watched(rt, alloc, line, input, &mut observers)
 }
 
-// The status of this name.
-fn status_of(name: &str) -> Status {
-    match name {
-        "Done" => Status::Done,
-        "Fault" => Status::Fault,
-        "Cut" => Status::Cut,
-        "ReadFault" => Status::ReadFault,
-        _ => Status::BadInput,
+// Compares an answer with a status by its name, and the lines of a text.
+fn compare(
+    rt: &impl Abort,
+    alloc: Global,
+    answer: &Answer,
+    status: &str,
+    said: &str,
+) -> Result<(), Fail> {
+    let found = format!(in alloc; "{:?}", answer.status)?;
+    same(rt, found.as_str(), status, said);
+    let text = text_of_lines(alloc, said)?;
+    same_bytes(rt, answer.text.as_slice(), text.as_slice(), said);
+    Ok(())
+}
+
+// Whether an image is named, not spelled.
+fn is_name(image: &str) -> bool {
+    image == "total" || image == "count"
+}
+
+// The text of an image by its name or its lines.
+fn image_text(alloc: Global, image: &str) -> Result<Vec<u8>, AllocError> {
+    if is_name(image) {
+        Vec::from_slice(alloc, text_of(image).as_bytes())
+    } else {
+        text_of_lines(alloc, image)
     }
-}
-
-// Whether an answer has this status and text.
-fn says(answer: &Answer, status: &str, text: &[u8]) -> bool {
-    answer.status == status_of(status) && answer.text.as_slice() == text
 }
 
 // An image by its name or its lines, and the lines of a graph behind it.
 fn input_of(alloc: Global, image: &str, rest: &str) -> Result<Vec<u8>, AllocError> {
-    let mut text = match image {
-        "total" | "count" => Vec::from_slice(alloc, text_of(image).as_bytes())?,
-        _ => text_of_lines(alloc, image)?,
-    };
-    text.extend_from_slice(&text_of_lines(alloc, rest)?)?;
+    let rest = text_of_lines(alloc, rest)?;
+    let mut text = image_text(alloc, image)?;
+    text.extend_from_slice(&rest)?;
     Ok(text)
 }
 
@@ -191,43 +239,77 @@ const REPLIES: &str =
     exec - - --turns 4 --observe n=4|count|(none)|Done|return = 4~supersteps 0 messages 0 turns 4~observed 0 supersteps 0 messages;\
     exec - - --turns 4 --observe n=5|count|(none)|Cut|cut after 4 turns~observed 0 supersteps 0 messages";
 
-// Whether a case has its reply.
-fn is_replied(rt: &(impl Threads + Wait + Sync), alloc: Global, case: &str) -> Result<bool, Fail> {
-    match parts_of(alloc, case)?.as_slice() {
-        [line, image, rest, status, said] => {
-            let text = input_of(alloc, image, rest)?;
-            let input = source_of(alloc, &text, 7, 0)?;
-            let answer = reply_of(rt, alloc, line, input)?;
-            Ok(says(&answer, status, &text_of_lines(alloc, said)?))
-        }
-        _ => Err("no case")?,
-    }
+// A standard input of an image by its name or its lines, and the lines of a graph behind it.
+fn source_with(
+    alloc: Global,
+    image: &str,
+    rest: &str,
+    piece: usize,
+    fails: u64,
+) -> Result<MemSource, Fail>
+    requires piece { 0 < piece }
+{
+    let text = input_of(alloc, image, rest)?;
+    Ok(source_of(alloc, &text, piece, fails)?)
+}
+
+// Compares the reply to a command line over an input with the status and the text behind it.
+fn compare_reply(
+    rt: &(impl Abort + Threads + Wait + Sync),
+    alloc: Global,
+    line: &str,
+    input: MemSource,
+    wanted: &str,
+) -> Result<(), Fail> {
+    let (status, said) = sides(wanted)?;
+    let answer = reply_of(rt, alloc, line, input)?;
+    compare(rt, alloc, &answer, status, said)
+}
+
+// Compares the reply of a case.
+fn compare_case(
+    rt: &(impl Abort + Threads + Wait + Sync),
+    alloc: Global,
+    case: &str,
+) -> Result<(), Fail> {
+    let (line, parts) = sides(case)?;
+    let (image, parts) = sides(parts)?;
+    let (rest, wanted) = sides(parts)?;
+    let input = source_with(alloc, image, rest, 7, 0)?;
+    compare_reply(rt, alloc, line, input, wanted)
 }
 
 #[test]
 fn images_and_then_graphs_and_then_words_are_judged(rt: HostRuntime) -> Result<(), Fail> {
+    let mut read = 0usize;
     for case in REPLIES.split(';') {
-        assert!(rt; is_replied(&rt, rt.alloc(), case)?, "{case}");
+        compare_case(&rt, rt.alloc(), case)?;
+        read = read.saturating_add(1);
     }
+    same_count(&rt, read, 12, "cases");
     Ok(())
 }
 
-// Whether the fault of a read is said. Of 200 bytes each read takes 50, and the last finds the end.
-fn is_fault_said(
-    rt: &(impl Threads + Wait + Sync),
+// Sees that the fault of a read is said. Of 200 bytes each read takes 50, and the last finds the end.
+fn compare_fault(
+    rt: &(impl Abort + Threads + Wait + Sync),
     alloc: Global,
     read: u64,
-) -> Result<bool, Fail> {
-    let text = input_of(alloc, "count", "%%~0 1")?;
-    let input = source_of(alloc, &text, 50, read)?;
-    let answer = reply_of(rt, alloc, "exec - - --turns 4 --observe n=4", input)?;
-    Ok(says(&answer, "ReadFault", b"read fault -\n"))
+) -> Result<(), Fail> {
+    let input = source_with(alloc, "count", "%%~0 1", 50, read)?;
+    compare_reply(
+        rt,
+        alloc,
+        "exec - - --turns 4 --observe n=4",
+        input,
+        "ReadFault|read fault -",
+    )
 }
 
 #[test]
 fn a_failed_read_is_said(rt: HostRuntime) -> Result<(), Fail> {
     for read in 1..6 {
-        assert!(rt; is_fault_said(&rt, rt.alloc(), read)?, "{read}");
+        compare_fault(&rt, rt.alloc(), read)?;
     }
     Ok(())
 }
@@ -283,24 +365,55 @@ fn answer_to_names(
     )?)
 }
 
-// Whether a case has its reply.
-fn is_read(rt: &(impl Threads + Wait + Sync), alloc: Global, case: &str) -> Result<bool, Fail> {
-    match parts_of(alloc, case)?.as_slice() {
-        [image, graph, input, status, said] => {
-            let text = input_of(alloc, input, "(none)")?;
-            let answer = answer_to_names(rt, alloc, (image, graph), &text)?;
-            Ok(says(&answer, status, &text_of_lines(alloc, said)?))
-        }
-        _ => Err("no case")?,
-    }
+// Compares the reply to the names of an image and a graph, over a standard input, with the status and the text behind it.
+fn compare_names(
+    rt: &(impl Abort + Threads + Wait + Sync),
+    alloc: Global,
+    names: (&str, &str),
+    text: &[u8],
+    wanted: &str,
+) -> Result<(), Fail> {
+    let (status, said) = sides(wanted)?;
+    let answer = answer_to_names(rt, alloc, names, text)?;
+    compare(rt, alloc, &answer, status, said)
+}
+
+// The same of a case.
+fn compare_named(
+    rt: &(impl Abort + Threads + Wait + Sync),
+    alloc: Global,
+    case: &str,
+) -> Result<(), Fail> {
+    let (image, parts) = sides(case)?;
+    let (graph, parts) = sides(parts)?;
+    let (input, wanted) = sides(parts)?;
+    let text = input_of(alloc, input, "(none)")?;
+    compare_names(rt, alloc, (image, graph), &text, wanted)
 }
 
 #[test]
 fn names_are_read(rt: HostRuntime) -> Result<(), Fail> {
+    let mut read = 0usize;
     for case in NAMES.split(';') {
-        assert!(rt; is_read(&rt, rt.alloc(), case)?, "{case}");
+        compare_named(&rt, rt.alloc(), case)?;
+        read = read.saturating_add(1);
     }
+    same_count(&rt, read, 7, "cases");
     Ok(())
+}
+
+// One that has no memory for its second note.
+fn one_that_forgets(alloc: Global) -> Result<Box<dyn Observer>, NoMemory> {
+    let notes = Vec::new(alloc);
+    let forgetful: Box<dyn Observer> = Box::new(alloc, Forgetful { notes })?;
+    Ok(forgetful)
+}
+
+// One that counts.
+fn one_that_counts(alloc: Global, told: Rc<Cell<u32>>) -> Result<Box<dyn Observer>, NoMemory> {
+    let notes = Vec::new(alloc);
+    let counted: Box<dyn Observer> = Box::new(alloc, Counted { notes, told })?;
+    Ok(counted)
 }
 
 // One that has no memory for its second note, and behind it one that counts.
@@ -308,17 +421,11 @@ fn forgetful_and_counted(
     alloc: Global,
     told: Rc<Cell<u32>>,
 ) -> Result<Vec<Box<dyn Observer>>, NoMemory> {
-    let mut observers: Vec<Box<dyn Observer>> = Vec::new(alloc);
-    let notes = Vec::new(alloc);
-    let forgetful: Box<dyn Observer> = Box::new(alloc, Forgetful { notes })?;
-    observers.push(forgetful)?;
-    let notes = Vec::new(alloc);
-    let counted: Box<dyn Observer> = Box::new(alloc, Counted { notes, told })?;
-    observers.push(counted)?;
-    Ok(observers)
+    let counted = one_that_counts(alloc, told)?;
+    both(alloc, one_that_forgets(alloc)?, counted)
 }
 
-// Whether the image `total` is answered.
+// Whether the image `total` is answered, watched by these.
 fn is_answered(
     rt: &(impl Threads + Wait + Sync),
     alloc: Global,
@@ -326,9 +433,8 @@ fn is_answered(
     observers: &mut [Box<dyn Observer>],
 ) -> Result<bool, Fail> {
     let (words, options) = command(alloc, line)?;
-    let text = input_of(alloc, "total", "%%~0 1")?;
-    let input = source_of(alloc, &text, 1000, 0)?;
-    let files = MemFiles::new(Vec::new(alloc), Vec::new(alloc));
+    let input = source_with(alloc, "total", "%%~0 1", 1000, 0)?;
+    let files = no_files(alloc);
     let answer = answer_to(
         rt,
         alloc,
@@ -342,22 +448,28 @@ fn is_answered(
     Ok(answer.is_ok())
 }
 
+// Compares whether the image `total` is answered, and how many notes the one that counts was told by then.
+fn compare_told(
+    rt: &(impl Abort + Threads + Wait + Sync),
+    alloc: Global,
+    line: &str,
+    observers: &mut [Box<dyn Observer>],
+    told: &Rc<Cell<u32>>,
+    want: (bool, u32),
+) -> Result<(), Fail> {
+    let answered = is_answered(rt, alloc, line, observers)?;
+    assert!(rt; answered == want.0 && told.get() == want.1, "{line}");
+    Ok(())
+}
+
 #[test]
 fn one_without_memory_stops_the_telling(rt: HostRuntime) -> Result<(), Fail> {
     let told = Rc::new(rt.alloc(), Cell::new(0u32))?;
     let mut observers = forgetful_and_counted(rt.alloc(), Rc::clone(&told)?)?;
     // where the run is not watched nobody is told
-    assert!(rt; is_answered(&rt, rt.alloc(), "exec - - --turns 4", &mut observers)?);
-    assert_eq!(rt; told.get(), 0);
+    let line = "exec - - --turns 4";
+    compare_told(&rt, rt.alloc(), line, &mut observers, &told, (true, 0))?;
     // the first has no memory for its second note, and the one behind it is not told
-    assert!(rt;
-        !is_answered(
-            &rt,
-            rt.alloc(),
-            "exec - - --turns 4 --observe",
-            &mut observers
-        )?
-    );
-    assert_eq!(rt; told.get(), 1);
-    Ok(())
+    let line = "exec - - --turns 4 --observe";
+    compare_told(&rt, rt.alloc(), line, &mut observers, &told, (false, 1))
 }

@@ -1,5 +1,6 @@
 //! The names of the rules, as they are printed.
 
+use crate::compare::same;
 use gm_image::ImageRule;
 use std::alloc::{AllocError, Global};
 use std::test::Fail;
@@ -33,6 +34,11 @@ fn names_of(alloc: Global, rules: &[ImageRule]) -> Result<String, AllocError> {
 #[test]
 fn rules_have_names(rt: HostRuntime) -> Result<(), Fail> {
     let names = names_of(rt.alloc(), &rules())?;
-    assert_eq!(rt; names.as_str(), "I1 I2 I3 I4 I5 I6 I7 I8 I9 I10 ");
+    same(
+        &rt,
+        names.as_str(),
+        "I1 I2 I3 I4 I5 I6 I7 I8 I9 I10 ",
+        "names",
+    );
     Ok(())
 }

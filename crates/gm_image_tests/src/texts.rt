@@ -2,7 +2,9 @@
 
 ghost use Rattle.std.specs.Prelude.{◌≡◌, IfOk};
 
+use gm_base::NoMemory;
 use gm_image::{Image, Sound};
+use gm_image_text::{ImageFault, read_image, write_image};
 use gm_verify::{VerifyStop, is_countable, verify};
 use std::alloc::{AllocError, Global};
 use std::test::Fail;
@@ -412,6 +414,17 @@ pub fn changed_text<'a>(alloc: Global, case: &'a str) -> Result<(Vec<u8>, &'a st
         }
         _ => Err("no case")?,
     }
+}
+
+/// The image that a text spells, by a call that promises nothing. (What `read_image` promises of every image would be tried
+/// at each goal behind it.)
+pub fn image_in(alloc: Global, text: &[u8]) -> Result<Image, ImageFault> {
+    read_image(alloc, text)
+}
+
+/// The text of an image, by a call that promises nothing.
+pub fn text_for(alloc: Global, image: &Sound) -> Result<Vec<u8>, NoMemory> {
+    write_image(alloc, image)
 }
 
 /// An image as a sound one. One with too many lines is refused.

@@ -1,9 +1,11 @@
 //! What is written for a sound image is read again as the same image.
 
-use crate::texts::verified;
-use gm_image::Sound;
-use gm_image_text::{read_image, write_image, written_and_read};
+use crate::compare::same_bytes;
+use crate::texts::{image_in, text_for, verified};
+use gm_image::{Image, Sound};
+use gm_image_text::{ImageFault, written_and_read};
 use std::alloc::Global;
+use std::process::Abort;
 use std::test::Fail;
 
 // Texts of sound images in version 2.
@@ -18,39 +20,46 @@ const NEAREST: &[u8] =
 
 // The sound image that a text spells.
 fn sound_image(alloc: Global, text: &[u8]) -> Result<Sound, Fail> {
-    Ok(verified(alloc, read_image(alloc, text)?)?)
+    Ok(verified(alloc, image_in(alloc, text)?)?)
+}
+
+// What is written for an image and read, by a call that promises nothing.
+fn read_again(alloc: Global, sound: &Sound) -> Result<Image, ImageFault> {
+    written_and_read(alloc, sound)
 }
 
 // What is written for an image, read, and written again.
 fn written_twice(alloc: Global, sound: &Sound) -> Result<Vec<u8>, Fail> {
-    let again = verified(alloc, written_and_read(alloc, sound)?)?;
-    Ok(write_image(alloc, &again)?)
+    let again = verified(alloc, read_again(alloc, sound)?)?;
+    Ok(text_for(alloc, &again)?)
 }
 
-// Whether the sound image that a text spells is written as this text.
-fn is_written(alloc: Global, text: &[u8]) -> Result<bool, Fail> {
-    let written = write_image(alloc, &sound_image(alloc, text)?)?;
-    Ok(written.as_slice() == text)
+// Compares what is written for the sound image that a text spells with the text.
+fn compare_written(rt: &(impl Abort + AllocGlobal), text: &[u8]) -> Result<(), Fail> {
+    let sound = sound_image(rt.alloc(), text)?;
+    let written = text_for(rt.alloc(), &sound)?;
+    same_bytes(rt, written.as_slice(), text, "written");
+    Ok(())
 }
 
-// Whether what is written for an image, read, and written again is the text that spells it.
-fn is_read_again(alloc: Global, text: &[u8]) -> Result<bool, Fail> {
-    let written = written_twice(alloc, &sound_image(alloc, text)?)?;
-    Ok(written.as_slice() == text)
+// Compares what is written for an image, read, and written again with the text that spells it.
+fn compare_again(rt: &(impl Abort + AllocGlobal), text: &[u8]) -> Result<(), Fail> {
+    let sound = sound_image(rt.alloc(), text)?;
+    let written = written_twice(rt.alloc(), &sound)?;
+    same_bytes(rt, written.as_slice(), text, "written again");
+    Ok(())
 }
 
 #[test]
 fn sound_images_are_written_as_their_texts(rt: HostRuntime) -> Result<(), Fail> {
-    assert!(rt; is_written(rt.alloc(), SPIN)?);
-    assert!(rt; is_written(rt.alloc(), TOTAL)?);
-    assert!(rt; is_written(rt.alloc(), NEAREST)?);
-    Ok(())
+    compare_written(&rt, SPIN)?;
+    compare_written(&rt, TOTAL)?;
+    compare_written(&rt, NEAREST)
 }
 
 #[test]
 fn what_is_written_is_read_again(rt: HostRuntime) -> Result<(), Fail> {
-    assert!(rt; is_read_again(rt.alloc(), SPIN)?);
-    assert!(rt; is_read_again(rt.alloc(), TOTAL)?);
-    assert!(rt; is_read_again(rt.alloc(), NEAREST)?);
-    Ok(())
+    compare_again(&rt, SPIN)?;
+    compare_again(&rt, TOTAL)?;
+    compare_again(&rt, NEAREST)
 }

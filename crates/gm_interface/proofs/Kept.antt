@@ -3,17 +3,14 @@ use Rattle.gm_ast.specs.Program.{Program}
 use Rattle.gm_bfs.specs.Levelled.{levelled}
 use Rattle.gm_desugaring.specs.Desugaring.{with_plain_loops}
 use Rattle.gm_flip.specs.Flipped.{without_pulls}
+use Rattle.gm_outward.specs.Outward.{outward}
 use Rattle.gm_parting.specs.Iterators.{with_iterators_placed}
 use Rattle.gm_parting.specs.Passes.{prepared, dissected}
-use Rattle.gm_sound_lowering.specs.Asked.{HasNames}
-use Rattle.gm_interface.specs.Tables.{HasTable, HasNamesApart, IsNamedText, IteratesNoParameter}
-use Rattle.gm_interface.specs.Laws.{KeepsTable, PassesKeepTables, KeepsNames, PassesKeepNames, cut_down, CutDownHasTable, CutDownImagesAreSound}
-use Rattle.gm_interface.proofs.Widened.{Widens, widened-table, widened-names, further}
+use Rattle.gm_interface.specs.Tables.{HasTable, IteratesNoParameter}
+use Rattle.gm_interface.specs.Laws.{KeepsTable, PassesKeepTables, KeepsNames, PassesKeepNames, KeepsParameters, PassesKeepParameters}
+use Rattle.gm_interface.proofs.Widened.{Widens, widened-table, widened-names, widened-parameters, both-parameters, further}
 use Rattle.gm_interface.proofs.Passes as Passes
-use Rattle.gm_interface.proofs.Source.{typed-table}
-use Rattle.gm_interface.proofs.Spelled.{typed-names}
-use Rattle.gm_sound_lowering.proofs.Readied.{ready-images-are-sound}
-use Rattle.gm_interface.proofs.Placed.{placed-table, placed-names, placed-declared}
+use Rattle.gm_interface.proofs.Placed.{placed-table, placed-names, placed-parameters, placed-declared}
 
 table : (pass : Program → Program) → ((p : Program) → Widens p (pass p)) → KeepsTable pass
 table pass w p any h = widened-table p (pass p) (w p) h
@@ -48,6 +45,7 @@ passes-keep-tables = record {
   slices = table _ Passes.slices;
   dissected = λ p none h. widened-table (prepared p) (dissected p) (Passes.behind-prepared p) (prepared-table p none h);
   pulls = table _ Passes.pulls;
+  asked = table _ Passes.asked;
 }
 
 names : (pass : Program → Program) → ((p : Program) → Widens p (pass p)) → KeepsNames pass
@@ -59,31 +57,30 @@ dissected-names p d h =
     widened-names i (dissected p) (further i (prepared p) (dissected p) (Passes.behind-placed p) (Passes.behind-prepared p)) (placed-declared p d) (placed-names p h)
 
 pub passes-keep-names : PassesKeepNames
-passes-keep-names = record { plain_loops = names with_plain_loops Passes.plain-loops; searches = names levelled Passes.searches; dissected = dissected-names; pulls = names without_pulls Passes.pulls }
+passes-keep-names = record {
+  plain_loops = names with_plain_loops Passes.plain-loops;
+  searches = names levelled Passes.searches;
+  dissected = dissected-names;
+  pulls = names without_pulls Passes.pulls;
+  asked = names outward Passes.asked;
+}
 
--- ---- all passes together
+parameters : (pass : Program → Program) → ((p : Program) → Widens p (pass p)) → KeepsParameters pass
+parameters pass w p d = widened-parameters p (pass p) (w p) d
 
-has-names : (p : Program) → HasNamesApart p → IsNamedText p → HasNames p
-has-names p a n = record { name = n.name; names = n.names; inputs_differ = a.inputs_differ; outputs_differ = a.outputs_differ; no_nodes = a.no_nodes }
+dissected-parameters : KeepsParameters dissected
+dissected-parameters p d =
+    let i = with_iterators_placed p in
+    let w = further i (prepared p) (dissected p) (Passes.behind-placed p) (Passes.behind-prepared p) in
+    let f = placed-parameters p in
+    let g = widened-parameters i (dissected p) w (placed-declared p d) in
+    both-parameters p i (dissected p) f g
 
-pub cut-down-table : CutDownHasTable
-cut-down-table p may =
-    let l = with_plain_loops p in
-    let v = levelled l in
-    let d = dissected v in
-    let t0 = typed-table p may.typed in
-    let t1 = passes-keep-tables.plain_loops p tt t0 in
-    let t2 = passes-keep-tables.searches l tt t1 in
-    let t3 = passes-keep-tables.dissected v may.iterators t2 in (
-      passes-keep-tables.pulls d tt t3,
-      λ n.
-          let n0 = has-names p (typed-names p may.typed) n in
-          let n1 = passes-keep-names.plain_loops p t0.interface.declared n0 in
-          let n2 = passes-keep-names.searches l t1.interface.declared n1 in
-          let n3 = passes-keep-names.dissected v t2.interface.declared n2 in
-          passes-keep-names.pulls d t3.interface.declared n3,
-    )
-
-pub cut-down-sound : CutDownImagesAreSound
-cut-down-sound p may named ready low shallow few lines =
-    let h = cut-down-table p may in ready-images-are-sound (cut_down p) ready h.0.nodes h.0.interface low (h.1 named) shallow few lines
+pub passes-keep-parameters : PassesKeepParameters
+passes-keep-parameters = record {
+  plain_loops = parameters with_plain_loops Passes.plain-loops;
+  searches = parameters levelled Passes.searches;
+  dissected = dissected-parameters;
+  pulls = parameters without_pulls Passes.pulls;
+  asked = parameters outward Passes.asked;
+}

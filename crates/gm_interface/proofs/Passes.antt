@@ -24,9 +24,10 @@ use Rattle.gm_dissect.specs.AllDeferred.{some_defers, without_each, deferred_in,
 use Rattle.gm_dissect.specs.Conditions.{flag_locals, with_saved_conditions}
 use Rattle.gm_dissect.specs.Conditions as Saved
 use Rattle.gm_dissect.specs.Deferred.{copy_of, without_deferred_to}
+use Rattle.gm_cut.specs.Lean.{in_lean_slices}
 use Rattle.gm_cut.specs.Parts.{in_pieces}
-use Rattle.gm_cut.specs.Slices.{in_slices}
 use Rattle.gm_flip.specs.Flipped.{without_pulls}
+use Rattle.gm_outward.specs.Outward.{outward}
 use Rattle.gm_locals.specs.AllGroups.{groups_in, with_groups_kept}
 use Rattle.gm_parting.specs.Apart.{most_ifs, inner_flags, with_statements_apart}
 use Rattle.gm_parting.specs.Declared.{with_locals_declared}
@@ -49,28 +50,28 @@ added-mapped f h (x ∷ xs) = and_from (is_added (f x).variable) (all_added (map
 -- ---- to plain loops
 
 pub groups : (p : Program) → Widens p (without_groups p)
-groups p = unchanged p (without_groups p) refl refl refl refl
+groups p = unchanged p (without_groups p) refl refl refl refl refl
 
 pub compounds : (p : Program) → Widens p (without_compounds p)
-compounds p = unchanged p (without_compounds p) refl refl refl refl
+compounds p = unchanged p (without_compounds p) refl refl refl refl refl
 
 pub literals : (p : Program) → Widens p (with_negative_literals p)
-literals p = unchanged p (with_negative_literals p) refl refl refl refl
+literals p = unchanged p (with_negative_literals p) refl refl refl refl refl
 
 pub conditions : (p : Program) → Widens p (with_conditions p)
-conditions p = appended p (with_conditions p) (fresh V.Flag ∷ []) refl refl refl refl refl
+conditions p = appended p (with_conditions p) (fresh V.Flag ∷ []) refl refl refl refl refl refl
 
 pub reads : (p : Program) → Widens p (with_reads_apart p)
-reads p = appended p (with_reads_apart p) (map fresh (types_apart p.declarations p.body)) refl refl refl refl (added-mapped fresh (λ t. refl) (types_apart p.declarations p.body))
+reads p = appended p (with_reads_apart p) (map fresh (types_apart p.declarations p.body)) refl refl refl refl refl (added-mapped fresh (λ t. refl) (types_apart p.declarations p.body))
 
 pub picks : (p : Program) → Widens p (with_plain_picks p)
-picks p = appended p (with_plain_picks p) (map fresh (types_picked p.declarations [] p.body)) refl refl refl refl (added-mapped fresh (λ t. refl) (types_picked p.declarations [] p.body))
+picks p = appended p (with_plain_picks p) (map fresh (types_picked p.declarations [] p.body)) refl refl refl refl refl (added-mapped fresh (λ t. refl) (types_picked p.declarations [] p.body))
 
 pub accesses : (p : Program) → Widens p (without_accesses p)
-accesses p = appended p (without_accesses p) Accesses.added refl refl refl refl refl
+accesses p = appended p (without_accesses p) Accesses.added refl refl refl refl refl refl
 
 pub folds : (p : Program) → Widens p (without_folds p)
-folds p = unchanged p (without_folds p) refl refl refl refl
+folds p = unchanged p (without_folds p) refl refl refl refl refl
 
 loop-fits : (test : Expr) (body : Stmt) → all_added (loop_added test body) ≡ true
 loop-fits test body = added-mapped local (λ t. refl) (fold_types test ++ body_types body)
@@ -92,7 +93,7 @@ phase-fits its (S.InBfsBoth k at s test body back_key back_test back) =
 phase-fits its _ = refl
 
 pub inner-folds : (p : Program) → Widens p (without_inner_folds p)
-inner-folds p = appended p (without_inner_folds p) (phase_added [] p.body) refl refl refl refl (phase-fits [] p.body)
+inner-folds p = appended p (without_inner_folds p) (phase_added [] p.body) refl refl refl refl refl (phase-fits [] p.body)
 
 pub plain-loops : (p : Program) → Widens p (with_plain_loops p)
 plain-loops p =
@@ -115,22 +116,22 @@ pub searches : (p : Program) → Widens p (levelled p)
 searches p = by (has_search p.body) where
   wide : Widens p (record p { declarations = with_fresh p.declarations; body = searches_out (fresh_from (length p.declarations)) (length p.declarations) p.body })
   wide =
-      appended p (record p { declarations = with_fresh p.declarations; body = searches_out (fresh_from (length p.declarations)) (length p.declarations) p.body }) (fresh_declarations ++ map copy_declaration p.declarations) refl refl refl refl
+      appended p (record p { declarations = with_fresh p.declarations; body = searches_out (fresh_from (length p.declarations)) (length p.declarations) p.body }) (fresh_declarations ++ map copy_declaration p.declarations) refl refl refl refl refl
       (added-both fresh_declarations (map copy_declaration p.declarations) refl (added-mapped copy_declaration (λ d. refl) p.declarations))
 
   by : (b : Bool) → Widens p (if b then record p { declarations = with_fresh p.declarations; body = searches_out (fresh_from (length p.declarations)) (length p.declarations) p.body } else p)
   by true = wide
-  by false = unchanged p p refl refl refl refl
+  by false = unchanged p p refl refl refl refl refl
 
 -- ---- to loops that are cut
 
 pub declared : (p : Program) → Widens p (with_locals_declared p)
-declared p = unchanged p (with_locals_declared p) refl refl refl refl
+declared p = unchanged p (with_locals_declared p) refl refl refl refl refl
 
 deferred-each : (xs : List ℕ) (p : Program) → Widens p (without_each xs p)
-deferred-each [] p = unchanged p p refl refl refl refl
+deferred-each [] p = unchanged p p refl refl refl refl refl
 deferred-each (x ∷ xs) p =
-    by (some_defers x p.body) (further p (without_deferred_to x p) (without_each xs (without_deferred_to x p)) (appended p (without_deferred_to x p) (copy_of p.declarations x ∷ []) refl refl refl refl refl) (deferred-each xs (without_deferred_to x p))) (deferred-each xs p) where
+    by (some_defers x p.body) (further p (without_deferred_to x p) (without_each xs (without_deferred_to x p)) (appended p (without_deferred_to x p) (copy_of p.declarations x ∷ []) refl refl refl refl refl refl) (deferred-each xs (without_deferred_to x p))) (deferred-each xs p) where
       by : (b : Bool) → Widens p (without_each xs (without_deferred_to x p)) → Widens p (without_each xs p) → Widens p (without_each xs (if b then without_deferred_to x p else p))
       by true h k = h
       by false h k = k
@@ -139,10 +140,10 @@ pub deferred : (p : Program) → Widens p (without_deferred p)
 deferred p = deferred-each (deferred_in p.body) p
 
 pub filters : (p : Program) → Widens p (with_saved_filters p)
-filters p = appended p (with_saved_filters p) (flag_property ∷ []) refl refl refl refl refl
+filters p = appended p (with_saved_filters p) (flag_property ∷ []) refl refl refl refl refl refl
 
 pub saved-conditions : (p : Program) → Widens p (with_saved_conditions p)
-saved-conditions p = appended p (with_saved_conditions p) (flag_locals (Saved.numbers_in p.body)) refl refl refl refl (added-mapped (λ x. Saved.flag_local) (λ x. refl) (Saved.numbers_in p.body))
+saved-conditions p = appended p (with_saved_conditions p) (flag_locals (Saved.numbers_in p.body)) refl refl refl refl refl (added-mapped (λ x. Saved.flag_local) (λ x. refl) (Saved.numbers_in p.body))
 
 pub conditions-apart : (p : Program) → Widens p (with_conditions_apart p)
 conditions-apart p = by (has_numbered_ifs p) where
@@ -150,7 +151,7 @@ conditions-apart p = by (has_numbered_ifs p) where
   twice =
       let s = with_saved_conditions p in
       let n = with_own_numbers s in
-      further p s (with_saved_conditions n) (saved-conditions p) (further s n (with_saved_conditions n) (unchanged s n refl refl refl refl) (saved-conditions n))
+      further p s (with_saved_conditions n) (saved-conditions p) (further s n (with_saved_conditions n) (unchanged s n refl refl refl refl refl) (saved-conditions n))
 
   by : (b : Bool) → Widens p (if b then with_saved_conditions p else with_saved_conditions (with_own_numbers (with_saved_conditions p)))
   by true = saved-conditions p
@@ -163,28 +164,31 @@ locals-fit depth (suc n) = locals-fit depth n
 pub nodes : (p : Program) → Widens p (with_nodes_read p)
 nodes p =
     let n = all_nodes_in p.declarations p.body in
-    appended p (with_nodes_read p) (node_locals 1 n ++ node_locals 2 n) refl refl refl refl (added-both (node_locals 1 n) (node_locals 2 n) (locals-fit 1 n) (locals-fit 2 n))
+    appended p (with_nodes_read p) (node_locals 1 n ++ node_locals 2 n) refl refl refl refl refl (added-both (node_locals 1 n) (node_locals 2 n) (locals-fit 1 n) (locals-fit 2 n))
 
 pub groups-kept : (p : Program) → Widens p (with_groups_kept p)
 groups-kept p =
     let xs = groups_in p.declarations p.body in
-    appended p (with_groups_kept p) (map (copy_of p.declarations) xs) refl refl refl refl (added-mapped (copy_of p.declarations) (λ x. refl) xs)
+    appended p (with_groups_kept p) (map (copy_of p.declarations) xs) refl refl refl refl refl (added-mapped (copy_of p.declarations) (λ x. refl) xs)
 
 pub pieces : (p : Program) → Widens p (in_pieces p)
-pieces p = unchanged p (in_pieces p) refl refl refl refl
+pieces p = unchanged p (in_pieces p) refl refl refl refl refl
 
 flags-fit : (n : ℕ) → all_added (inner_flags n) ≡ true
 flags-fit zero = refl
 flags-fit (suc n) = flags-fit n
 
 pub statements : (p : Program) → Widens p (with_statements_apart p)
-statements p = appended p (with_statements_apart p) (inner_flags (most_ifs p.body)) refl refl refl refl (flags-fit (most_ifs p.body))
+statements p = appended p (with_statements_apart p) (inner_flags (most_ifs p.body)) refl refl refl refl refl (flags-fit (most_ifs p.body))
 
-pub slices : (p : Program) → Widens p (in_slices p)
-slices p = unchanged p (in_slices p) refl refl refl refl
+pub slices : (p : Program) → Widens p (in_lean_slices p)
+slices p = unchanged p (in_lean_slices p) refl refl refl refl refl
 
 pub pulls : (p : Program) → Widens p (without_pulls p)
-pulls p = unchanged p (without_pulls p) refl refl refl refl
+pulls p = unchanged p (without_pulls p) refl refl refl refl refl
+
+pub asked : (p : Program) → Widens p (outward p)
+asked p = unchanged p (outward p) refl refl refl refl refl
 
 -- what dissects, behind the pass that places iterators
 pub behind-placed : (p : Program) → Widens (with_iterators_placed p) (prepared p)

@@ -10,7 +10,7 @@ use Rattle.gm_ast.specs.Ways.{is_in}
 use Rattle.gm_semantics.specs.Statements.{variable_at}
 use Rattle.gm_parting.specs.Iterators.{all_inner_iterators, iterates, iterator_depth, placed_variable, placed_from, with_iterators_placed}
 use Rattle.gm_sound_lowering.specs.Asked.{name_at, HasNames}
-use Rattle.gm_interface.specs.Tables.{HasTable, IteratesNoParameter}
+use Rattle.gm_interface.specs.Tables.{HasTable, IteratesNoParameter, HasParametersOf}
 use Rattle.gm_interface.proofs.Widened.{names-kept}
 
 same-length : (inners : List ℕ) (i : ℕ) (ds : List Declaration) → length (placed_from inners i ds) ≡ length ds
@@ -70,8 +70,11 @@ module _ (p : Program) where
     };
   }
 
+  pub placed-parameters : HasParametersOf p q
+  placed-parameters = record { name = refl; inputs = refl; outputs = refl; result = refl; like = λ x lt. record { name = placed-name inners 0 p.declarations x; sort = sort-same x; vtype = type-same x } }
+
   pub placed-names : HasNames p → HasNames q
-  placed-names h = names-kept p q refl refl refl (λ x lt. record { name = placed-name inners 0 p.declarations x; sort = sort-same x; vtype = type-same x }) h
+  placed-names h = names-kept p q refl refl refl placed-parameters.like h
 
   pub placed-declared : p.inputs + p.outputs ≤ length p.declarations → q.inputs + q.outputs ≤ length q.declarations
   placed-declared d = subst (λ n. p.inputs + p.outputs ≤ n) (sym (same-length inners 0 p.declarations)) d

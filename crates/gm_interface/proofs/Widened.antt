@@ -17,7 +17,7 @@ use Rattle.gm_semantics.specs.Statements.{variable_at, variable_or}
 use Rattle.gm_image.specs.Names.{is_name}
 use Rattle.gm_lowering.specs.Lowered.{name_or}
 use Rattle.gm_sound_lowering.specs.Asked.{name_at, HasNames}
-use Rattle.gm_interface.specs.Tables.{HasTable}
+use Rattle.gm_interface.specs.Tables.{HasTable, IsLike, HasParametersOf}
 
 -- a variable that passes may add: no property of edges, and a node where it iterates
 abbrev pub is_added : Variable → Bool
@@ -27,6 +27,7 @@ pub record Widens (p q : Program) : Type 0 where
   pub name : q.name ≡ p.name
   pub inputs : q.inputs ≡ p.inputs
   pub outputs : q.outputs ≡ p.outputs
+  pub result : q.result ≡ p.result
   pub longer : length p.declarations ≤ length q.declarations
   pub like : (x : ℕ) → x < length p.declarations → slice_get q.declarations x ≡ slice_get p.declarations x
   pub added : (x : ℕ) → length p.declarations ≤ x → is_added (variable_at q.declarations x) ≡ true
@@ -53,12 +54,6 @@ below-or x n = by (nat_lt x n) refl where
   by true e = inl (ltb-true x n e)
   by false e = inr (ltb-false x n e)
 
--- a variable of two programs has the same name, sort and type
-pub record IsLike (p q : Program) (x : ℕ) : Type 0 where
-  pub name : name_at q.declarations x ≡ name_at p.declarations x
-  pub sort : (variable_at q.declarations x).sort ≡ (variable_at p.declarations x).sort
-  pub vtype : (variable_at q.declarations x).vtype ≡ (variable_at p.declarations x).vtype
-
 -- a program has names where one with the same inputs and outputs has
 pub names-kept : (p q : Program) → q.name ≡ p.name → q.inputs ≡ p.inputs → q.outputs ≡ p.outputs → ((x : ℕ) → x < p.inputs + p.outputs → IsLike p q x) → HasNames p → HasNames q
 names-kept p q n i o like h = record {
@@ -82,6 +77,22 @@ names-kept p q n i o like h = record {
 } where
   both : (x : ℕ) → x < q.inputs + q.outputs → x < p.inputs + p.outputs
   both x lt = subst (λ z. x < z) (ap (λ a. a + q.outputs) i ∙ ap (λ b. p.inputs + b) o) lt
+
+-- parameters of a program that has those of another are those of a third, where the other has these
+pub both-parameters : (p q r : Program) → HasParametersOf p q → HasParametersOf q r → HasParametersOf p r
+both-parameters p q r a b = record {
+  name = b.name ∙ a.name;
+  inputs = b.inputs ∙ a.inputs;
+  outputs = b.outputs ∙ a.outputs;
+  result = b.result ∙ a.result;
+  like = λ x lt.
+      let i = a.inputs in
+      let o = a.outputs in
+      let k : x < q.inputs + q.outputs = omega (arith, lt, i, o) in
+      let l = a.like x lt in
+      let m = b.like x k in
+      record { name = m.name ∙ l.name; sort = m.sort ∙ l.sort; vtype = m.vtype ∙ l.vtype };
+}
 
 module _ (p q : Program) (w : Widens p q) where
   same : (x : ℕ) → x < length p.declarations → variable_at q.declarations x ≡ variable_at p.declarations x
@@ -114,6 +125,10 @@ module _ (p q : Program) (w : Widens p q) where
       let k : x < length p.declarations = omega (arith, lt, d) in
       record { name = ap name_or (w.like x k); sort = ap (λ v. v.sort) (same x k); vtype = ap (λ v. v.vtype) (same x k) }
 
+  -- it has the other's inputs and outputs, where these are declared
+  pub widened-parameters : p.inputs + p.outputs ≤ length p.declarations → HasParametersOf p q
+  widened-parameters d = record { name = w.name; inputs = w.inputs; outputs = w.outputs; result = w.result; like = inside-names d }
+
   -- and it has names, where the other has
   pub widened-names : p.inputs + p.outputs ≤ length p.declarations → HasNames p → HasNames q
   widened-names d h = names-kept p q w.name w.inputs w.outputs (inside-names d) h
@@ -133,11 +148,12 @@ added-at [] i h = refl
 added-at (d ∷ xs) zero h = (both-true (is_added d.variable) (all_added xs) h).0
 added-at (d ∷ xs) (suc i) h = added-at xs i (both-true (is_added d.variable) (all_added xs) h).1
 
-pub appended : (p q : Program) (xs : List Declaration) → q.name ≡ p.name → q.inputs ≡ p.inputs → q.outputs ≡ p.outputs → q.declarations ≡ p.declarations ++ xs → all_added xs ≡ true → Widens p q
-appended p q xs n i o e h = record {
+pub appended : (p q : Program) (xs : List Declaration) → q.name ≡ p.name → q.inputs ≡ p.inputs → q.outputs ≡ p.outputs → q.result ≡ p.result → q.declarations ≡ p.declarations ++ xs → all_added xs ≡ true → Widens p q
+appended p q xs n i o r e h = record {
   name = n;
   inputs = i;
   outputs = o;
+  result = r;
   longer = subst (λ ds. length p.declarations ≤ length ds) (sym e) (more p.declarations xs);
   like = λ x lt. ap (λ ds. slice_get ds x) e ∙ get-longer p.declarations xs x lt;
   added = λ x le. subst (λ ds. is_added (variable_at ds x) ≡ true) (sym e) (behind p.declarations x le);
@@ -152,8 +168,8 @@ appended p q xs n i o e h = record {
   behind (d ∷ ds) (suc x) le = behind ds x (omega (arith, le))
 
 -- no declaration more
-pub unchanged : (p q : Program) → q.name ≡ p.name → q.inputs ≡ p.inputs → q.outputs ≡ p.outputs → q.declarations ≡ p.declarations → Widens p q
-unchanged p q n i o e = appended p q [] n i o (e ∙ sym (nothing p.declarations)) refl where
+pub unchanged : (p q : Program) → q.name ≡ p.name → q.inputs ≡ p.inputs → q.outputs ≡ p.outputs → q.result ≡ p.result → q.declarations ≡ p.declarations → Widens p q
+unchanged p q n i o r e = appended p q [] n i o r (e ∙ sym (nothing p.declarations)) refl where
   nothing : (ds : List Declaration) → ds ++ [] ≡ ds
   nothing [] = refl
   nothing (d ∷ ds) = ap (λ xs. d ∷ xs) (nothing ds)
@@ -164,6 +180,7 @@ further p q r a b = record {
   name = b.name ∙ a.name;
   inputs = b.inputs ∙ a.inputs;
   outputs = b.outputs ∙ a.outputs;
+  result = b.result ∙ a.result;
   longer = let x = a.longer in let y = b.longer in omega (arith, x, y);
   like = λ x lt. let l = a.longer in b.like x (omega (arith, lt, l)) ∙ a.like x lt;
   added = λ x le. ⊎_elim (λ (k : x < length q.declarations). ap is_added (ap (λ o. variable_or (option_map (λ (d : Declaration). d.variable) o)) (b.like x k)) ∙ a.added x le)

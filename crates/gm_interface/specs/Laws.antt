@@ -1,13 +1,11 @@
 -- What the passes keep of a program's table of declarations.
-use Rattle.std.specs.Prelude.{◌≡◌, ◌<◌, ◌≤◌, ◌+◌, ℕ, true, List, Some, length}
+use Rattle.std.specs.Prelude.{◌≡◌, ◌≤◌, ◌+◌, ℕ, List, Some, length}
 use Rattle.gm_token.specs.Scanning.{IsScanOf}
 use Rattle.gm_token.specs.Tokens.{Listing}
 use Rattle.gm_parse.specs.Trees.{IsTreeOf}
 use Rattle.gm_ast.specs.Procedures.{IsTyped, elaborated}
 use Rattle.gm_ast.specs.Program.{Program}
 use Rattle.gm_ast.specs.Surface.{SurfaceProcedure}
-use Rattle.gm_depth.specs.Depths.{is_shallow}
-use Rattle.gm_forms.specs.Ready.{Ready4}
 use Rattle.gm_desugar.specs.Compounds.{without_compounds}
 use Rattle.gm_desugar.specs.Conditions.{with_conditions}
 use Rattle.gm_desugar.specs.Groups.{without_groups}
@@ -21,9 +19,10 @@ use Rattle.gm_desugaring.specs.Desugaring.{with_plain_loops}
 use Rattle.gm_bfs.specs.Levelled.{levelled}
 use Rattle.gm_dissect.specs.AllDeferred.{without_deferred}
 use Rattle.gm_dissect.specs.Conditions.{with_saved_conditions}
+use Rattle.gm_cut.specs.Lean.{in_lean_slices}
 use Rattle.gm_cut.specs.Parts.{in_pieces}
-use Rattle.gm_cut.specs.Slices.{in_slices}
 use Rattle.gm_flip.specs.Flipped.{without_pulls}
+use Rattle.gm_outward.specs.Outward.{outward}
 use Rattle.gm_locals.specs.AllGroups.{with_groups_kept}
 use Rattle.gm_parting.specs.Apart.{with_statements_apart}
 use Rattle.gm_parting.specs.Declared.{with_locals_declared}
@@ -32,13 +31,8 @@ use Rattle.gm_parting.specs.Iterators.{with_iterators_placed}
 use Rattle.gm_parting.specs.Nodes.{with_nodes_read}
 use Rattle.gm_parting.specs.Numbers.{with_conditions_apart}
 use Rattle.gm_parting.specs.Passes.{prepared, dissected}
-use Rattle.gm_image.specs.Rows.{line_count}
-use Rattle.gm_image.specs.Soundness.{is_sound, line_limit}
-use Rattle.gm_lowering.specs.Lowered.{lowered}
 use Rattle.gm_sound_lowering.specs.Asked.{HasNames}
-use Rattle.gm_sound_lowering.specs.Entries.{has_few_entries}
-use Rattle.gm_sound_lowering.specs.Ready.{is_lowerable}
-use Rattle.gm_interface.specs.Tables.{HasTable, HasNamesApart, IsNamedText, IteratesNoParameter}
+use Rattle.gm_interface.specs.Tables.{HasTable, HasNamesApart, IsNamedText, IteratesNoParameter, HasParametersOf}
 
 -- the table of a program that breaks no rule of types is in order
 abbrev pub TypedHasTable : Type 0
@@ -87,9 +81,10 @@ pub record PassesKeepTables : Type 0 where
   pub prepared : Keeps IteratesNoParameter HasTable prepared
   pub pieces : KeepsTable in_pieces
   pub statements : KeepsTable with_statements_apart
-  pub slices : KeepsTable in_slices
+  pub slices : KeepsTable in_lean_slices
   pub dissected : Keeps IteratesNoParameter HasTable dissected
   pub pulls : KeepsTable without_pulls
+  pub asked : KeepsTable outward
 
 -- a pass keeps the names of a program whose inputs and outputs are declared
 abbrev pub KeepsNames : (Program → Program) → Type 0
@@ -100,24 +95,15 @@ pub record PassesKeepNames : Type 0 where
   pub searches : KeepsNames levelled
   pub dissected : KeepsNames dissected
   pub pulls : KeepsNames without_pulls
+  pub asked : KeepsNames outward
 
--- ---- the passes together
+-- a pass keeps the name, the result, and the inputs and outputs of a program that declares these
+abbrev pub KeepsParameters : (Program → Program) → Type 0
+KeepsParameters pass = (p : Program) → p.inputs + p.outputs ≤ length p.declarations → HasParametersOf p (pass p)
 
--- a program after all passes up to the last form
-abbrev pub cut_down : Program → Program
-cut_down p = without_pulls (dissected (levelled (with_plain_loops p)))
-
--- what is asked of a program that breaks no rule of types, so that the passes keep its table: its inner loops iterate no inputs and outputs
-pub record MayBeCutDown (p : Program) : Type 0 where
-  pub typed : IsTyped p
-  pub iterators : IteratesNoParameter (levelled (with_plain_loops p))
-
--- the table of what comes out is in order, and its names too, where they are names
-abbrev pub CutDownHasTable : Type 0
-CutDownHasTable = (p : Program) → MayBeCutDown p → HasTable (cut_down p) × (IsNamedText p → HasNames (cut_down p))
-
--- so the image of what comes out is sound, where it is in the last form, and its expressions and what it keeps at once may be lowered
-abbrev pub CutDownImagesAreSound : Type 0
-CutDownImagesAreSound =
-    (p : Program) → MayBeCutDown p → IsNamedText p → let q = cut_down p in
-    Ready4 q → is_lowerable q ≡ true → is_shallow q ≡ true → has_few_entries q ≡ true → line_count (lowered q) < line_limit → is_sound (lowered q) ≡ true
+pub record PassesKeepParameters : Type 0 where
+  pub plain_loops : KeepsParameters with_plain_loops
+  pub searches : KeepsParameters levelled
+  pub dissected : KeepsParameters dissected
+  pub pulls : KeepsParameters without_pulls
+  pub asked : KeepsParameters outward

@@ -33,3 +33,17 @@ pub record HasNamesApart (p : Program) : Type 0 where
 pub record IsNamedText (p : Program) : Type 0 where
   pub name : is_name p.name ≡ true
   pub names : (x : ℕ) → x < p.inputs + p.outputs → is_name (name_at p.declarations x) ≡ true
+
+-- a variable of two programs has the same name, sort and type
+pub record IsLike (p q : Program) (x : ℕ) : Type 0 where
+  pub name : name_at q.declarations x ≡ name_at p.declarations x
+  pub sort : (variable_at q.declarations x).sort ≡ (variable_at p.declarations x).sort
+  pub vtype : (variable_at q.declarations x).vtype ≡ (variable_at p.declarations x).vtype
+
+-- a program has another's name and result, and its inputs and outputs with their names, sorts and types
+pub record HasParametersOf (p q : Program) : Type 0 where
+  pub name : q.name ≡ p.name
+  pub inputs : q.inputs ≡ p.inputs
+  pub outputs : q.outputs ≡ p.outputs
+  pub result : q.result ≡ p.result
+  pub like : (x : ℕ) → x < p.inputs + p.outputs → IsLike p q x

@@ -1,6 +1,6 @@
 //! Laws of tables of declarations, as contracts of calls that do nothing.
 
-ghost use Rattle.gm_interface.specs.Laws.{CutDownHasTable, CutDownImagesAreSound, PassesKeepNames, PassesKeepTables, TextsAreNamed, TypedHasNamesApart, TypedHasTable};
+ghost use Rattle.gm_interface.specs.Laws.{PassesKeepNames, PassesKeepParameters, PassesKeepTables, TextsAreNamed, TypedHasNamesApart, TypedHasTable};
 
 /// The table of declarations of a program that breaks no rule of types is in order: iterators and graphs are nodes, inputs and
 /// outputs are declared outside of loops, inputs are no iterators, and properties of edges are inputs.
@@ -29,15 +29,7 @@ pub fn passes_keep_names()
     ensures { PassesKeepNames }
 {}
 
-/// The table of a program that breaks no rule of types is in order after all passes, where its inner loops iterate no inputs
-/// and outputs; and so are its names, where they are names.
-pub fn cut_down_programs_have_tables()
-    ensures { CutDownHasTable }
-{}
-
-/// The image of such a program after all passes is sound, where it is in the last form and ready, `is_lowerable` holds of it,
-/// no expression has more than 512 levels, no tuple that is kept at once has more than 511 entries, and the image's text has
-/// fewer lines than 2^32.
-pub fn cut_down_images_are_sound()
-    ensures { CutDownImagesAreSound }
+/// The passes keep a program's name, its result, and its inputs and outputs with their names, sorts and types.
+pub fn passes_keep_parameters()
+    ensures { PassesKeepParameters }
 {}

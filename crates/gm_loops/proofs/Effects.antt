@@ -41,6 +41,7 @@ reversible-none h = record { shape = refl; more = []; logged = sym (append-nil h
 
 pub fits-same : (f : Setting) (old new : Held) → shape_of new ≡ shape_of old → Fits f old → Fits f new
 fits-same f old new e h = record {
+  in_rows = h.in_rows;
   columns = h.columns;
   scalars = ap (λ (s : Shape). s.scalars) e ∙ h.scalars;
   rows = ap (λ (s : Shape). s.rows) e ∙ h.rows;

@@ -14,3 +14,4 @@ pub mod Everywhere
 pub mod Deeds
 pub mod Taking
 pub mod Together
+pub mod Serving

@@ -5,6 +5,7 @@ use Rattle.std.specs.declared.alloc.Global.{Global}
 use Rattle.gm_base.specs.declared.places.Place.{Place}
 use Rattle.gm_value.specs.declared.operations.Op1.{Op1}
 use Rattle.gm_value.specs.declared.operations.Op2.{Op2}
+use Rattle.gm_ast.specs.declared.tree.Direction.{Direction}
 use Rattle.gm_ast.specs.declared.tree.Fold.{Fold}
 use Rattle.gm_ast.specs.declared.tree.Head.{Head}
 use Rattle.gm_ast.specs.declared.tree.Expr as E
@@ -33,11 +34,29 @@ expr_of-Binary op at a b = search (rules, expr_lemmas)
 pub expr_of-Fold : (f : Fold) (h : Head) (test body : Box E.Expr Global) → expr_of (E.Fold f h test body) ≡ P.Folded f h (expr_of (box_value test)) (expr_of (box_value body))
 expr_of-Fold f h test body = search (rules, expr_lemmas)
 
+pub expr_of-Degree : (d : Direction) (x : ℕ) (at : Place) → expr_of (E.Degree d x at) ≡ P.Degree d x at
+expr_of-Degree d x at = search (rules, expr_lemmas)
+
+pub expr_of-Both : (a b : Box E.Expr Global) → expr_of (E.Both a b) ≡ P.Both (expr_of (box_value a)) (expr_of (box_value b))
+expr_of-Both a b = search (rules, expr_lemmas)
+
+pub expr_of-Either : (a b : Box E.Expr Global) → expr_of (E.Either a b) ≡ P.Either (expr_of (box_value a)) (expr_of (box_value b))
+expr_of-Either a b = search (rules, expr_lemmas)
+
+pub expr_of-Choose : (c a b : Box E.Expr Global) → expr_of (E.Choose c a b) ≡ P.Choose (expr_of (box_value c)) (expr_of (box_value a)) (expr_of (box_value b))
+expr_of-Choose c a b = search (rules, expr_lemmas)
+
 pub stmt_of-Block : (stmts : Vec S.Stmt Global) → stmt_of (S.Block stmts) ≡ P.sequence (map stmt_of stmts.items)
 stmt_of-Block stmts = search (rules, stmt_lemmas)
 
 pub stmt_of-Declare : (key : Key) (x : ℕ) (value : Option E.Expr) → stmt_of (S.Declare key x value) ≡ P.Declare key x (option_map expr_of value)
 stmt_of-Declare key x value = search (rules, stmt_lemmas)
+
+pub stmt_of-Assign : (key : Key) (t : Target) (e : E.Expr) → stmt_of (S.Assign key t e) ≡ P.Assign key t (expr_of e)
+stmt_of-Assign key t e = search (rules, stmt_lemmas)
+
+pub stmt_of-Defer : (key : Key) (t : Target) (e : E.Expr) → stmt_of (S.Defer key t e) ≡ P.Defer key t (expr_of e)
+stmt_of-Defer key t e = search (rules, stmt_lemmas)
 
 pub stmt_of-Reduce : (key : Key) (total : TotalKey) (r : Reduce) (ts : Vec Target Global) (es : Vec E.Expr Global) → stmt_of (S.Reduce key total r ts es) ≡ P.Combine key total r ts.items (map expr_of es.items)
 stmt_of-Reduce key total r ts es = search (rules, stmt_lemmas)

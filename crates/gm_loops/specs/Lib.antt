@@ -14,3 +14,4 @@ pub mod Shorts
 pub mod Columns
 pub mod Renewals
 pub mod Filters
+pub mod Asking

@@ -1,6 +1,6 @@
 -- The steps of a loop or a reduction, as the code goes over them.
-use Rattle.std.specs.Prelude.{◌<◌, ℕ, ⊤, Bool, true, List, [], ◌∷◌, filter, drop, Option, Some, None, option_map}
-use Rattle.gm_model.specs.Graphs.{NumberedGraph, Step, out_steps, in_steps}
+use Rattle.std.specs.Prelude.{◌≡◌, ◌<◌, ℕ, ⊤, Bool, true, List, [], ◌∷◌, filter, drop, Option, Some, None, option_map}
+use Rattle.gm_model.specs.Graphs.{NumberedGraph, Step, node_count, out_steps, in_steps}
 use Rattle.gm_graph.specs.Walks.{edge_at}
 use Rattle.gm_semantics.specs.Levels.{node_steps, is_next}
 use Rattle.gm_loops.specs.declared.ranges.Edges.{Edges}
@@ -20,7 +20,7 @@ abbrev pub steps_along : NumberedGraph → Edges → List Step
 steps_along g NoStep = []
 steps_along g AllNodes = node_steps g
 steps_along g (From n) = out_steps g n
-steps_along g (To n) = in_steps g n
+steps_along g (To rows n) = in_steps g n
 
 -- whether a course takes a step to a node
 abbrev pub takes : (ℕ → Option ℕ) → Course → ℕ → Bool
@@ -34,11 +34,11 @@ taken_by levels Any steps = steps
 taken_by levels (Above level) steps = filter (λ s. is_next (levels s.node) level) steps
 taken_by levels (Below level) steps = filter (λ s. is_next level (levels s.node)) steps
 
--- edges that lead from or to a node of the graph
-abbrev pub HasStart : ℕ → Edges → Type 0
-HasStart nodes (From n) = n < nodes
-HasStart nodes (To n) = n < nodes
-HasStart nodes edges = ⊤
+-- edges that lead from or to a node of the graph, whose rows are the graph's
+abbrev pub HasStart : NumberedGraph → Edges → Type 0
+HasStart g (From n) = n < node_count g
+HasStart g (To rows n) = (rows.now ≡ g) × (n < node_count g)
+HasStart g edges = ⊤
 
 -- the levels that a range asks
 abbrev pub levels_by : Range → ℕ → Option ℕ

@@ -3,6 +3,7 @@ use Rattle.std.specs.Prelude.{◌≡◌, ◌<◌, ℕ, ⊤, All, pos, List, [], 
 use Rattle.gm_value.specs.declared.values.Value.{Value}
 use Rattle.gm_value.specs.declared.values.Value.TheVariants.{I32}
 use Rattle.gm_model.specs.Graphs.{NumberedGraph, node_count}
+use Rattle.gm_graph.specs.Serving.{AreRowsOf}
 use Rattle.gm_graph.specs.Walks.{edge_at}
 use Rattle.gm_levels.specs.Views.{NodeLevels}
 use Rattle.gm_semantics.specs.Expressions.{View}
@@ -55,8 +56,10 @@ abbrev pub HasColumn : NumberedGraph → Option ℕ → Type 0
 HasColumn g None = ⊤
 HasColumn g (Some k) = k < length g.edge_columns
 
--- a store has room for all variables of a run and for its nodes, and the columns of edge properties are the graph's
+-- a store has room for all variables of a run and for its nodes, and the columns of edge properties and the rows of edges are the
+-- graph's
 pub record Fits (f : Setting) (h : Held) : Type 0 where
+  pub in_rows : AreRowsOf f.graph.now f.in_rows.now
   pub columns : All (λ c. HasColumn f.graph.now c.column) f.edges.now
   pub scalars : length h.scalars ≡ f.variables
   pub rows : length h.rows ≡ f.variables

@@ -13,6 +13,8 @@ ghost use Rattle.gm_loops.specs.Bounds.{bound_of};
 ghost use Rattle.gm_loops.specs.Goings.{Does, IsReady};
 ghost use Rattle.gm_loops.specs.Ranges.{step_of};
 ghost use Rattle.gm_loops.specs.Turns.{inner_turn, DoesTurns};
+ghost use Rattle.gm_graph.specs.Serving.{Serve};
+ghost use Rattle.gm_loops.specs.Asking.{goes_outward, reads_outward, runs_outward};
 
 use crate::around::{Around, Body, Mode};
 use crate::goings::Going;
@@ -30,6 +32,7 @@ impl Going {
     fn does_all(&mut self, stmts: &Vec<Stmt>, mode: Mode, around: &Around) -> Result<(), NoMemory>
         requires ready { IsReady around.now.setting.now self.old }
         requires bound { bound_of (program.sequence (map stmt_of stmts.now.items)) ≤ around.now.setting.now.variables }
+        requires asked { Serve around.now.setting.now.in_rows.now (goes_outward (program.sequence (map stmt_of stmts.now.items))) }
         ensures { OnOk result (Does around.now.setting.now (mode_in around.now mode) self.old self.new (does (program.sequence (map stmt_of stmts.now.items)) (mode_in around.now mode) (loop_of around.now))) }
     {
         for stmt in stmts {
@@ -43,10 +46,11 @@ impl Going {
 
     // What a statement of a body does.
     #[cycle(doing)]
-    #[tactic(auto, using(crate::proofs::Statements::block_bound, crate::proofs::Statements::first_bound, crate::proofs::Statements::other_bound, crate::proofs::Statements::body_bound, crate::proofs::Statements::iterator_bound))]
+    #[tactic(auto, using(crate::proofs::Statements::block_bound, crate::proofs::Statements::first_bound, crate::proofs::Statements::other_bound, crate::proofs::Statements::body_bound, crate::proofs::Statements::iterator_bound, crate::proofs::Serving::block_served, crate::proofs::Serving::declare_value, crate::proofs::Serving::assign_value, crate::proofs::Serving::defer_value, crate::proofs::Serving::reduce_values, crate::proofs::Serving::if_test, crate::proofs::Serving::if_first, crate::proofs::Serving::if_other, crate::proofs::Serving::foreach_range, crate::proofs::Serving::foreach_filter, crate::proofs::Serving::foreach_body))]
     pub(crate) fn does(&mut self, s: &Stmt, mode: Mode, around: &Around) -> Result<(), NoMemory>
         requires ready { IsReady around.now.setting.now self.old }
         requires bound { bound_of (stmt_of s.now) ≤ around.now.setting.now.variables }
+        requires asked { Serve around.now.setting.now.in_rows.now (goes_outward (stmt_of s.now)) }
         ensures { OnOk result (Does around.now.setting.now (mode_in around.now mode) self.old self.new (does (stmt_of s.now) (mode_in around.now mode) (loop_of around.now))) }
     {
         match s {
@@ -122,6 +126,9 @@ impl Going {
         requires ready { IsReady around.now.setting.now self.old }
         requires iterator { head.now.iterator < around.now.setting.now.variables }
         requires bound { bound_of (stmt_of body.now) ≤ around.now.setting.now.variables }
+        requires range_asked { Serve around.now.setting.now.in_rows.now (runs_outward head.now.domain) }
+        requires filter_asked { Serve around.now.setting.now.in_rows.now (reads_outward (expr_of filter.now)) }
+        requires body_asked { Serve around.now.setting.now.in_rows.now (goes_outward (stmt_of body.now)) }
         ensures { OnOk result ((at : Place) → Does around.now.setting.now iterations.Outermost self.old self.new
             (does (program.Foreach key at head.now (expr_of filter.now) (stmt_of body.now)) iterations.Outermost (loop_of around.now))) }
     {
@@ -143,6 +150,9 @@ impl Going {
         requires ready { IsReady around.now.setting.now self.old }
         requires iterator { head.now.iterator < around.now.setting.now.variables }
         requires bound { bound_of (stmt_of body.now) ≤ around.now.setting.now.variables }
+        requires range_asked { Serve around.now.setting.now.in_rows.now (runs_outward head.now.domain) }
+        requires filter_asked { Serve around.now.setting.now.in_rows.now (reads_outward (expr_of filter.now)) }
+        requires body_asked { Serve around.now.setting.now.in_rows.now (goes_outward (stmt_of body.now)) }
         ensures { IfOk result (λ fault. DoesTurns around.now.setting.now (iterations.AtEdge 0) self.old self.new fault
             (λ s. map (λ step. inner_turn (loop_of around.now) key (expr_of filter.now) (stmt_of body.now) head.now.iterator step s)
             (steps_in (view_in (loop_of around.now) iterations.Outermost (begun s) key) head.now))) }
@@ -171,6 +181,8 @@ impl Going {
         requires ready { IsReady around.now.setting.now self.old }
         requires iterator { iterator < around.now.setting.now.variables }
         requires bound { bound_of (stmt_of body.now) ≤ around.now.setting.now.variables }
+        requires filter_asked { Serve around.now.setting.now.in_rows.now (reads_outward (expr_of filter.now)) }
+        requires body_asked { Serve around.now.setting.now.in_rows.now (goes_outward (stmt_of body.now)) }
         ensures { OnOk result (DoesTurns around.now.setting.now (iterations.AtEdge 0) self.old self.new self.new.fault
             (λ s. inner_turn (loop_of around.now) key (expr_of filter.now) (stmt_of body.now) iterator (step_of around.now.setting.now.graph.now hop) s ∷ [])) }
     {
@@ -203,6 +215,8 @@ impl Going {
         requires ready { IsReady around.now.setting.now self.old }
         requires iterator { iterator < around.now.setting.now.variables }
         requires bound { bound_of (stmt_of body.now) ≤ around.now.setting.now.variables }
+        requires filter_asked { Serve around.now.setting.now.in_rows.now (reads_outward (expr_of filter.now)) }
+        requires body_asked { Serve around.now.setting.now.in_rows.now (goes_outward (stmt_of body.now)) }
         ensures { OnOk result (DoesTurns around.now.setting.now (iterations.AtEdge 0) self.old self.new self.new.fault
             (λ s. inner_turn (loop_of around.now) key (expr_of filter.now) (stmt_of body.now) iterator (step_of around.now.setting.now.graph.now hop) s ∷ [])) }
     {

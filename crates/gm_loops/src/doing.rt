@@ -1,6 +1,7 @@
 //! What single statements of a body do in an iteration.
 
 ghost use Rattle.std.specs.Prelude.{◌≡◌, ◌≤◌, ◌<◌, ◌∷◌, [], map, option_map, IfOk, OnOk, Ok, Some, None};
+ghost use Rattle.std.specs.List.{list_all};
 ghost use Rattle.gm_ast.specs.declared.tree.Key.{Key};
 ghost use Rattle.gm_ast.specs.Program as program;
 ghost use Rattle.gm_ast.specs.Tree.{expr_of};
@@ -12,6 +13,8 @@ ghost use Rattle.gm_loops.specs.Around.{loop_of, mode_in};
 ghost use Rattle.gm_loops.specs.Bounds.{target_bound, targets_bound};
 ghost use Rattle.gm_loops.specs.Goings.{Does, IsReady};
 ghost use Rattle.gm_loops.specs.Targets.{pair_of, AreSeveral};
+ghost use Rattle.gm_graph.specs.Serving.{Serve};
+ghost use Rattle.gm_loops.specs.Asking.{reads_outward, value_outward};
 
 use crate::around::{Around, Ends, Mode};
 use crate::goings::Going;
@@ -34,6 +37,7 @@ impl Going {
     ) -> Result<(), NoMemory>
         requires ready { IsReady around.now.setting.now self.old }
         requires bound { target_bound target.now ≤ around.now.setting.now.variables }
+        requires asked { Serve around.now.setting.now.in_rows.now (reads_outward (expr_of value.now)) }
         ensures { OnOk result (Does around.now.setting.now (mode_in around.now mode) self.old self.new (does (program.Assign key target.now (expr_of value.now)) (mode_in around.now mode) (loop_of around.now))) }
     {
         let answer = around.sight(mode, key).assigned(&self.store, target, value);
@@ -66,6 +70,7 @@ impl Going {
     ) -> Result<(), NoMemory>
         requires ready { IsReady around.now.setting.now self.old }
         requires bound { x < around.now.setting.now.variables }
+        requires asked { Serve around.now.setting.now.in_rows.now (reads_outward (expr_of value.now)) }
         ensures { OnOk result (Does around.now.setting.now (mode_in around.now mode) self.old self.new (does (program.Declare key x (Some (expr_of value.now))) (mode_in around.now mode) (loop_of around.now))) }
     {
         let answer = around.sight(mode, key).value(value, &self.store);
@@ -74,6 +79,7 @@ impl Going {
     }
 
     // A declaration.
+    #[tactic(auto, using(crate::proofs::Serving::some_value))]
     pub(crate) fn declare(
         &mut self,
         key: Key,
@@ -84,6 +90,7 @@ impl Going {
     ) -> Result<(), NoMemory>
         requires ready { IsReady around.now.setting.now self.old }
         requires bound { x < around.now.setting.now.variables }
+        requires asked { Serve around.now.setting.now.in_rows.now (value_outward (option_map expr_of value.now)) }
         ensures { OnOk result (Does around.now.setting.now (mode_in around.now mode) self.old self.new (does (program.Declare key x (option_map expr_of value.now)) (mode_in around.now mode) (loop_of around.now))) }
     {
         match value {
@@ -103,6 +110,7 @@ impl Going {
     ) -> Result<(), NoMemory>
         requires ready { IsReady around.now.setting.now self.old }
         requires bound { target_bound target.now ≤ around.now.setting.now.variables }
+        requires asked { Serve around.now.setting.now.in_rows.now (reads_outward (expr_of value.now)) }
         ensures { OnOk result (Does around.now.setting.now iterations.Outermost self.old self.new (does (program.Defer key target.now (expr_of value.now)) iterations.Outermost (loop_of around.now))) }
     {
         let answer = around
@@ -125,6 +133,7 @@ impl Going {
     ) -> Result<(), NoMemory>
         requires ready { IsReady around.now.setting.now self.old }
         requires bound { target_bound target.now ≤ around.now.setting.now.variables }
+        requires asked { Serve around.now.setting.now.in_rows.now (reads_outward (expr_of value.now)) }
         ensures { OnOk result (Does around.now.setting.now (mode_in around.now mode) self.old self.new (does (program.Combine key total reduce (target.now ∷ []) (expr_of value.now ∷ [])) (mode_in around.now mode) (loop_of around.now))) }
     {
         let sight = around.sight(mode, key);
@@ -160,6 +169,7 @@ impl Going {
         requires ready { IsReady around.now.setting.now self.old }
         requires bound { targets_bound targets.now ≤ around.now.setting.now.variables }
         requires several { AreSeveral targets.now values.now }
+        requires asked { Serve around.now.setting.now.in_rows.now (list_all reads_outward (map expr_of values.now)) }
         ensures { OnOk result (Does around.now.setting.now (mode_in around.now mode) self.old self.new (does (program.Combine key total reduce targets.now (map expr_of values.now)) (mode_in around.now mode) (loop_of around.now))) }
     {
         let sight = around.sight(mode, key);
@@ -190,6 +200,7 @@ impl Going {
     }
 
     // A reduction assignment to a list of targets. One with one target and one value goes a fast way.
+    #[tactic(auto, using(crate::proofs::Serving::value_item))]
     pub(crate) fn reduce_all(
         &mut self,
         key: Key,
@@ -202,6 +213,7 @@ impl Going {
     ) -> Result<(), NoMemory>
         requires ready { IsReady around.now.setting.now self.old }
         requires bound { targets_bound targets.now ≤ around.now.setting.now.variables }
+        requires asked { Serve around.now.setting.now.in_rows.now (list_all reads_outward (map expr_of values.now)) }
         ensures { OnOk result (Does around.now.setting.now (mode_in around.now mode) self.old self.new (does (program.Combine key total reduce targets.now (map expr_of values.now)) (mode_in around.now mode) (loop_of around.now))) }
     {
         if targets.len() == 1 && values.len() == 1 {

@@ -5,6 +5,8 @@ ghost use Rattle.gm_ast.specs.Tree.{expr_of};
 ghost use Rattle.gm_semantics.specs.Expressions.{evaluated};
 ghost use Rattle.gm_loops.specs.Sights.{view_of, Fits};
 ghost use Rattle.gm_loops.specs.Parts.{parts};
+ghost use Rattle.gm_graph.specs.Serving.{Serve};
+ghost use Rattle.gm_loops.specs.Asking.{reads_outward};
 
 use crate::parts::Evaluated;
 use crate::runnings::{Running, element, passes, reduce_of};
@@ -16,8 +18,10 @@ use gm_value::{Value, totals_have_room};
 
 impl Sight<'_> {
     // The value of an expression in two parts.
+    #[tactic(auto, using(crate::proofs::Serving::degree_way, crate::proofs::Serving::unary_inner, crate::proofs::Serving::binary_left, crate::proofs::Serving::binary_right, crate::proofs::Serving::both_left, crate::proofs::Serving::both_right, crate::proofs::Serving::either_left, crate::proofs::Serving::either_right, crate::proofs::Serving::choose_test, crate::proofs::Serving::choose_yes, crate::proofs::Serving::choose_no, crate::proofs::Serving::fold_range, crate::proofs::Serving::fold_filter, crate::proofs::Serving::fold_body))]
     pub(crate) fn evaluated(&self, e: &Expr, scope: &Scope, store: &Store) -> Evaluated
-        requires { Fits self.now.setting.now store.now }
+        requires fits { Fits self.now.setting.now store.now }
+        requires asked { Serve self.now.setting.now.in_rows.now (reads_outward (expr_of e.now)) }
         ensures { parts result ≡ evaluated (expr_of e.now) (view_of self.now scope.now store.now) }
     {
         match e {

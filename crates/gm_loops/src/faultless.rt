@@ -9,6 +9,8 @@ ghost use Rattle.gm_semantics.specs.Expressions.{evaluated, plain};
 ghost use Rattle.gm_store.specs.Held.{scalar_of};
 ghost use Rattle.gm_loops.specs.Scopes.{scalar_in};
 ghost use Rattle.gm_loops.specs.Sights.{view_of, Fits};
+ghost use Rattle.gm_graph.specs.Serving.{Serve};
+ghost use Rattle.gm_loops.specs.Asking.{reads_outward};
 
 use crate::columns::{compared, summed};
 use crate::parts::{Answer, is_true};
@@ -79,8 +81,10 @@ impl Sight<'_> {
     // The value of an expression of which nothing faults. Where it answers none, `evaluated` says what comes of it.
     #[cycle(finding)]
     #[inline(always)]
+    #[tactic(auto, using(crate::proofs::Serving::degree_way))]
     pub(crate) fn faultless(&self, e: &Expr, scope: &Scope, store: &Store) -> Option<Value>
-        requires { Fits self.now.setting.now store.now }
+        requires fits { Fits self.now.setting.now store.now }
+        requires asked { Serve self.now.setting.now.in_rows.now (reads_outward (expr_of e.now)) }
         ensures { IfSome result (λ v. evaluated (expr_of e.now) (view_of self.now scope.now store.now) ≡ plain (Ok v)) }
     {
         match e {
@@ -103,7 +107,7 @@ impl Sight<'_> {
                 ..
             } => {
                 let node = self.node_held(scope, store, *owner)?;
-                Some(degree_of(self.setting.graph, *direction, node))
+                Some(degree_of(self.setting, *direction, node))
             }
             Expr::NodeCount => Some(Value::I32(self.setting.graph.node_count() as i32)),
             Expr::EdgeCount => Some(Value::I32(self.setting.graph.edge_count() as i32)),
@@ -117,8 +121,10 @@ impl Sight<'_> {
 
     // The value of an operation or a reduction of which nothing faults.
     #[cycle(finding)]
+    #[tactic(auto, using(crate::proofs::Serving::unary_inner, crate::proofs::Serving::binary_left, crate::proofs::Serving::binary_right, crate::proofs::Serving::both_left, crate::proofs::Serving::both_right, crate::proofs::Serving::either_left, crate::proofs::Serving::either_right, crate::proofs::Serving::choose_test, crate::proofs::Serving::choose_yes, crate::proofs::Serving::choose_no))]
     fn faultless_operation(&self, e: &Expr, scope: &Scope, store: &Store) -> Option<Value>
-        requires { Fits self.now.setting.now store.now }
+        requires fits { Fits self.now.setting.now store.now }
+        requires asked { Serve self.now.setting.now.in_rows.now (reads_outward (expr_of e.now)) }
         ensures { IfSome result (λ v. evaluated (expr_of e.now) (view_of self.now scope.now store.now) ≡ plain (Ok v)) }
     {
         match e {
@@ -158,8 +164,10 @@ impl Sight<'_> {
 
     // The value of a reduction of which nothing faults.
     #[cycle(finding)]
+    #[tactic(auto, using(crate::proofs::Serving::fold_range, crate::proofs::Serving::fold_filter, crate::proofs::Serving::fold_body))]
     fn faultless_fold(&self, e: &Expr, scope: &Scope, store: &Store) -> Option<Value>
-        requires { Fits self.now.setting.now store.now }
+        requires fits { Fits self.now.setting.now store.now }
+        requires asked { Serve self.now.setting.now.in_rows.now (reads_outward (expr_of e.now)) }
         ensures { IfSome result (λ v. evaluated (expr_of e.now) (view_of self.now scope.now store.now) ≡ plain (Ok v)) }
     {
         if let Expr::Fold {

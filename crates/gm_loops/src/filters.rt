@@ -18,6 +18,8 @@ ghost use Rattle.gm_loops.specs.Goings.{IsReady};
 ghost use Rattle.gm_loops.specs.Shorts.{after_deed, IsOwn, IsWithin};
 ghost use Rattle.gm_loops.specs.Sights.{Fits};
 ghost use Rattle.gm_loops.specs.Turns.{seen};
+ghost use Rattle.gm_graph.specs.Serving.{Serve};
+ghost use Rattle.gm_loops.specs.Asking.{goes_outward, reads_outward};
 
 use crate::around::{Around, Mode};
 use crate::goings::Going;
@@ -82,6 +84,8 @@ impl Going {
         requires ready { IsReady around.now.setting.now self.now }
         requires bound { bound_of (body_of around.now.body) ≤ around.now.setting.now.variables }
         requires filter { IsFilter around.now key (expr_of filter.now) (seen around.now.setting.now self.now) passing.now }
+        requires filter_asked { Serve around.now.setting.now.in_rows.now (reads_outward (expr_of filter.now)) }
+        requires body_asked { Serve around.now.setting.now.in_rows.now (goes_outward (body_of around.now.body)) }
         ensures turn { let s = seen around.now.setting.now self.now in
             IfSome result (λ deed. turn_at (loop_of around.now) iterations.Outermost key (expr_of filter.now) (does (body_of around.now.body) iterations.Outermost (loop_of around.now)) around.now.outer node s
             ≡ after_deed deed (begun (write s (Scalar around.now.outer) (At (Some node))))) }

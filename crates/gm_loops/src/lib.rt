@@ -22,6 +22,7 @@
 #![tactic(auto)]
 
 mod around;
+mod asking;
 mod bodies;
 mod bounds;
 mod columns;
@@ -45,6 +46,7 @@ mod tuples;
 mod turns;
 
 pub use around::{Around, Body};
+pub use asking::goes_outward;
 pub use bounds::bound_of;
 pub use goings::Going;
 pub use loops::LoopNodes;

@@ -16,6 +16,8 @@ ghost use Rattle.gm_loops.specs.Goings.{Before, Does, IsReady};
 ghost use Rattle.gm_loops.specs.LoopEnds.{ended, nodes_in, AtRest, Finishes};
 ghost use Rattle.gm_loops.specs.Sights.{edges_in, Fits};
 ghost use Rattle.gm_loops.specs.Turns.{seen, DoesTurn, DoesTurns, Follows, KeepsOwn};
+ghost use Rattle.gm_graph.specs.Serving.{Serve};
+ghost use Rattle.gm_loops.specs.Asking.{goes_outward, reads_outward};
 
 use crate::around::{Around, Body, Mode};
 use crate::goings::Going;
@@ -68,6 +70,8 @@ impl Going {
         requires iterator { around.now.outer < around.now.setting.now.variables }
         requires bound { bound_of (body_of around.now.body) ≤ around.now.setting.now.variables }
         requires known { All (λ n. n < node_count around.now.setting.now.graph.now) (nodes_in nodes) }
+        requires filter_asked { Serve around.now.setting.now.in_rows.now (reads_outward (expr_of filter.now)) }
+        requires body_asked { Serve around.now.setting.now.in_rows.now (goes_outward (body_of around.now.body)) }
         ensures meaning { IfOk result (λ fault.
             ended fault (store_of (edges_in around.now.setting.now) self.new.store)
             ≡ parallel (loop_of around.now) key (expr_of filter.now) (body_of around.now.body) (nodes_in nodes.entry)
@@ -92,6 +96,8 @@ impl Going {
         requires iterator { around.now.outer < around.now.setting.now.variables }
         requires bound { bound_of (body_of around.now.body) ≤ around.now.setting.now.variables }
         requires known { All (λ n. n < node_count around.now.setting.now.graph.now) (nodes_in nodes) }
+        requires filter_asked { Serve around.now.setting.now.in_rows.now (reads_outward (expr_of filter.now)) }
+        requires body_asked { Serve around.now.setting.now.in_rows.now (goes_outward (body_of around.now.body)) }
         ensures meaning { IfOk result (λ fault.
             ended fault (store_of (edges_in around.now.setting.now) self.new.store)
             ≡ parallel (loop_of around.now) key (expr_of filter.now) (body_of around.now.body) (nodes_in nodes.entry)
@@ -122,6 +128,8 @@ impl Going {
         requires bound { bound_of (body_of around.now.body) ≤ around.now.setting.now.variables }
         requires filter { IsFilter around.now key (expr_of filter.now) (seen around.now.setting.now self.old) passing.now }
         requires none { own.old.items ≡ [] }
+        requires filter_asked { Serve around.now.setting.now.in_rows.now (reads_outward (expr_of filter.now)) }
+        requires body_asked { Serve around.now.setting.now.in_rows.now (goes_outward (body_of around.now.body)) }
         ensures turns { IfOk result (λ fault. DoesTurns around.now.setting.now iterations.Outermost self.old self.new fault
             (λ s. map (iteration (loop_of around.now) key (expr_of filter.now) (body_of around.now.body) s) (nodes_in nodes.entry))) }
         ensures own { let s = seen around.now.setting.now self.old in IfOk result (λ fault. KeepsOwn s own.new.items (nodes_in nodes.entry)
@@ -153,6 +161,8 @@ impl Going {
         requires bound { bound_of (body_of around.now.body) ≤ around.now.setting.now.variables }
         requires filter { IsFilter around.now key (expr_of filter.now) (seen around.now.setting.now self.old) passing.now }
         requires slots { All (λ w. HasSlot (shape_of self.old.store) w.slot) own.old.items }
+        requires filter_asked { Serve around.now.setting.now.in_rows.now (reads_outward (expr_of filter.now)) }
+        requires body_asked { Serve around.now.setting.now.in_rows.now (goes_outward (body_of around.now.body)) }
         ensures turn { OnOk result (DoesTurns around.now.setting.now iterations.Outermost self.old self.new self.new.fault
             (λ s. iteration (loop_of around.now) key (expr_of filter.now) (body_of around.now.body) s node ∷ [])) }
         ensures own { let s = seen around.now.setting.now self.old in
@@ -184,6 +194,8 @@ impl Going {
         requires iterator { around.now.outer < around.now.setting.now.variables }
         requires bound { bound_of (body_of around.now.body) ≤ around.now.setting.now.variables }
         requires slots { All (λ w. HasSlot (shape_of self.old.store) w.slot) own.old.items }
+        requires filter_asked { Serve around.now.setting.now.in_rows.now (reads_outward (expr_of filter.now)) }
+        requires body_asked { Serve around.now.setting.now.in_rows.now (goes_outward (body_of around.now.body)) }
         ensures turn { OnOk result (DoesTurns around.now.setting.now iterations.Outermost self.old self.new self.new.fault
             (λ s. iteration (loop_of around.now) key (expr_of filter.now) (body_of around.now.body) s node ∷ [])) }
         ensures own { let s = seen around.now.setting.now self.old in
@@ -208,6 +220,8 @@ impl Going {
         requires ready { IsReady around.now.setting.now self.old }
         requires iterator { around.now.outer < around.now.setting.now.variables }
         requires bound { bound_of (body_of around.now.body) ≤ around.now.setting.now.variables }
+        requires filter_asked { Serve around.now.setting.now.in_rows.now (reads_outward (expr_of filter.now)) }
+        requires body_asked { Serve around.now.setting.now.in_rows.now (goes_outward (body_of around.now.body)) }
         ensures { OnOk result (DoesTurn around.now.setting.now iterations.Outermost self.old self.new
             (λ s. iteration (loop_of around.now) key (expr_of filter.now) (body_of around.now.body) s node)) }
     {
@@ -221,6 +235,7 @@ impl Going {
     fn does_body(&mut self, around: &Around) -> Result<(), NoMemory>
         requires ready { IsReady around.now.setting.now self.old }
         requires bound { bound_of (body_of around.now.body) ≤ around.now.setting.now.variables }
+        requires asked { Serve around.now.setting.now.in_rows.now (goes_outward (body_of around.now.body)) }
         ensures { OnOk result (Does around.now.setting.now iterations.Outermost self.old self.new (does (body_of around.now.body) iterations.Outermost (loop_of around.now))) }
     {
         match around.body {

@@ -1,7 +1,8 @@
 //! Iterations that do one thing, of which nothing faults: they are done without the store.
 
-ghost use Rattle.std.specs.Prelude.{◌≡◌, ◌≤◌, ◌<◌, ◌∷◌, ◌++◌, [], ℕ, Some, None, IfSome, OnOk};
+ghost use Rattle.std.specs.Prelude.{◌≡◌, ◌≤◌, ◌<◌, ◌∷◌, ◌++◌, [], ℕ, Option, Some, None, IfSome, OnOk};
 ghost use Rattle.gm_value.specs.declared.values.Value.TheVariants.{At};
+ghost use Rattle.gm_model.specs.Graphs.{NumberedGraph};
 ghost use Rattle.gm_ast.specs.Tree.{expr_of, stmt_of};
 ghost use Rattle.gm_ast.specs.Program as program;
 ghost use Rattle.gm_semantics.specs.declared.slots.Slot.TheVariants.{Scalar};
@@ -17,6 +18,8 @@ ghost use Rattle.gm_loops.specs.Scopes.{inside};
 ghost use Rattle.gm_loops.specs.Sights.{edges_in};
 ghost use Rattle.gm_loops.specs.Shorts.{after_deed, own_of, IsOwn, IsWithin};
 ghost use Rattle.gm_loops.specs.Turns.{seen, DoesTurns};
+ghost use Rattle.gm_graph.specs.Serving.{Serve};
+ghost use Rattle.gm_loops.specs.Asking.{goes_outward, reads_outward};
 
 use crate::around::{Around, Body, Ends, Mode};
 use crate::goings::{Going, contribution};
@@ -39,9 +42,11 @@ pub(crate) enum Deed {
 
 // The statement of a block of one, which may stand behind the declaration of an edge. Others are their own.
 #[inline(always)]
+#[tactic(auto, using(crate::proofs::Serving::block_served, crate::proofs::Serving::stmt_item))]
 fn lone(s: &Stmt) -> &Stmt
     ensures does { (m : iterations.Mode) (loop : Loop) (it : Iteration) → it.fault ≡ None → does (stmt_of result.now) m loop it ≡ does (stmt_of s.now) m loop it }
     ensures bound { bound_of (stmt_of result.now) ≤ bound_of (stmt_of s.now) }
+    ensures asked { (rows : Option NumberedGraph) → Serve rows (goes_outward (stmt_of s.now)) → Serve rows (goes_outward (stmt_of result.now)) }
 {
     match s {
         Stmt::Block(stmts) => {
@@ -88,6 +93,7 @@ impl Going {
     ) -> Option<Deed>
         requires ready { IsReady around.now.setting.now self.now }
         requires bound { target_bound target.now ≤ around.now.setting.now.variables }
+        requires asked { Serve around.now.setting.now.in_rows.now (reads_outward (expr_of value.now)) }
         ensures does { let it = begun (inside scope.now (store_of (edges_in around.now.setting.now) self.now.store)) in
             IfSome result (λ deed. does (program.Assign key target.now (expr_of value.now)) (mode_in around.now mode) (loop_of around.now) it ≡ after_deed deed it) }
         ensures within { IfSome result (IsWithin (shape_of self.now.store)) }
@@ -118,6 +124,7 @@ impl Going {
     ) -> Option<Deed>
         requires ready { IsReady around.now.setting.now self.now }
         requires bound { target_bound target.now ≤ around.now.setting.now.variables }
+        requires asked { Serve around.now.setting.now.in_rows.now (reads_outward (expr_of value.now)) }
         ensures does { let it = begun (inside scope.now (store_of (edges_in around.now.setting.now) self.now.store)) in
             IfSome result (λ deed. does (program.Combine key total reduce (target.now ∷ []) (expr_of value.now ∷ [])) (mode_in around.now mode) (loop_of around.now) it ≡ after_deed deed it) }
         ensures within { IfSome result (IsWithin (shape_of self.now.store)) }
@@ -134,6 +141,7 @@ impl Going {
 
     // What a statement of a body does, if it is one deed and nothing faults.
     #[inline(always)]
+    #[tactic(auto, using(crate::proofs::Serving::assign_value, crate::proofs::Serving::reduce_values, crate::proofs::Serving::value_item))]
     fn deed_of(
         &self,
         s: &Stmt,
@@ -144,6 +152,7 @@ impl Going {
     ) -> Option<Deed>
         requires ready { IsReady around.now.setting.now self.now }
         requires bound { bound_of (stmt_of s.now) ≤ around.now.setting.now.variables }
+        requires asked { Serve around.now.setting.now.in_rows.now (goes_outward (stmt_of s.now)) }
         ensures does { let it = begun (inside scope.now (store_of (edges_in around.now.setting.now) self.now.store)) in
             IfSome result (λ deed. does (stmt_of s.now) (mode_in around.now mode) (loop_of around.now) it ≡ after_deed deed it) }
         ensures within { IfSome result (IsWithin (shape_of self.now.store)) }
@@ -191,6 +200,7 @@ impl Going {
     ) -> Option<Deed>
         requires ready { IsReady around.now.setting.now self.now }
         requires bound { bound_of (body_of body) ≤ around.now.setting.now.variables }
+        requires asked { Serve around.now.setting.now.in_rows.now (goes_outward (body_of body)) }
         ensures does { let it = begun (inside scope.now (store_of (edges_in around.now.setting.now) self.now.store)) in
             IfSome result (λ deed. does (body_of body.entry) (mode_in around.now mode) (loop_of around.now) it ≡ after_deed deed it) }
         ensures within { IfSome result (IsWithin (shape_of self.now.store)) }
@@ -218,6 +228,8 @@ impl Going {
     ) -> Option<Deed>
         requires ready { IsReady around.now.setting.now self.now }
         requires bound { bound_of (body_of body) ≤ around.now.setting.now.variables }
+        requires filter_asked { Serve around.now.setting.now.in_rows.now (reads_outward (expr_of filter.now)) }
+        requires body_asked { Serve around.now.setting.now.in_rows.now (goes_outward (body_of body)) }
         ensures turn { let s = seen around.now.setting.now self.now in
             IfSome result (λ deed. turn_at (loop_of around.now) (mode_in around.now mode) key (expr_of filter.now) (does (body_of body.entry) (mode_in around.now mode) (loop_of around.now)) iterator node s
             ≡ after_deed deed (begun (write s (Scalar iterator) (At (Some node))))) }

@@ -9,12 +9,14 @@ ghost use Rattle.gm_semantics.specs.Expressions.{View, node_of, at_node, degree_
 ghost use Rattle.gm_store.specs.Held.{scalar_of, node_of as held_node};
 ghost use Rattle.gm_loops.specs.Scopes.{scalar_in};
 ghost use Rattle.gm_loops.specs.Sights.{edges_in, values_in, view_of, Fits};
+ghost use Rattle.gm_graph.specs.Serving.{AreRowsOf, Serve};
+ghost use Rattle.gm_loops.specs.Asking.{counts_outward};
 
 use crate::parts::Answer;
 use crate::scopes::Scope;
 use gm_ast::tree::{Declaration, Direction, Key};
 use gm_base::Place;
-use gm_graph::Graph;
+use gm_graph::{Graph, InRows};
 use gm_levels::Levels;
 use gm_semantics::faults::Fault;
 use gm_store::Store;
@@ -28,11 +30,13 @@ pub struct EdgeColumn {
     pub first: Value,
 }
 
-/// What stays the same over a run: the graph, the declarations, the columns of edge properties by variable, how many
-/// scalars and rows the store has, and the bound on turns.
+/// What stays the same over a run: the graph, the rows of the edges that lead to nodes, where the program asks for them, the
+/// declarations, the columns of edge properties by variable, how many scalars and rows the store has, and the bound on
+/// turns.
 #[derive(Clone, Copy)]
 pub struct Setting<'a> {
     pub graph: &'a Graph,
+    pub in_rows: &'a Option<InRows<'a>>,
     pub declarations: &'a [Declaration],
     pub edges: &'a [EdgeColumn],
     pub variables: usize,
@@ -63,13 +67,18 @@ fn edge_value(graph: &Graph, column: &EdgeColumn, row: Option<u32>) -> Value
 
 // How many edges lead from a node, or to it.
 #[inline(always)]
-pub(crate) fn degree_of(graph: &Graph, direction: Direction, node: u32) -> Value
-    requires { node < node_count graph.now }
-    ensures { (w : View) → w.graph ≡ graph.now → result ≡ degree_of w direction node }
+pub(crate) fn degree_of(setting: &Setting, direction: Direction, node: u32) -> Value
+    requires node { node < node_count setting.now.graph.now }
+    requires rows { AreRowsOf setting.now.graph.now setting.now.in_rows.now }
+    requires asked { Serve setting.now.in_rows.now (counts_outward direction) }
+    ensures { (w : View) → w.graph ≡ setting.now.graph.now → result ≡ degree_of w direction node }
 {
     match direction {
-        Direction::Out => Value::I32(graph.out_degree(node) as i32),
-        Direction::In => Value::I32(graph.in_degree(node) as i32),
+        Direction::Out => Value::I32(setting.graph.out_degree(node) as i32),
+        Direction::In => match setting.in_rows {
+            Some(rows) => Value::I32(rows.degree(node) as i32),
+            None => unreachable!(),
+        },
     }
 }
 
@@ -179,11 +188,12 @@ impl Sight<'_> {
         x: u32,
         place: Place,
     ) -> Answer
-        requires { Fits self.now.setting.now store.now }
+        requires fits { Fits self.now.setting.now store.now }
+        requires asked { Serve self.now.setting.now.in_rows.now (counts_outward direction) }
         ensures { let w = view_of self.now scope.now store.now in result ≡ at_node w x place (degree_of w direction) }
     {
         match self.node_of(scope, store, x, place) {
-            Ok(node) => Ok(degree_of(self.setting.graph, direction, node)),
+            Ok(node) => Ok(degree_of(self.setting, direction, node)),
             Err(fault) => Err(fault),
         }
     }

@@ -13,6 +13,8 @@ ghost use Rattle.gm_loops.specs.Parts.{parts};
 ghost use Rattle.gm_loops.specs.Scopes.{no_scope};
 ghost use Rattle.gm_loops.specs.Sights.{view_of, Fits};
 ghost use Rattle.gm_loops.specs.Targets.{pair_of, put_together, room};
+ghost use Rattle.gm_graph.specs.Serving.{Serve};
+ghost use Rattle.gm_loops.specs.Asking.{reads_outward};
 
 use crate::parts::{Answer, Evaluated};
 use crate::scopes::Scope;
@@ -58,7 +60,8 @@ fn put_together(
 impl Sight<'_> {
     // The value of an expression in two parts. Most expressions fault nowhere: the parts are asked for where one may.
     pub(crate) fn parts_of(&self, e: &Expr, store: &Store) -> Evaluated
-        requires { Fits self.now.setting.now store.now }
+        requires fits { Fits self.now.setting.now store.now }
+        requires asked { Serve self.now.setting.now.in_rows.now (reads_outward (expr_of e.now)) }
         ensures { parts result ≡ evaluated (expr_of e.now) (view_of self.now no_scope store.now) }
     {
         match self.faultless(e, &Scope::Nothing, store) {
@@ -69,7 +72,8 @@ impl Sight<'_> {
 
     // The value of an expression, or its fault.
     pub fn value(&self, e: &Expr, store: &Store) -> Answer
-        requires { Fits self.now.setting.now store.now }
+        requires fits { Fits self.now.setting.now store.now }
+        requires asked { Serve self.now.setting.now.in_rows.now (reads_outward (expr_of e.now)) }
         ensures { result ≡ value (expr_of e.now) (view_of self.now no_scope store.now) }
     {
         self.parts_of(e, store).settled()
@@ -96,7 +100,8 @@ impl Sight<'_> {
 
     // A target's slot, and the value of an expression for it.
     pub fn assigned(&self, store: &Store, target: &Target, e: &Expr) -> Result<Write, Fault>
-        requires { Fits self.now.setting.now store.now }
+        requires fits { Fits self.now.setting.now store.now }
+        requires asked { Serve self.now.setting.now.in_rows.now (reads_outward (expr_of e.now)) }
         ensures pair { let w = view_of self.now no_scope store.now in pair_of result ≡ assigned w target.now (evaluated (expr_of e.now) w) }
         ensures known { IfOk result (λ w. HasSlot (room (node_count self.now.setting.now.graph.now) (target_bound target.now)) w.slot) }
     {
@@ -133,7 +138,8 @@ impl Sight<'_> {
         target: &Target,
         e: &Expr,
     ) -> Option<Write>
-        requires { Fits self.now.setting.now store.now }
+        requires fits { Fits self.now.setting.now store.now }
+        requires asked { Serve self.now.setting.now.in_rows.now (reads_outward (expr_of e.now)) }
         ensures pair { let w = view_of self.now scope.now store.now in IfSome result (λ found. assigned w target.now (evaluated (expr_of e.now) w) ≡ Ok (found.slot, found.value)) }
         ensures known { IfSome result (λ w. HasSlot (room (node_count self.now.setting.now.graph.now) (target_bound target.now)) w.slot) }
     {
@@ -171,7 +177,8 @@ impl Sight<'_> {
         target: &Target,
         e: &Expr,
     ) -> Result<Write, Fault>
-        requires { Fits self.now.setting.now store.now }
+        requires fits { Fits self.now.setting.now store.now }
+        requires asked { Serve self.now.setting.now.in_rows.now (reads_outward (expr_of e.now)) }
         ensures pair { alone (pair_of result) ≡ at_once (view_of self.now no_scope store.now) place reduce (target.now ∷ []) (expr_of e.now ∷ []) }
         ensures known { IfOk result (λ w. HasSlot (room (node_count self.now.setting.now.graph.now) (target_bound target.now)) w.slot) }
     {

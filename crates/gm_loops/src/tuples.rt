@@ -1,6 +1,7 @@
 //! Argument reductions: several targets that count as one, with a value for each.
 
 ghost use Rattle.std.specs.Prelude.{◌≡◌, [], All, IfOk, None, Ok, map};
+ghost use Rattle.std.specs.List.{list_all};
 ghost use Rattle.gm_model.specs.Graphs.{node_count};
 ghost use Rattle.gm_ast.specs.Tree.{expr_of};
 ghost use Rattle.gm_semantics.specs.Expressions.{evaluated_all};
@@ -11,6 +12,8 @@ ghost use Rattle.gm_loops.specs.Parts.{parts};
 ghost use Rattle.gm_loops.specs.Scopes.{no_scope};
 ghost use Rattle.gm_loops.specs.Sights.{view_of, Fits};
 ghost use Rattle.gm_loops.specs.Targets.{all_parts, closed_by_one, items_of, and_next, rest_and_one, room, tuple_of};
+ghost use Rattle.gm_graph.specs.Serving.{Serve};
+ghost use Rattle.gm_loops.specs.Asking.{reads_outward};
 
 use crate::parts::{Answer, Evaluated, first};
 use crate::sights::Sight;
@@ -78,13 +81,15 @@ impl AllEvaluated {
 
 impl Sight<'_> {
     // The values of several expressions, from left to right.
+    #[tactic(auto, using(crate::proofs::Serving::value_item))]
     fn evaluated_all(
         &self,
         alloc: Global,
         es: &[Expr],
         store: &Store,
     ) -> Result<AllEvaluated, NoMemory>
-        requires { Fits self.now.setting.now store.now }
+        requires fits { Fits self.now.setting.now store.now }
+        requires asked { Serve self.now.setting.now.in_rows.now (list_all reads_outward (map expr_of es.now)) }
         ensures { IfOk result (λ all. all_parts all ≡ evaluated_all (map expr_of es.now) (view_of self.now no_scope store.now)) }
     {
         let mut all = AllEvaluated::none(alloc);
@@ -166,7 +171,8 @@ impl Sight<'_> {
         targets: &[Target],
         es: &[Expr],
     ) -> Result<Result<Tuple, Fault>, NoMemory>
-        requires { Fits self.now.setting.now store.now }
+        requires fits { Fits self.now.setting.now store.now }
+        requires asked { Serve self.now.setting.now.in_rows.now (list_all reads_outward (map expr_of es.now)) }
         ensures pair { let w = view_of self.now no_scope store.now in
             IfOk result (λ answer. tuple_of answer ≡ assigned_all w targets.now (evaluated_all (map expr_of es.now) w)) }
         ensures known { IfOk result (λ answer. IfOk answer (λ t. All (HasSlot (room (node_count self.now.setting.now.graph.now) (targets_bound targets.now))) t.slots.items)) }
@@ -215,7 +221,8 @@ impl Sight<'_> {
         targets: &[Target],
         es: &[Expr],
     ) -> Result<Result<Tuple, Fault>, NoMemory>
-        requires { Fits self.now.setting.now store.now }
+        requires fits { Fits self.now.setting.now store.now }
+        requires asked { Serve self.now.setting.now.in_rows.now (list_all reads_outward (map expr_of es.now)) }
         ensures pair { IfOk result (λ answer. tuple_of answer ≡ together (view_of self.now no_scope store.now) place reduce targets.now (map expr_of es.now)) }
         ensures known { IfOk result (λ answer. IfOk answer (λ t. All (HasSlot (room (node_count self.now.setting.now.graph.now) (targets_bound targets.now))) t.slots.items)) }
     {

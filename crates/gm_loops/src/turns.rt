@@ -12,6 +12,8 @@ ghost use Rattle.gm_loops.specs.Goings.{IsReady};
 ghost use Rattle.gm_loops.specs.Parts.{sooner};
 ghost use Rattle.gm_loops.specs.Ranges.{step_of};
 ghost use Rattle.gm_loops.specs.Turns.{seen, Begins, Closes, Keeps, Overlays};
+ghost use Rattle.gm_graph.specs.Serving.{Serve};
+ghost use Rattle.gm_loops.specs.Asking.{reads_outward, runs_outward};
 
 use crate::around::{Around, Mode};
 use crate::goings::Going;
@@ -72,6 +74,7 @@ impl Going {
     ) -> Result<bool, NoMemory>
         requires ready { IsReady around.now.setting.now self.old }
         requires bound { iterator < around.now.setting.now.variables }
+        requires asked { Serve around.now.setting.now.in_rows.now (reads_outward (expr_of filter.now)) }
         ensures { IfOk result (λ passed. Begins around.now.setting.now (mode_in around.now mode) self.old self.new passed
             (λ body s. turn_at (loop_of around.now) (mode_in around.now mode) key (expr_of filter.now) body iterator node s)) }
     {
@@ -96,7 +99,8 @@ impl Going {
         head: &Head,
         around: &Around,
     ) -> Result<Vec<Hop>, NoMemory>
-        requires { IsReady around.now.setting.now self.old }
+        requires ready { IsReady around.now.setting.now self.old }
+        requires asked { Serve around.now.setting.now.in_rows.now (runs_outward head.now.domain) }
         ensures steps { IfOk result (λ hops. map (step_of around.now.setting.now.graph.now) hops.items
             ≡ steps_in (view_in (loop_of around.now) Outermost (begun (seen around.now.setting.now self.old)) key) head.now) }
         ensures keeps { Keeps self.old self.new }

@@ -1,3 +1,4 @@
+pub mod Serving
 pub mod LineSteps
 pub mod Outside
 pub mod LeastLaws

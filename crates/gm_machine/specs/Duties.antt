@@ -8,6 +8,7 @@ use Rattle.gm_machine.specs.declared.node_steps.Duty.{Duty}
 use Rattle.gm_machine.specs.declared.node_steps.Nodes.{Nodes}
 use Rattle.gm_machine.specs.declared.node_steps.Nodes.TheVariants.{All, These}
 use Rattle.gm_machine.specs.declared.steps.Sent.{Sent}
+use Rattle.gm_machine.specs.Asking.{IsServed}
 use Rattle.gm_machine.specs.Faults.{lesser, least_fault}
 use Rattle.gm_machine.specs.Fields.{HeldFields}
 use Rattle.gm_machine.specs.Masters.{FitsGraph}
@@ -28,9 +29,11 @@ node_of (These nodes) place = slice_index nodes.now place
 abbrev pub AreNodes : NumberedGraph → Nodes → Type 0
 AreNodes g nodes = (place : ℕ) → place < places_of nodes → HasNode g (node_of nodes place)
 
--- a duty that an image asks of a graph: the graph has the image's columns, and the block's handlers set no field
+-- a duty that an image asks of a graph: the graph has the image's columns and the rows for which it asks, and the block's handlers
+-- set no field
 pub record IsDuty (d : Duty) : Type 0 where
   pub columns : FitsGraph d.image.now d.graph.now
+  pub served : IsServed (program d.image.now) d.graph.now d.in_rows.now
   pub keeps : KeepsFields (program d.image.now) d.block
 
 -- the step of the node at a place, with the messages to each place and the fields before

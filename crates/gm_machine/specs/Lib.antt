@@ -1,4 +1,5 @@
 pub mod Faults
+pub mod Asking
 pub mod Expressions
 pub mod Taking
 pub mod Contributions

@@ -8,6 +8,8 @@ use Rattle.gm_machine.specs.declared.masters.MasterSegment.TheVariants as segmen
 use Rattle.gm_machine.specs.declared.masters.Lead as D
 use Rattle.gm_machine.specs.declared.masters.Lead.TheVariants as leads
 use Rattle.gm_machine.specs.declared.masters.Master.{Master}
+use Rattle.gm_machine.specs.declared.masters.MasterList.{MasterList}
+use Rattle.gm_graph.specs.Serving.{AreRowsOf}
 use Rattle.gm_machine.specs.declared.masters.MasterStop.{MasterStop}
 use Rattle.gm_machine.specs.declared.masters.MasterStop.TheVariants as stops
 use Rattle.gm_machine.specs.VertexViews.{HasColumns}
@@ -16,6 +18,10 @@ use Rattle.gm_machine.specs.Machine.{Control, Pause, Stops, Steps, MasterSegment
 -- a graph has the edge columns that an image declares
 abbrev pub FitsGraph : Image → NumberedGraph → Type 0
 FitsGraph image g = HasColumns g (length image.columns)
+
+-- a graph has the edge columns that a master list counts on, and the rows that it has are the graph's
+abbrev pub IsListSupplied : MasterList → Type 0
+IsListSupplied l = HasColumns l.graph.now l.columns × AreRowsOf l.graph.now l.in_rows.now
 
 abbrev pub control : List Value → ℕ → Control
 control globals turns = record { globals = globals; turns = turns }

@@ -6,6 +6,7 @@ use Rattle.gm_image.specs.Program.{Block, Direction, Out, In}
 use Rattle.gm_image.specs.Views.{handler, line}
 use Rattle.gm_machine.specs.declared.bodies.BlockCode as T
 use Rattle.gm_machine.specs.declared.faults.Fault.{Fault}
+use Rattle.gm_graph.specs.Serving.{AreRowsOf}
 use Rattle.gm_machine.specs.Taking.{Contribution}
 use Rattle.gm_machine.specs.declared.expressions.VertexContext as S
 use Rattle.gm_machine.specs.declared.lines.VertexState as W
@@ -16,6 +17,10 @@ use Rattle.gm_machine.specs.Vertex.{Message, VertexContext, VertexState, After}
 -- a graph has so many edge columns
 abbrev pub HasColumns : NumberedGraph → ℕ → Type 0
 HasColumns g columns = columns ≡ length g.edge_columns
+
+-- a graph has the edge columns of a context, whose rows are the graph's
+abbrev pub IsSupplied : S.VertexContext → Type 0
+IsSupplied s = HasColumns s.graph.now s.columns × AreRowsOf s.graph.now s.in_rows.now
 
 -- what an expression sees, and what a vertex changes
 abbrev pub context_of : S.VertexContext → VertexContext

@@ -1,11 +1,14 @@
 //! Bodies, handlers, and the whole step of a vertex.
 
-ghost use Rattle.std.specs.Prelude.{◌≡◌, ℕ, true, IfOk, All, map, []};
+ghost use Rattle.std.specs.List.{list_all};
+ghost use Rattle.std.specs.Prelude.{◌≡◌, ◌&&◌, ℕ, true, IfOk, All, map, []};
 ghost use Rattle.gm_value.specs.Numbers.{zero_of};
 ghost use Rattle.gm_model.specs.Graphs.{HasNode};
 ghost use Rattle.gm_image.specs.Views.{program, handler, line};
+ghost use Rattle.gm_graph.specs.Serving.{Serve};
+ghost use Rattle.gm_machine.specs.Asking.{block_outward, handler_outward, line_outward, runs_outward};
 ghost use Rattle.gm_machine.specs.Batches.{IsWithin, message_of};
-ghost use Rattle.gm_machine.specs.VertexViews.{HasColumns, context_of, code_of, state_of, after_line, after_lines, after_behind, direction};
+ghost use Rattle.gm_machine.specs.VertexViews.{IsSupplied, context_of, code_of, state_of, after_line, after_lines, after_behind, direction};
 ghost use Rattle.gm_machine.specs.Machine.{block_at};
 ghost use Rattle.gm_machine.specs.Vertex.{VertexState as AntState, never_sets, ended, folded, each_after, line_after, lines_after, body_line_after, body_after, begun, handler_lines, handler_run, gathered, vertex_after};
 
@@ -78,6 +81,7 @@ fn take_folds(
 }
 
 // Runs an each of n of the lines that follow it, and takes its folds.
+#[tactic(auto, using(crate::proofs::Serving::each_front))]
 fn run_each(
     places: usize,
     out: bool,
@@ -86,7 +90,8 @@ fn run_each(
     context: &VertexContext,
     state: &mut VertexState,
 ) -> Result<LineEnd, NoMemory>
-    requires columns { HasColumns context.now.graph.now context.now.columns }
+    requires supplied { IsSupplied context.now }
+    requires asked { Serve context.now.in_rows.now (runs_outward (direction out) && list_all line_outward (map line rest.now)) }
     requires node { HasNode context.now.graph.now context.now.node }
     ensures { IfOk result (λ end. after_line (state_of state.new) end
         ≡ folded places (each_after (context_of context.now) (direction out) n (map line rest.now) (state_of state.old))) }
@@ -104,7 +109,8 @@ fn run_fold(
     context: &VertexContext,
     state: &mut VertexState,
 ) -> Result<LineEnd, NoMemory>
-    requires { HasColumns context.now.graph.now context.now.columns }
+    requires supplied { IsSupplied context.now }
+    requires asked { Serve context.now.in_rows.now (line_outward (line l.now)) }
     ensures { IfOk result (λ end. after_line (state_of state.new) end
         ≡ folded places (line_after (context_of context.now) (line l.now) (state_of state.old))) }
 {
@@ -115,6 +121,7 @@ fn run_fold(
 }
 
 // Runs a line of a body, before the lines that follow it.
+#[tactic(auto, using(gm_graph::proofs::Serving::left, gm_graph::proofs::Serving::right))]
 fn run_body_line(
     places: usize,
     l: &VertexLine,
@@ -122,7 +129,8 @@ fn run_body_line(
     context: &VertexContext,
     state: &mut VertexState,
 ) -> Result<LineEnd, NoMemory>
-    requires columns { HasColumns context.now.graph.now context.now.columns }
+    requires supplied { IsSupplied context.now }
+    requires asked { Serve context.now.in_rows.now (line_outward (line l.now) && list_all line_outward (map line rest.now)) }
     requires node { HasNode context.now.graph.now context.now.node }
     ensures { IfOk result (λ end. after_line (state_of state.new) end
         ≡ body_line_after places (context_of context.now) (line l.now) (map line rest.now) (state_of state.old)) }
@@ -146,7 +154,8 @@ fn run_body(
     context: &VertexContext,
     state: &mut VertexState,
 ) -> Result<Option<Fault>, NoMemory>
-    requires columns { HasColumns context.now.graph.now context.now.columns }
+    requires supplied { IsSupplied context.now }
+    requires asked { Serve context.now.in_rows.now (list_all line_outward (map line body.now)) }
     requires node { HasNode context.now.graph.now context.now.node }
     ensures { IfOk result (λ f. after_lines (state_of state.new) f
         ≡ body_after places (context_of context.now) (map line body.now) 0 (state_of state.old)) }
@@ -178,6 +187,7 @@ fn lines_for(handlers: &[Handler], kind: u32) -> &[VertexLine]
 }
 
 // Runs the handler of a message with its registers at zero, to its end or its first fault.
+#[tactic(auto, using(crate::proofs::Serving::kind_served))]
 fn run_handler(
     handlers: &[Handler],
     registers: &[VType],
@@ -186,7 +196,8 @@ fn run_handler(
     context: &VertexContext,
     state: &mut VertexState,
 ) -> Result<Option<Fault>, NoMemory>
-    requires { HasColumns context.now.graph.now context.now.columns }
+    requires supplied { IsSupplied context.now }
+    requires asked { Serve context.now.in_rows.now (list_all handler_outward (map handler handlers.now)) }
     ensures { IfOk result (λ f. after_lines (state_of state.new) f
         ≡ lines_after (record (context_of context.now) { message = message.now }) (handler_lines (map handler handlers.now) kind) 0
         (record (state_of state.old) { registers = map zero_of registers.now })) }
@@ -213,7 +224,8 @@ fn run_handlers(
     context: &VertexContext,
     state: &mut VertexState,
 ) -> Result<Option<Fault>, NoMemory>
-    requires columns { HasColumns context.now.graph.now context.now.columns }
+    requires supplied { IsSupplied context.now }
+    requires asked { Serve context.now.in_rows.now (list_all handler_outward (map handler handlers.now)) }
     requires keeps { (kind : ℕ) → never_sets (handler_lines (map handler handlers.now) kind) ≡ true }
     requires within { All (IsWithin values.now) headers.now }
     requires no_folds { state.old.folds ≡ [] }
@@ -236,6 +248,7 @@ fn run_handlers(
 
 /// The step of a vertex: the handlers of its messages, and then the body unless something faulted. What it sends and
 /// puts comes behind what was sent and put before. The row is room for the values of a message.
+#[tactic(auto, using(gm_graph::proofs::Serving::left, gm_graph::proofs::Serving::right))]
 pub(crate) fn run_vertex(
     image: &Image,
     code: BlockCode,
@@ -245,7 +258,8 @@ pub(crate) fn run_vertex(
     context: &VertexContext,
     state: &mut VertexState,
 ) -> Result<Option<Fault>, NoMemory>
-    requires columns { HasColumns context.now.graph.now context.now.columns }
+    requires supplied { IsSupplied context.now }
+    requires asked { Serve context.now.in_rows.now (block_outward (code_of code)) }
     requires node { HasNode context.now.graph.now context.now.node }
     requires keeps { (kind : ℕ) → never_sets (handler_lines (code_of code).handlers kind) ≡ true }
     requires within { All (IsWithin values.now) headers.now }

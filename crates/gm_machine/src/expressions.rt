@@ -1,6 +1,6 @@
 //! The values of expressions.
 
-ghost use Rattle.std.specs.Prelude.{◌≡◌, ◌≤◌, ◌<◌, length, Ok, IfSome};
+ghost use Rattle.std.specs.Prelude.{◌≡◌, ◌≤◌, ◌<◌, ◌&&◌, false, length, Ok, IfSome};
 ghost use Rattle.gm_value.specs.Numbers.{number_of};
 ghost use Rattle.gm_value.specs.declared.values.Value.TheVariants.{I32};
 ghost use Rattle.gm_value.specs.Operations.{is_true, result2};
@@ -11,18 +11,22 @@ ghost use Rattle.gm_image.specs.Term.{NodeAt, Live, And, Or, Choose};
 ghost use Rattle.gm_machine.specs.Faults.{at_place};
 ghost use Rattle.gm_machine.specs.Expressions.{value, value_at, edge_value_at, node_with, live, unary_value, binary_value};
 ghost use Rattle.gm_machine.specs.Vertex.{view_with};
-ghost use Rattle.gm_machine.specs.VertexViews.{HasColumns, context_of};
+ghost use Rattle.gm_machine.specs.VertexViews.{IsSupplied, context_of};
+ghost use Rattle.gm_graph.specs.Serving.{Serve};
+ghost use Rattle.gm_machine.specs.Asking.{reads_outward};
 
 use crate::faults::Fault;
-use gm_graph::Graph;
+use gm_graph::{Graph, InRows};
 use gm_image::Expr;
 use gm_value::{FaultKind, Op1, Op2, Value, apply1, apply2};
 
-/// What an expression sees and a vertex does not change: a graph with so many edge columns, globals, a node, in a
-/// handler the values of the message, and in an each the neighbour and the edge, by its row in the graph.
+/// What an expression sees and a vertex does not change: a graph with so many edge columns, the rows of the edges that lead
+/// to nodes, where the image asks for them, globals, a node, in a handler the values of the message, and in an each the
+/// neighbour and the edge, by its row in the graph.
 #[derive(Clone, Copy)]
 pub(crate) struct VertexContext<'a> {
     pub(crate) graph: &'a Graph,
+    pub(crate) in_rows: &'a Option<InRows<'a>>,
     pub(crate) columns: usize,
     pub(crate) globals: &'a [Value],
     pub(crate) node: u32,
@@ -62,14 +66,16 @@ fn out_degree(graph: &Graph, node: u32) -> u32
     }
 }
 
-fn in_degree(graph: &Graph, node: u32) -> u32
-    ensures degree { result ≡ length (in_steps graph.now node) }
+fn in_degree(s: &VertexContext) -> u32
+    requires supplied { IsSupplied s.now }
+    requires asked { Serve s.now.in_rows.now false }
+    ensures degree { result ≡ length (in_steps s.now.graph.now s.now.node) }
     ensures fits { result ≤ 2147483647 }
 {
-    if node < graph.node_count() {
-        graph.in_degree(node)
-    } else {
-        0
+    match s.in_rows {
+        Some(rows) if s.node < s.graph.node_count() => rows.degree(s.node),
+        Some(_) => 0,
+        None => unreachable!(),
     }
 }
 
@@ -179,7 +185,8 @@ fn unary(
     fields: &[Value],
     registers: &[Value],
 ) -> Result<Value, Fault>
-    requires { HasColumns s.now.graph.now s.now.columns }
+    requires supplied { IsSupplied s.now }
+    requires asked { Serve s.now.in_rows.now (reads_outward (term a.now)) }
     ensures { result ≡ unary_value op place (value (view_with (context_of s.now) fields.now registers.now) (term a.now)) }
 {
     match evaluate(a, s, fields, registers) {
@@ -188,6 +195,7 @@ fn unary(
     }
 }
 
+#[tactic(auto, using(gm_graph::proofs::Serving::left, gm_graph::proofs::Serving::right))]
 #[cycle(evaluation)]
 #[inline(always)]
 fn binary(
@@ -199,7 +207,8 @@ fn binary(
     fields: &[Value],
     registers: &[Value],
 ) -> Result<Value, Fault>
-    requires { HasColumns s.now.graph.now s.now.columns }
+    requires supplied { IsSupplied s.now }
+    requires asked { Serve s.now.in_rows.now (reads_outward (term a.now) && reads_outward (term b.now)) }
     ensures { result ≡ binary_value op place (value (view_with (context_of s.now) fields.now registers.now) (term a.now))
         (value (view_with (context_of s.now) fields.now registers.now) (term b.now)) }
 {
@@ -224,7 +233,8 @@ fn node_at(
     fields: &[Value],
     registers: &[Value],
 ) -> Result<Value, Fault>
-    requires { HasColumns s.now.graph.now s.now.columns }
+    requires supplied { IsSupplied s.now }
+    requires asked { Serve s.now.in_rows.now (reads_outward (term a.now)) }
     ensures { result ≡ value (view_with (context_of s.now) fields.now registers.now) (NodeAt (term a.now)) }
 {
     match evaluate(a, s, fields, registers) {
@@ -242,7 +252,8 @@ fn live_at(
     fields: &[Value],
     registers: &[Value],
 ) -> Result<Value, Fault>
-    requires { HasColumns s.now.graph.now s.now.columns }
+    requires supplied { IsSupplied s.now }
+    requires asked { Serve s.now.in_rows.now (reads_outward (term a.now)) }
     ensures { result ≡ value (view_with (context_of s.now) fields.now registers.now) (Live place (term a.now)) }
 {
     match evaluate(a, s, fields, registers) {
@@ -252,6 +263,7 @@ fn live_at(
 }
 
 // Whether two expressions are True, and whether one of them is. The second is left out where the first decides.
+#[tactic(auto, using(gm_graph::proofs::Serving::left, gm_graph::proofs::Serving::right))]
 #[cycle(evaluation)]
 fn both(
     a: &Expr,
@@ -260,7 +272,8 @@ fn both(
     fields: &[Value],
     registers: &[Value],
 ) -> Result<Value, Fault>
-    requires { HasColumns s.now.graph.now s.now.columns }
+    requires supplied { IsSupplied s.now }
+    requires asked { Serve s.now.in_rows.now (reads_outward (term a.now) && reads_outward (term b.now)) }
     ensures { result ≡ value (view_with (context_of s.now) fields.now registers.now) (And (term a.now) (term b.now)) }
 {
     match evaluate(a, s, fields, registers) {
@@ -269,6 +282,7 @@ fn both(
     }
 }
 
+#[tactic(auto, using(gm_graph::proofs::Serving::left, gm_graph::proofs::Serving::right))]
 #[cycle(evaluation)]
 fn either(
     a: &Expr,
@@ -277,7 +291,8 @@ fn either(
     fields: &[Value],
     registers: &[Value],
 ) -> Result<Value, Fault>
-    requires { HasColumns s.now.graph.now s.now.columns }
+    requires supplied { IsSupplied s.now }
+    requires asked { Serve s.now.in_rows.now (reads_outward (term a.now) && reads_outward (term b.now)) }
     ensures { result ≡ value (view_with (context_of s.now) fields.now registers.now) (Or (term a.now) (term b.now)) }
 {
     match evaluate(a, s, fields, registers) {
@@ -287,6 +302,7 @@ fn either(
 }
 
 // One of two expressions, chosen by a third.
+#[tactic(auto, using(crate::proofs::Serving::choose_test, crate::proofs::Serving::choose_yes, crate::proofs::Serving::choose_no))]
 #[cycle(evaluation)]
 fn choose(
     c: &Expr,
@@ -296,7 +312,8 @@ fn choose(
     fields: &[Value],
     registers: &[Value],
 ) -> Result<Value, Fault>
-    requires { HasColumns s.now.graph.now s.now.columns }
+    requires supplied { IsSupplied s.now }
+    requires asked { Serve s.now.in_rows.now (reads_outward (Choose (term c.now) (term a.now) (term b.now))) }
     ensures { result ≡ value (view_with (context_of s.now) fields.now registers.now) (Choose (term c.now) (term a.now) (term b.now)) }
 {
     match evaluate(c, s, fields, registers) {
@@ -315,7 +332,8 @@ fn by_shape(
     fields: &[Value],
     registers: &[Value],
 ) -> Result<Value, Fault>
-    requires { HasColumns s.now.graph.now s.now.columns }
+    requires supplied { IsSupplied s.now }
+    requires asked { Serve s.now.in_rows.now (reads_outward (term e.now)) }
     ensures { result ≡ value (view_with (context_of s.now) fields.now registers.now) (term e.now) }
 {
     match e {
@@ -326,7 +344,7 @@ fn by_shape(
         Expr::Field(f) => Ok(value_at(fields, *f)),
         Expr::Id => Ok(Value::At(Some(s.node))),
         Expr::OutDegree => Ok(Value::I32(out_degree(s.graph, s.node) as i32)),
-        Expr::InDegree => Ok(Value::I32(in_degree(s.graph, s.node) as i32)),
+        Expr::InDegree => Ok(Value::I32(in_degree(s) as i32)),
         Expr::Register(r) => Ok(value_at(registers, *r)),
         Expr::Message(i) => Ok(value_at(s.message, *i)),
         Expr::Neighbour => Ok(Value::At(Some(s.neighbour))),
@@ -364,7 +382,8 @@ pub(crate) fn evaluate(
     fields: &[Value],
     registers: &[Value],
 ) -> Result<Value, Fault>
-    requires { HasColumns s.now.graph.now s.now.columns }
+    requires supplied { IsSupplied s.now }
+    requires asked { Serve s.now.in_rows.now (reads_outward (term e.now)) }
     ensures { result ≡ value (view_with (context_of s.now) fields.now registers.now) (term e.now) }
 {
     match leaf(e, s, fields, registers) {

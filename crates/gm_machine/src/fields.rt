@@ -5,7 +5,7 @@ ghost use Rattle.gm_value.specs.declared.values.Value.TheVariants.{At};
 ghost use Rattle.gm_value.specs.Numbers.{zero_of};
 ghost use Rattle.gm_columns.specs.Cells.{values_of};
 ghost use Rattle.gm_machine.specs.Expressions.{value_at};
-ghost use Rattle.gm_machine.specs.Fields.{with_row, fields_of, columns_of, IsFull};
+ghost use Rattle.gm_machine.specs.Fields.{with_row, fields_of, columns_of, by_node, AreFull, IsFull};
 ghost use Rattle.gm_machine.specs.Machine.{row_at, column_of};
 
 use gm_base::NoMemory;
@@ -114,6 +114,30 @@ impl Fields {
     {
         let columns = FieldColumns::new(alloc, types, nodes)?;
         Ok(Fields { columns })
+    }
+
+    /// The fields of so many nodes, from columns: one for each field, with a value for each node.
+    pub fn from_columns(nodes: usize, columns: Vec<Cells>) -> Fields
+        requires { AreFull nodes (map values_of columns.items) }
+        ensures width { result.width ≡ length columns.items }
+        ensures rows { result.rows ≡ by_node nodes (map values_of columns.items) }
+    {
+        Fields {
+            columns: FieldColumns {
+                nodes,
+                rows: columns,
+            },
+        }
+    }
+
+    /// The columns of the fields, one for each field, with a value for each node. They are not copied.
+    pub fn into_columns(self) -> Vec<Cells>
+        ensures width { length result.items ≡ self.width }
+        ensures full { AreFull (length self.rows) (map values_of result.items) }
+        ensures rows { self.rows ≡ by_node (length self.rows) (map values_of result.items) }
+    {
+        let FieldColumns { rows, .. } = self.columns;
+        rows
     }
 
     /// How many nodes there are.

@@ -1,6 +1,7 @@
 //! The written machine that runs images, superstep by superstep, and its implementation on one thread.
 #![tactic(auto)]
 
+mod asking;
 mod batches;
 mod bodies;
 mod contributions;
@@ -24,6 +25,7 @@ mod supersteps;
 mod tellings;
 mod totals;
 
+pub use asking::{asks_outward, rows_for};
 pub use batches::Batch;
 pub use contributions::{ContributionPart, Contributions};
 pub use faults::{Fault, lesser};

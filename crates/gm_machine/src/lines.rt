@@ -1,13 +1,17 @@
 //! The lines of vertex programs.
 
-ghost use Rattle.std.specs.Prelude.{◌≡◌, ◌<◌, ◌++◌, ◌∷◌, [], ℕ, Some, IfOk, OnOk, map, length, slice_get, slice_set};
+ghost use Rattle.std.specs.List.{list_all};
+ghost use Rattle.std.specs.Prelude.{◌≡◌, ◌<◌, ◌&&◌, ◌++◌, ◌∷◌, [], ℕ, Some, IfOk, OnOk, map, length, slice_get, slice_set};
 ghost use Rattle.gm_value.specs.Numbers.{zero_of};
 ghost use Rattle.gm_model.specs.Graphs.{HasNode};
 ghost use Rattle.gm_graph.specs.Walks.{edge_at};
+ghost use Rattle.gm_image.specs.Parts.{terms_of};
 ghost use Rattle.gm_image.specs.Views.{term, line, target};
 ghost use Rattle.gm_image.specs.Program.{SetField, Fold, SetRegister, Put, Send, Skip};
 ghost use Rattle.gm_machine.specs.Expressions.{value, values};
-ghost use Rattle.gm_machine.specs.VertexViews.{HasColumns, context_of, state_of, after_line, after_lines, direction, answered};
+ghost use Rattle.gm_machine.specs.VertexViews.{IsSupplied, context_of, state_of, after_line, after_lines, direction, answered};
+ghost use Rattle.gm_graph.specs.Serving.{Serve};
+ghost use Rattle.gm_machine.specs.Asking.{line_outward, reads_outward, runs_outward};
 ghost use Rattle.gm_machine.specs.Contributions.{gives_parts};
 ghost use Rattle.gm_machine.specs.Vertex.{view, view_with, line_ends, leaves, gives, messages_to, line_after, lines_after, turns_after, steps};
 
@@ -17,7 +21,6 @@ use crate::expressions::{VertexContext, evaluate, holds};
 use crate::faults::{Fault, lesser};
 use crate::settling::TupleRoom;
 use gm_base::NoMemory;
-use gm_graph::Graph;
 use gm_image::{Expr, VertexLine};
 use gm_value::{Reduce, VType, Value};
 use std::alloc::Global;
@@ -64,6 +67,7 @@ pub(crate) enum LineEnd {
 }
 
 // Puts the values of expressions into a row, left to right, up to the first fault.
+#[tactic(auto, using(crate::proofs::Serving::term_item))]
 fn evaluate_all(
     terms: &[Expr],
     s: &VertexContext,
@@ -71,7 +75,8 @@ fn evaluate_all(
     registers: &[Value],
     found: &mut Vec<Value>,
 ) -> Result<Option<Fault>, NoMemory>
-    requires { HasColumns s.now.graph.now s.now.columns }
+    requires supplied { IsSupplied s.now }
+    requires asked { Serve s.now.in_rows.now (list_all reads_outward (map term terms.now)) }
     ensures { IfOk result (λ f. answered f found.new.items ≡ values (view_with (context_of s.now) fields.now registers.now) (map term terms.now)) }
 {
     found.clear();
@@ -96,6 +101,7 @@ fn width_of(slots: usize) -> Result<u32, NoMemory>
 }
 
 // Puts the parts of a contribution to some slots into a row, left to right, up to the first fault.
+#[tactic(auto, using(crate::proofs::Serving::slot_item))]
 fn evaluate_targets(
     reduce: Reduce,
     place: u32,
@@ -105,7 +111,8 @@ fn evaluate_targets(
     registers: &[Value],
     given: &mut Vec<ContributionPart>,
 ) -> Result<Option<Fault>, NoMemory>
-    requires { HasColumns s.now.graph.now s.now.columns }
+    requires supplied { IsSupplied s.now }
+    requires asked { Serve s.now.in_rows.now (list_all reads_outward (terms_of (map target targets.now))) }
     ensures { IfOk result (λ f. answered f given.new.items
         ≡ gives_parts (view_with (context_of s.now) fields.now registers.now) reduce place (length targets.now) (map target targets.now)) }
 {
@@ -137,8 +144,10 @@ pub(crate) fn write(values: &mut Vec<Value>, i: u32, v: Value)
     }
 }
 
+#[tactic(auto, using(gm_graph::proofs::Serving::left))]
 fn set_field(field: u32, a: &Expr, context: &VertexContext, state: &mut VertexState) -> LineEnd
-    requires { HasColumns context.now.graph.now context.now.columns }
+    requires supplied { IsSupplied context.now }
+    requires asked { Serve context.now.in_rows.now (line_outward (SetField field (term a.now))) }
     ensures { after_line (state_of state.new) result ≡ line_after (context_of context.now) (SetField field (term a.now)) (state_of state.old) }
 {
     match evaluate(a, context, &state.fields, &state.registers) {
@@ -150,13 +159,15 @@ fn set_field(field: u32, a: &Expr, context: &VertexContext, state: &mut VertexSt
     }
 }
 
+#[tactic(auto, using(gm_graph::proofs::Serving::left))]
 fn set_register(
     register: u32,
     a: &Expr,
     context: &VertexContext,
     state: &mut VertexState,
 ) -> LineEnd
-    requires { HasColumns context.now.graph.now context.now.columns }
+    requires supplied { IsSupplied context.now }
+    requires asked { Serve context.now.in_rows.now (line_outward (SetRegister register (term a.now))) }
     ensures { after_line (state_of state.new) result ≡ line_after (context_of context.now) (SetRegister register (term a.now)) (state_of state.old) }
 {
     match evaluate(a, context, &state.fields, &state.registers) {
@@ -176,7 +187,8 @@ fn fold_one(
     context: &VertexContext,
     state: &mut VertexState,
 ) -> Result<LineEnd, NoMemory>
-    requires { HasColumns context.now.graph.now context.now.columns }
+    requires supplied { IsSupplied context.now }
+    requires asked { Serve context.now.in_rows.now (reads_outward (target t.now).term) }
     ensures { IfOk result (λ end. after_line (state_of state.new) end
         ≡ line_after (context_of context.now) (Fold reduce place (target t.now ∷ [])) (state_of state.old)) }
 {
@@ -189,6 +201,7 @@ fn fold_one(
     }
 }
 
+#[tactic(auto, using(crate::proofs::Serving::slot_item))]
 fn fold(
     reduce: Reduce,
     place: u32,
@@ -196,7 +209,8 @@ fn fold(
     context: &VertexContext,
     state: &mut VertexState,
 ) -> Result<LineEnd, NoMemory>
-    requires { HasColumns context.now.graph.now context.now.columns }
+    requires supplied { IsSupplied context.now }
+    requires asked { Serve context.now.in_rows.now (list_all reads_outward (terms_of (map target targets.now))) }
     ensures { IfOk result (λ end. after_line (state_of state.new) end
         ≡ line_after (context_of context.now) (Fold reduce place (map target targets.now)) (state_of state.old)) }
 {
@@ -225,7 +239,8 @@ fn put_one(
     context: &VertexContext,
     state: &mut VertexState,
 ) -> Result<LineEnd, NoMemory>
-    requires { HasColumns context.now.graph.now context.now.columns }
+    requires supplied { IsSupplied context.now }
+    requires asked { Serve context.now.in_rows.now (reads_outward (target t.now).term) }
     ensures { IfOk result (λ end. after_line (state_of state.new) end
         ≡ line_after (context_of context.now) (Put reduce place (target t.now ∷ [])) (state_of state.old)) }
 {
@@ -238,6 +253,7 @@ fn put_one(
     }
 }
 
+#[tactic(auto, using(crate::proofs::Serving::slot_item))]
 fn put(
     reduce: Reduce,
     place: u32,
@@ -245,7 +261,8 @@ fn put(
     context: &VertexContext,
     state: &mut VertexState,
 ) -> Result<LineEnd, NoMemory>
-    requires { HasColumns context.now.graph.now context.now.columns }
+    requires supplied { IsSupplied context.now }
+    requires asked { Serve context.now.in_rows.now (list_all reads_outward (terms_of (map target targets.now))) }
     ensures { IfOk result (λ end. after_line (state_of state.new) end
         ≡ line_after (context_of context.now) (Put reduce place (map target targets.now)) (state_of state.old)) }
 {
@@ -284,7 +301,8 @@ fn send_one(
     context: &VertexContext,
     state: &mut VertexState,
 ) -> Result<LineEnd, NoMemory>
-    requires { HasColumns context.now.graph.now context.now.columns }
+    requires supplied { IsSupplied context.now }
+    requires asked { Serve context.now.in_rows.now (reads_outward (term a.now)) }
     ensures { IfOk result (λ end. after_line (state_of state.new) end
         ≡ line_ends (state_of state.old) (value (view (context_of context.now) (state_of state.old)) (term a.now)) (λ v.
         leaves (record (state_of state.old) { messages = state.old.messages ++ messages_to target kind (v ∷ []) }))) }
@@ -298,6 +316,7 @@ fn send_one(
     }
 }
 
+#[tactic(auto, using(gm_graph::proofs::Serving::left, gm_graph::proofs::Serving::right))]
 fn send(
     kind: u32,
     to: &Expr,
@@ -305,7 +324,8 @@ fn send(
     context: &VertexContext,
     state: &mut VertexState,
 ) -> Result<LineEnd, NoMemory>
-    requires { HasColumns context.now.graph.now context.now.columns }
+    requires supplied { IsSupplied context.now }
+    requires asked { Serve context.now.in_rows.now (line_outward (Send kind (term to.now) (map term values.now))) }
     ensures { IfOk result (λ end. after_line (state_of state.new) end
         ≡ line_after (context_of context.now) (Send kind (term to.now) (map term values.now)) (state_of state.old)) }
 {
@@ -331,8 +351,10 @@ fn send(
     }
 }
 
+#[tactic(auto, using(gm_graph::proofs::Serving::left))]
 fn skip(n: u32, a: &Expr, context: &VertexContext, state: &VertexState) -> LineEnd
-    requires { HasColumns context.now.graph.now context.now.columns }
+    requires supplied { IsSupplied context.now }
+    requires asked { Serve context.now.in_rows.now (line_outward (Skip n (term a.now))) }
     ensures { after_line (state_of state.now) result ≡ line_after (context_of context.now) (Skip n (term a.now)) (state_of state.now) }
 {
     match evaluate(a, context, &state.fields, &state.registers) {
@@ -347,7 +369,8 @@ pub(crate) fn run_line(
     context: &VertexContext,
     state: &mut VertexState,
 ) -> Result<LineEnd, NoMemory>
-    requires { HasColumns context.now.graph.now context.now.columns }
+    requires supplied { IsSupplied context.now }
+    requires asked { Serve context.now.in_rows.now (line_outward (line l.now)) }
     ensures { IfOk result (λ end. after_line (state_of state.new) end ≡ line_after (context_of context.now) (line l.now) (state_of state.old)) }
 {
     match l {
@@ -371,12 +394,14 @@ pub(crate) fn run_line(
 }
 
 /// Runs lines without an each, to their end or their first fault.
+#[tactic(auto, using(crate::proofs::Serving::line_item))]
 pub(crate) fn run_lines(
     lines: &[VertexLine],
     context: &VertexContext,
     state: &mut VertexState,
 ) -> Result<Option<Fault>, NoMemory>
-    requires { HasColumns context.now.graph.now context.now.columns }
+    requires supplied { IsSupplied context.now }
+    requires asked { Serve context.now.in_rows.now (list_all line_outward (map line lines.now)) }
     ensures { IfOk result (λ f. after_lines (state_of state.new) f ≡ lines_after (context_of context.now) (map line lines.now) 0 (state_of state.old)) }
 {
     let mut skip = 0;
@@ -394,46 +419,61 @@ pub(crate) fn run_lines(
 }
 
 // How many edges of a node an each goes over.
-fn degree(graph: &Graph, out: bool, node: u32) -> u32
-    requires { HasNode graph.now node }
-    ensures { result ≡ length (steps (direction out) graph.now node) }
+fn degree(context: &VertexContext, out: bool) -> u32
+    requires supplied { IsSupplied context.now }
+    requires asked { Serve context.now.in_rows.now (runs_outward (direction out)) }
+    requires node { HasNode context.now.graph.now context.now.node }
+    ensures { result ≡ length (steps (direction out) context.now.graph.now context.now.node) }
 {
     if out {
-        graph.out_degree(node)
-    } else {
-        graph.in_degree(node)
+        return context.graph.out_degree(context.node);
+    }
+    match context.in_rows {
+        Some(rows) => rows.degree(context.node),
+        None => unreachable!(),
     }
 }
 
 // The neighbour and the edge, by its row, of a turn of an each.
-fn step_at(graph: &Graph, out: bool, node: u32, k: u32) -> (u32, u32)
-    requires node { HasNode graph.now node }
-    requires step { k < length (steps (direction out) graph.now node) }
-    ensures { slice_get (steps (direction out) graph.now node) k ≡ Some (record { node = result.0; edge = edge_at graph.now (Some result.1) }) }
+fn step_at(context: &VertexContext, out: bool, k: u32) -> (u32, u32)
+    requires supplied { IsSupplied context.now }
+    requires asked { Serve context.now.in_rows.now (runs_outward (direction out)) }
+    requires node { HasNode context.now.graph.now context.now.node }
+    requires step { k < length (steps (direction out) context.now.graph.now context.now.node) }
+    ensures { slice_get (steps (direction out) context.now.graph.now context.now.node) k
+        ≡ Some (record { node = result.0; edge = edge_at context.now.graph.now (Some result.1) }) }
 {
+    let node = context.node;
     if out {
-        (graph.out_target(node, k), graph.out_row(node, k))
-    } else {
-        (graph.in_source(node, k), graph.in_row(node, k))
+        return (
+            context.graph.out_target(node, k),
+            context.graph.out_row(node, k),
+        );
+    }
+    match context.in_rows {
+        Some(rows) => (rows.source(node, k), rows.row(node, k)),
+        None => unreachable!(),
     }
 }
 
 /// Runs lines once for each edge of a node in a direction, each time to their end or their first fault, and answers
 /// the least of these faults.
+#[tactic(auto, using(gm_graph::proofs::Serving::left, gm_graph::proofs::Serving::right))]
 pub(crate) fn run_turns(
     out: bool,
     lines: &[VertexLine],
     context: &VertexContext,
     state: &mut VertexState,
 ) -> Result<Option<Fault>, NoMemory>
-    requires columns { HasColumns context.now.graph.now context.now.columns }
+    requires supplied { IsSupplied context.now }
+    requires asked { Serve context.now.in_rows.now (runs_outward (direction out) && list_all line_outward (map line lines.now)) }
     requires node { HasNode context.now.graph.now context.now.node }
     ensures { IfOk result (λ f. after_lines (state_of state.new) f
         ≡ turns_after (context_of context.now) (map line lines.now) (steps (direction out) context.now.graph.now context.now.node) (state_of state.old) None) }
 {
     let mut fault = None;
-    for k in 0..degree(context.graph, out, context.node) {
-        let (neighbour, row) = step_at(context.graph, out, context.node, k);
+    for k in 0..degree(context, out) {
+        let (neighbour, row) = step_at(context, out, k);
         let turn = VertexContext {
             neighbour,
             row: Some(row),

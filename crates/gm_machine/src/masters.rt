@@ -1,32 +1,37 @@
 //! The master list.
 
-ghost use Rattle.std.specs.Prelude.{◌≡◌, ◌-◌, ◌≤◌, ℕ, [], IfOk, map, length};
-ghost use Rattle.gm_image.specs.Program.{Test, Back};
+ghost use Rattle.std.specs.Prelude.{◌≡◌, ◌&&◌, ◌-◌, ◌≤◌, ℕ, [], IfOk, map, length};
+ghost use Rattle.std.specs.List.{list_all};
+ghost use Rattle.gm_image.specs.Program.{SetGlobal, Test, Turn, Back};
 ghost use Rattle.gm_image.specs.Views.{program, command, input, term};
 ghost use Rattle.gm_machine.specs.Expressions.{value};
 ghost use Rattle.gm_machine.specs.Vertex.{view_with};
-ghost use Rattle.gm_machine.specs.VertexViews.{HasColumns, context_of};
+ghost use Rattle.gm_machine.specs.VertexViews.{context_of};
+ghost use Rattle.gm_graph.specs.Serving.{Serve};
+ghost use Rattle.gm_machine.specs.Asking.{IsServed, command_outward, reads_outward};
 ghost use Rattle.gm_machine.specs.Machine.{segment, pause, master_view, set_after, at_head, command_after, scalars, with_inputs, start_control};
-ghost use Rattle.gm_machine.specs.Masters.{segment_of, lead_of, pause_of, control, control_of, FitsGraph, IsNearer};
+ghost use Rattle.gm_machine.specs.Masters.{segment_of, lead_of, pause_of, control, control_of, FitsGraph, IsListSupplied, IsNearer};
 
 use crate::expressions::{VertexContext, evaluate, holds};
 use crate::faults::Fault;
 use crate::lines::{reset, write};
 use gm_base::NoMemory;
-use gm_graph::Graph;
+use gm_graph::{Graph, InRows};
 use gm_image::{Expr, Image, InputItem, MasterLine};
 use gm_value::Value;
 use std::alloc::Global;
 
 // What an expression of the master list sees.
-fn master_context<'a>(graph: &'a Graph, columns: usize, globals: &'a [Value]) -> VertexContext<'a>
-    ensures graph { result.graph.now ≡ graph.now }
-    ensures columns { result.columns ≡ columns }
-    ensures view { view_with (context_of result) [] [] ≡ master_view graph.now globals.now }
+fn master_context<'a>(list: &MasterList<'a>, globals: &'a [Value]) -> VertexContext<'a>
+    ensures graph { result.graph.now ≡ list.now.graph.now }
+    ensures in_rows { result.in_rows.now ≡ list.now.in_rows.now }
+    ensures columns { result.columns ≡ list.now.columns }
+    ensures view { view_with (context_of result) [] [] ≡ master_view list.now.graph.now globals.now }
 {
     VertexContext {
-        graph,
-        columns,
+        graph: list.graph,
+        in_rows: list.in_rows,
+        columns: list.columns,
         globals,
         node: 0,
         message: &[],
@@ -37,10 +42,11 @@ fn master_context<'a>(graph: &'a Graph, columns: usize, globals: &'a [Value]) ->
 
 // The value of an expression of the master list.
 fn master_value(list: &MasterList, globals: &Vec<Value>, a: &Expr) -> Result<Value, Fault>
-    requires { HasColumns list.now.graph.now list.now.columns }
+    requires supplied { IsListSupplied list.now }
+    requires asked { Serve list.now.in_rows.now (reads_outward (term a.now)) }
     ensures { result ≡ value (master_view list.now.graph.now globals.now.items) (term a.now) }
 {
-    let context = master_context(list.graph, list.columns, globals);
+    let context = master_context(list, globals);
     evaluate(a, &context, &[], &[])
 }
 
@@ -70,10 +76,12 @@ enum MasterSegment {
 struct MasterList<'a> {
     lines: &'a [MasterLine],
     graph: &'a Graph,
+    in_rows: &'a Option<InRows<'a>>,
     columns: usize,
 }
 
 // The head of a loop, with the line below it.
+#[tactic(auto, using(gm_graph::proofs::Serving::left))]
 fn at_head(
     list: &MasterList,
     globals: &Vec<Value>,
@@ -82,7 +90,8 @@ fn at_head(
     exit: u32,
     a: &Expr,
 ) -> Lead
-    requires { HasColumns list.now.graph.now list.now.columns }
+    requires supplied { IsListSupplied list.now }
+    requires asked { Serve list.now.in_rows.now (command_outward (Turn exit (term a.now))) }
     ensures { (turns : ℕ) → lead_of result (control globals.now.items turns)
         ≡ at_head list.now.graph.now next below exit (term a.now) (control globals.now.items turns) }
 {
@@ -99,8 +108,10 @@ fn at_head(
 }
 
 // A global becomes a value.
+#[tactic(auto, using(gm_graph::proofs::Serving::left))]
 fn set_global(list: &MasterList, slot: u32, a: &Expr, globals: &mut Vec<Value>) -> Lead
-    requires { HasColumns list.now.graph.now list.now.columns }
+    requires supplied { IsListSupplied list.now }
+    requires asked { Serve list.now.in_rows.now (command_outward (SetGlobal slot (term a.now))) }
     ensures { (turns : ℕ) → lead_of result (control globals.new.items turns)
         ≡ set_after list.now.graph.now slot (term a.now) (control globals.old.items turns) }
 {
@@ -114,8 +125,10 @@ fn set_global(list: &MasterList, slot: u32, a: &Expr, globals: &mut Vec<Value>) 
 }
 
 // A line is next where an expression is False.
+#[tactic(auto, using(gm_graph::proofs::Serving::left))]
 fn test(list: &MasterList, globals: &Vec<Value>, next: usize, to: u32, a: &Expr) -> Lead
-    requires { HasColumns list.now.graph.now list.now.columns }
+    requires supplied { IsListSupplied list.now }
+    requires asked { Serve list.now.in_rows.now (command_outward (Test to (term a.now))) }
     ensures { (turns : ℕ) → lead_of result (control globals.now.items turns)
         ≡ command_after (map command list.now.lines.now) list.now.graph.now next (Test to (term a.now)) (control globals.now.items turns) }
 {
@@ -133,7 +146,8 @@ fn test(list: &MasterList, globals: &Vec<Value>, next: usize, to: u32, a: &Expr)
 
 // Back to a line, which is the head of a loop.
 fn back(list: &MasterList, globals: &Vec<Value>, next: usize, head: u32) -> Lead
-    requires { HasColumns list.now.graph.now list.now.columns }
+    requires supplied { IsListSupplied list.now }
+    requires asked { Serve list.now.in_rows.now (list_all command_outward (map command list.now.lines.now)) }
     ensures { (turns : ℕ) → lead_of result (control globals.now.items turns)
         ≡ command_after (map command list.now.lines.now) list.now.graph.now next (Back head) (control globals.now.items turns) }
 {
@@ -146,8 +160,10 @@ fn back(list: &MasterList, globals: &Vec<Value>, next: usize, head: u32) -> Lead
 }
 
 // Runs one master line, given the number of the line below it.
+#[tactic(auto, using(gm_graph::proofs::Serving::left, gm_graph::proofs::Serving::right))]
 fn run_command(list: &MasterList, next: usize, m: &MasterLine, globals: &mut Vec<Value>) -> Lead
-    requires { HasColumns list.now.graph.now list.now.columns }
+    requires supplied { IsListSupplied list.now }
+    requires asked { Serve list.now.in_rows.now (command_outward (command m.now) && list_all command_outward (map command list.now.lines.now)) }
     ensures { (turns : ℕ) → lead_of result (control globals.new.items turns)
         ≡ command_after (map command list.now.lines.now) list.now.graph.now next (command m.now) (control globals.old.items turns) }
 {
@@ -163,14 +179,23 @@ fn run_command(list: &MasterList, next: usize, m: &MasterLine, globals: &mut Vec
 }
 
 // Runs the master list from a line on, as far as the next superstep or turn.
-fn run_segment(image: &Image, graph: &Graph, globals: &mut Vec<Value>, line: usize) -> MasterSegment
-    requires { FitsGraph image.now graph.now }
+#[tactic(auto, using(crate::proofs::Serving::command_item, gm_graph::proofs::Serving::joined, crate::proofs::Serving::master_served))]
+fn run_segment(
+    image: &Image,
+    graph: &Graph,
+    in_rows: &Option<InRows>,
+    globals: &mut Vec<Value>,
+    line: usize,
+) -> MasterSegment
+    requires columns { FitsGraph image.now graph.now }
+    requires served { IsServed (program image.now) graph.now in_rows.now }
     ensures { (turns : ℕ) → segment_of result (control globals.new.items turns)
         ≡ segment (program image.now) graph.now line (control globals.old.items turns) }
 {
     let list = MasterList {
         lines: image.master.as_slice(),
         graph,
+        in_rows,
         columns: image.columns.len(),
     };
     let mut skip = line;
@@ -254,8 +279,14 @@ pub enum MasterStop {
 }
 
 /// Runs the master list as far as its next superstep. It takes no memory.
-pub fn master_run(image: &Image, graph: &Graph, master: &mut Master) -> MasterStop
+pub fn master_run(
+    image: &Image,
+    graph: &Graph,
+    in_rows: &Option<InRows>,
+    master: &mut Master,
+) -> MasterStop
     requires columns { FitsGraph image.now graph.now }
+    requires served { IsServed (program image.now) graph.now in_rows.now }
     requires bounded { master.old.turns ≤ master.old.bound }
     ensures run { pause_of result (master.new.bound - master.new.turns) master.new.line (control_of master.new)
         ≡ pause (program image.now) graph.now (master.old.bound - master.old.turns) master.old.line (control_of master.old) }
@@ -264,7 +295,7 @@ pub fn master_run(image: &Image, graph: &Graph, master: &mut Master) -> MasterSt
     ensures nearer { IsNearer (length image.now.master) result master.old master.new }
 {
     'turns: loop {
-        match run_segment(image, graph, &mut master.globals, master.line) {
+        match run_segment(image, graph, in_rows, &mut master.globals, master.line) {
             MasterSegment::Turn(line) => {
                 if master.turns == master.bound {
                     return MasterStop::Cut;

@@ -6,6 +6,8 @@
 ghost use Rattle.std.specs.Prelude.{◌≡◌, ◌<◌, ◌≤◌, ◌++◌, ℕ, true, OnOk, IfOk, [], length, slice_index, slice_index_or, slice_set};
 ghost use Rattle.gm_model.specs.Graphs.{HasNode};
 ghost use Rattle.gm_image.specs.Views.{program};
+ghost use Rattle.gm_graph.specs.Serving.{AreRowsOf, Serve};
+ghost use Rattle.gm_machine.specs.Asking.{IsServed, block_outward};
 ghost use Rattle.gm_machine.specs.Duties.{places_of, node_of, AreNodes, IsDuty, place_after, StepsTo};
 ghost use Rattle.gm_machine.specs.Fields.{fields_of, IsFull};
 ghost use Rattle.gm_machine.specs.Inboxes.{AreByPlace};
@@ -25,19 +27,20 @@ use crate::lines::VertexState;
 use crate::message_values::MessageValues;
 use crate::steps::Sent;
 use gm_base::NoMemory;
-use gm_graph::Graph;
+use gm_graph::{Graph, InRows};
 use gm_image::{Image, Sound};
 use gm_value::Value;
 use std::alloc::Global;
 use std::mem;
 
-/// What a superstep asks of each node: the block of an image, on a graph, with the globals that all nodes see. Threads
-/// share it.
+/// What a superstep asks of each node: the block of an image, on a graph, with the rows of the edges that lead to nodes, where
+/// the image asks for them, and the globals that all nodes see. Threads share it.
 #[derive(Clone, Copy)]
 pub struct Duty<'a> {
     pub image: &'a Image,
     pub block: u32,
     pub graph: &'a Graph,
+    pub in_rows: &'a Option<InRows<'a>>,
     pub globals: &'a [Value],
 }
 
@@ -49,12 +52,21 @@ pub enum Nodes<'a> {
 }
 
 impl<'a> Duty<'a> {
-    /// The duty of a block of a sound image, on a graph that has the edge columns that the image declares.
-    pub fn of(image: &'a Sound, block: u32, graph: &'a Graph, globals: &'a [Value]) -> Duty<'a>
-        requires { FitsGraph image.now graph.now }
+    /// The duty of a block of a sound image, on a graph that has the edge columns that the image declares, with the rows for
+    /// which the image asks.
+    pub fn of(
+        image: &'a Sound,
+        block: u32,
+        graph: &'a Graph,
+        in_rows: &'a Option<InRows<'a>>,
+        globals: &'a [Value],
+    ) -> Duty<'a>
+        requires columns { FitsGraph image.now graph.now }
+        requires served { IsServed (program image.now) graph.now in_rows.now }
         ensures image { result.image.now ≡ image.now }
         ensures block { result.block ≡ block }
         ensures graph { result.graph.now ≡ graph.now }
+        ensures in_rows { result.in_rows.now ≡ in_rows.now }
         ensures globals { result.globals.now ≡ globals.now }
         ensures is { IsDuty result }
     {
@@ -62,6 +74,7 @@ impl<'a> Duty<'a> {
             image: image.image(),
             block,
             graph,
+            in_rows,
             globals,
         }
     }
@@ -120,13 +133,14 @@ impl<'a> Nodes<'a> {
     }
 }
 
-// What all nodes see in a superstep: the image and what it says that they do, the graph, the globals, which nodes they
-// are, and the messages that wait for them.
+// What all nodes see in a superstep: the image and what it says that they do, the graph, the rows for which the image asks, the
+// globals, which nodes they are, and the messages that wait for them.
 #[derive(Clone, Copy)]
 struct Round<'a> {
     image: &'a Image,
     code: BlockCode<'a>,
     graph: &'a Graph,
+    in_rows: &'a Option<InRows<'a>>,
     globals: &'a [Value],
     nodes: Nodes<'a>,
     values: &'a MessageValues,
@@ -144,6 +158,8 @@ fn step_at(
     state: &mut VertexState,
 ) -> Result<Option<Fault>, NoMemory>
     requires columns { FitsGraph round.now.image.now round.now.graph.now }
+    requires rows { AreRowsOf round.now.graph.now round.now.in_rows.now }
+    requires asked { Serve round.now.in_rows.now (block_outward (code_of round.now.code)) }
     requires keeps { (kind : ℕ) → never_sets (handler_lines (code_of round.now.code).handlers kind) ≡ true }
     requires by_place { AreByPlace (places_of round.now.nodes) round.now.values.now round.now.sorted.now round.now.starts.now }
     requires nodes { AreNodes round.now.graph.now round.now.nodes }
@@ -160,6 +176,7 @@ fn step_at(
 {
     let context = VertexContext {
         graph: round.graph,
+        in_rows: round.in_rows,
         columns: round.image.columns.len(),
         globals: round.globals,
         node: round.nodes.node(place),
@@ -195,6 +212,8 @@ fn run_round(
     state: &mut VertexState,
 ) -> Result<(usize, Option<Fault>), NoMemory>
     requires columns { FitsGraph round.now.image.now round.now.graph.now }
+    requires rows { AreRowsOf round.now.graph.now round.now.in_rows.now }
+    requires asked { Serve round.now.in_rows.now (block_outward (code_of round.now.code)) }
     requires keeps { (kind : ℕ) → never_sets (handler_lines (code_of round.now.code).handlers kind) ≡ true }
     requires by_place { AreByPlace (places_of round.now.nodes) round.now.values.now round.now.sorted.now round.now.starts.now }
     requires nodes { AreNodes round.now.graph.now round.now.nodes }
@@ -251,6 +270,7 @@ pub fn steps_of_nodes(
         image: duty.image,
         code,
         graph: duty.graph,
+        in_rows: duty.in_rows,
         globals: duty.globals,
         nodes: *nodes,
         values,

@@ -2,6 +2,7 @@
 
 ghost use Rattle.std.specs.Prelude.{◌≡◌, ◌≤◌, ℕ, IfOk, OnOk, OnErr, map};
 ghost use Rattle.gm_image.specs.Views.{program};
+ghost use Rattle.gm_machine.specs.Asking.{IsServed};
 ghost use Rattle.gm_machine.specs.Machine.{machine};
 ghost use Rattle.gm_machine.specs.Masters.{FitsGraph};
 ghost use Rattle.gm_machine.specs.Notes.{noted};
@@ -9,12 +10,13 @@ ghost use Rattle.gm_machine.specs.States.{most_supersteps};
 ghost use Rattle.gm_machine.specs.Steps.{KeepsFields};
 ghost use Rattle.gm_observe.specs.Audience.{IsToldInPart, told_to_all};
 
+use crate::asking::rows_for;
 use crate::ends::{Stop, end_of};
 use crate::masters::{Master, MasterStop, master_run};
 use crate::starts::start;
 use crate::tellings::step_and_tell;
 use gm_base::NoMemory;
-use gm_graph::Graph;
+use gm_graph::{Graph, InRows};
 use gm_image::{Image, Sound};
 use gm_model::RunEnd;
 use gm_observe::Observer;
@@ -26,11 +28,13 @@ fn run(
     alloc: Global,
     image: &Image,
     graph: &Graph,
+    in_rows: &Option<InRows>,
     args: &[Value],
     turns: u64,
     observers: &mut [Box<dyn Observer>],
 ) -> Result<RunEnd, NoMemory>
     requires columns { FitsGraph image.now graph.now }
+    requires served { IsServed (program image.now) graph.now in_rows.now }
     requires keeps { (block : ℕ) → KeepsFields (program image.now) block }
     ensures end { IfOk result (λ end. end ≡ machine (program image.now) graph.now args.now turns) }
     ensures told { OnOk result (map (λ o. seen o) observers.new ≡ told_to_all (noted (program image.now) graph.now args.now turns) (map (λ o. seen o) observers.old)) }
@@ -40,11 +44,11 @@ fn run(
     let mut master = Master::start(alloc, image, args, turns)?;
     let mut nodes = start(alloc, image, graph)?;
     'steps: loop {
-        match master_run(image, graph, &mut master) {
+        match master_run(image, graph, in_rows, &mut master) {
             MasterStop::Step(block) => {
                 let globals = &mut master.globals;
                 let fault = step_and_tell(
-                    alloc, image, graph, block, globals, &mut nodes, observers,
+                    alloc, image, graph, in_rows, block, globals, &mut nodes, observers,
                 )?;
                 if let Some(fault) = fault {
                     let end = end_of(alloc, image, Stop::Faulted(fault), &master, &nodes)?;
@@ -83,7 +87,9 @@ pub fn run_one(
     ensures bounded { IfOk result (λ end. end.supersteps ≤ most_supersteps (program image.now) turns) }
 {
     let mut nobody: Vec<Box<dyn Observer>> = Vec::new(alloc);
-    let end = run(alloc, image.image(), graph, args, turns, &mut nobody)?;
+    let plain = image.image();
+    let in_rows = rows_for(alloc, plain, graph)?;
+    let end = run(alloc, plain, graph, &in_rows, args, turns, &mut nobody)?;
     Ok(end)
 }
 
@@ -105,6 +111,8 @@ pub fn run_watched(
     ensures part { OnErr result (IsToldInPart (noted (program image.now) graph.now args.now turns) (map (λ o. seen o) observers.old) (map (λ o. seen o) observers.new)) }
     ensures same_ways { map (λ o. says_of o) observers.new ≡ map (λ o. says_of o) observers.old }
 {
-    let end = run(alloc, image.image(), graph, args, turns, observers)?;
+    let plain = image.image();
+    let in_rows = rows_for(alloc, plain, graph)?;
+    let end = run(alloc, plain, graph, &in_rows, args, turns, observers)?;
     Ok(end)
 }

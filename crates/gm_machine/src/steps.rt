@@ -3,6 +3,7 @@
 ghost use Rattle.std.specs.Prelude.{◌≡◌, ◌<◌, ◌++◌, None, OnOk, [], length};
 ghost use Rattle.gm_model.specs.Graphs.{HasNode};
 ghost use Rattle.gm_image.specs.Views.{program};
+ghost use Rattle.gm_machine.specs.Asking.{IsServed};
 ghost use Rattle.gm_machine.specs.Masters.{FitsGraph};
 ghost use Rattle.gm_machine.specs.Faults.{lesser};
 ghost use Rattle.gm_machine.specs.Steps.{KeepsFields, step_after};
@@ -14,7 +15,7 @@ use crate::expressions::VertexContext;
 use crate::faults::{Fault, lesser};
 use crate::lines::VertexState;
 use gm_base::NoMemory;
-use gm_graph::Graph;
+use gm_graph::{Graph, InRows};
 use gm_image::{Image, Sound};
 use gm_value::Value;
 use std::alloc::Global;
@@ -50,6 +51,7 @@ pub(crate) fn step(
     block: u32,
     globals: &[Value],
     graph: &Graph,
+    in_rows: &Option<InRows>,
     node: u32,
     fields: &mut Vec<Value>,
     inbox: &Batch,
@@ -57,6 +59,7 @@ pub(crate) fn step(
 ) -> Result<(), NoMemory>
     requires node { HasNode graph.now node }
     requires columns { FitsGraph image.now graph.now }
+    requires served { IsServed (program image.now) graph.now in_rows.now }
     requires keeps { KeepsFields (program image.now) block }
     ensures fields { OnOk result (fields.new.items
         ≡ (step_after (program image.now) block globals.now graph.now node inbox.now fields.old.items).state.fields) }
@@ -70,6 +73,7 @@ pub(crate) fn step(
     let code = block_at(image, block);
     let context = VertexContext {
         graph,
+        in_rows,
         columns: image.columns.len(),
         globals,
         node,
@@ -106,6 +110,7 @@ pub fn vertex_step(
     block: u32,
     globals: &[Value],
     graph: &Graph,
+    in_rows: &Option<InRows>,
     node: u32,
     fields: &mut Vec<Value>,
     inbox: &Batch,
@@ -113,6 +118,7 @@ pub fn vertex_step(
 ) -> Result<(), NoMemory>
     requires node { HasNode graph.now node }
     requires columns { FitsGraph image.now graph.now }
+    requires served { IsServed (program image.now) graph.now in_rows.now }
     ensures fields { OnOk result (fields.new.items
         ≡ (step_after (program image.now) block globals.now graph.now node inbox.now fields.old.items).state.fields) }
     ensures messages { OnOk result (sent.new.messages
@@ -128,6 +134,7 @@ pub fn vertex_step(
         block,
         globals,
         graph,
+        in_rows,
         node,
         fields,
         inbox,

@@ -3,6 +3,7 @@
 ghost use Rattle.std.specs.Prelude.{◌≡◌, ◌+◌, OnOk, IfOk, length};
 ghost use Rattle.gm_model.specs.Graphs.{node_count};
 ghost use Rattle.gm_image.specs.Views.{program};
+ghost use Rattle.gm_machine.specs.Asking.{IsServed};
 ghost use Rattle.gm_machine.specs.Duties.{IsDuty, Steps};
 ghost use Rattle.gm_machine.specs.Fields.{fields_of, held, IsFull};
 ghost use Rattle.gm_machine.specs.Machine.{superstep};
@@ -18,7 +19,7 @@ use crate::node_lists::settle_puts;
 use crate::node_steps::{Duty, Nodes as TheNodes, steps_of_nodes};
 use crate::steps::Sent;
 use gm_base::NoMemory;
-use gm_graph::Graph;
+use gm_graph::{Graph, InRows};
 use gm_image::Image;
 use gm_value::Value;
 use std::alloc::Global;
@@ -83,11 +84,13 @@ pub(crate) fn superstep(
     alloc: Global,
     image: &Image,
     graph: &Graph,
+    in_rows: &Option<InRows>,
     block: u32,
     globals: &mut Vec<Value>,
     nodes: &mut Nodes,
 ) -> Result<Option<Fault>, NoMemory>
     requires columns { FitsGraph image.now graph.now }
+    requires served { IsServed (program image.now) graph.now in_rows.now }
     requires keeps { KeepsFields (program image.now) block }
     requires nodes { nodes.old.fields.nodes ≡ node_count graph.now }
     requires full { IsFull (length nodes.old.fields.rows.items) nodes.old.fields }
@@ -105,6 +108,7 @@ pub(crate) fn superstep(
         image,
         block,
         graph,
+        in_rows,
         globals: seen,
     };
     step_all(alloc, &duty, &inbox, &mut nodes.fields, &mut sent)?;

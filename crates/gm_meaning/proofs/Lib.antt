@@ -9,3 +9,4 @@ pub mod Blocks
 pub mod Ways
 pub mod Wholes
 pub mod Inputs
+pub mod Serving

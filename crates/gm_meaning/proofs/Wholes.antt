@@ -3,6 +3,7 @@ use Rattle.std.proofs.Common.{◌≡◌, ◌∙◌, ℕ, List, ap, sym, subst}
 use Rattle.std.specs.Prelude.{All}
 use Rattle.gm_value.specs.declared.values.Value.{Value}
 use Rattle.gm_model.specs.Graphs.{NumberedGraph, node_count}
+use Rattle.gm_graph.specs.Serving.{AreRowsOf}
 use Rattle.gm_ast.specs.declared.tree.Declaration.{Declaration}
 use Rattle.gm_ast.specs.Program.{Program}
 use Rattle.gm_semantics.specs.Outcomes.{first_store, mean, outcome_of}
@@ -36,8 +37,9 @@ whole p g args bound ds start course declared first runs =
 
 -- the store with which a run begins has room for it
 pub first-fits : (p : Program) (g : NumberedGraph) (n : ℕ) (f : Setting) (h : Held) → f.graph.now ≡ g → f.edges.now ≡ first_columns p g n → f.variables ≡ n
-    → shape_of h ≡ record { scalars = n; rows = n; nodes = node_count g } → Fits f h
-first-fits p g n f h graph edges variables shape = record {
+    → AreRowsOf g f.in_rows.now → shape_of h ≡ record { scalars = n; rows = n; nodes = node_count g } → Fits f h
+first-fits p g n f h graph edges variables rows shape = record {
+  in_rows = subst (λ (k : NumberedGraph). AreRowsOf k f.in_rows.now) (sym graph) rows;
   columns = subst (λ (k : NumberedGraph). All (λ c. HasColumn k c.column) f.edges.now) (sym graph) (subst (λ (cs : List EdgeColumn). All (λ c. HasColumn g c.column) cs) (sym edges) (columns-known p g n));
   scalars = ap (λ (s : Shape). s.scalars) shape ∙ sym variables;
   rows = ap (λ (s : Shape). s.rows) shape ∙ sym variables;

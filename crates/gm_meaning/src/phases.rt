@@ -15,6 +15,9 @@ ghost use Rattle.gm_loops.specs.Scopes.{no_scope};
 ghost use Rattle.gm_loops.specs.Sights.{level_in, view_of, Fits};
 ghost use Rattle.gm_loops.specs.Targets.{pair_of, tuple_of, AreSeveral};
 ghost use Rattle.gm_meaning.specs.Phases.{run_of, state_in, state_of, seen_by, Runs};
+ghost use Rattle.std.specs.List.{list_all};
+ghost use Rattle.gm_graph.specs.Serving.{Serve};
+ghost use Rattle.gm_loops.specs.Asking.{goes_outward, reads_outward};
 
 use gm_ast::tree::{Expr, Head, Key, Sort, Stmt, Target, TotalKey, Variable};
 use gm_base::{NoMemory, Place};
@@ -86,7 +89,8 @@ fn set_each(store: &mut Store, slots: &[Slot], values: &[Value]) -> Result<(), N
 impl Phase {
     // The value of an expression.
     pub fn value(&self, setting: &Setting, key: Key, e: &Expr) -> Answer
-        requires { Fits setting.now self.now.going.store }
+        requires fits { Fits setting.now self.now.going.store }
+        requires asked { Serve setting.now.in_rows.now (reads_outward (expr_of e.now)) }
         ensures { result ≡ value (expr_of e.now) (seen_by setting.now (state_of setting.now self.now) key) }
     {
         sight(setting, key).value(e, &self.going.store)
@@ -139,6 +143,7 @@ impl Phase {
     pub fn declare_value(&mut self, setting: &Setting, key: Key, x: u32, e: &Expr) -> Course
         requires rest { AtRest setting.now self.old.going }
         requires bound { x < setting.now.variables }
+        requires asked { Serve setting.now.in_rows.now (reads_outward (expr_of e.now)) }
         ensures { Runs setting.now self.old self.new result (sequential (program.Declare key x (Some (expr_of e.now))) (run_of setting.now)) }
     {
         match self.value(setting, key, e) {
@@ -160,6 +165,7 @@ impl Phase {
     ) -> Result<Course, NoMemory>
         requires rest { AtRest setting.now self.old.going }
         requires bound { target_bound target.now ≤ setting.now.variables }
+        requires asked { Serve setting.now.in_rows.now (reads_outward (expr_of e.now)) }
         ensures { IfOk result (λ c. Runs setting.now self.old self.new c (sequential (program.Assign key target.now (expr_of e.now)) (run_of setting.now))) }
     {
         let answer = sight(setting, key).assigned(&self.going.store, target, e);
@@ -178,6 +184,7 @@ impl Phase {
     ) -> Result<Course, NoMemory>
         requires rest { AtRest setting.now self.old.going }
         requires bound { target_bound target.now ≤ setting.now.variables }
+        requires asked { Serve setting.now.in_rows.now (reads_outward (expr_of e.now)) }
         ensures { IfOk result (λ c. Runs setting.now self.old self.new c (sequential (program.Combine key total reduce (target.now ∷ []) (expr_of e.now ∷ [])) (run_of setting.now))) }
     {
         let answer = sight(setting, key).at_once(&self.going.store, total.place, reduce, target, e);
@@ -220,6 +227,7 @@ impl Phase {
         requires rest { AtRest setting.now self.old.going }
         requires bound { targets_bound targets.now ≤ setting.now.variables }
         requires several { AreSeveral targets.now values.now }
+        requires asked { Serve setting.now.in_rows.now (list_all reads_outward (map expr_of values.now)) }
         ensures { IfOk result (λ c. Runs setting.now self.old self.new c (sequential (program.Combine key total reduce targets.now (map expr_of values.now)) (run_of setting.now))) }
     {
         let place = total.place;
@@ -247,6 +255,7 @@ impl Phase {
     ) -> Result<Course, NoMemory>
         requires rest { AtRest setting.now self.old.going }
         requires bound { targets_bound targets.now ≤ setting.now.variables }
+        requires asked { Serve setting.now.in_rows.now (list_all reads_outward (map expr_of values.now)) }
         ensures { IfOk result (λ c. Runs setting.now self.old self.new c (sequential (program.Combine key total reduce targets.now (map expr_of values.now)) (run_of setting.now))) }
     {
         if targets.len() == 1 && values.len() == 1 {
@@ -268,6 +277,8 @@ impl Phase {
         requires iterator { around.now.outer < around.now.setting.now.variables }
         requires bound { bound_of (body_of around.now.body) ≤ around.now.setting.now.variables }
         requires known { All (λ n. n < node_count around.now.setting.now.graph.now) (nodes_in nodes) }
+        requires filter_asked { Serve around.now.setting.now.in_rows.now (reads_outward (expr_of filter.now)) }
+        requires body_asked { Serve around.now.setting.now.in_rows.now (goes_outward (body_of around.now.body)) }
         ensures { IfOk result (λ c. Runs around.now.setting.now self.old self.new c
             (loops (run_of around.now.setting.now) (level_in (option_map (λ l. l.now) around.now.levels)) around.now.outer key
             (expr_of filter.now) (body_of around.now.body) (nodes_in nodes.entry))) }
@@ -292,6 +303,7 @@ impl Phase {
         requires rest { AtRest setting.now self.old.going }
         requires graph { graph < setting.now.variables }
         requires property { property < setting.now.variables }
+        requires asked { Serve setting.now.in_rows.now (reads_outward (expr_of e.now)) }
         ensures { IfOk result (λ c. Runs setting.now self.old self.new c (sequential (program.Group key place graph property (expr_of e.now)) (run_of setting.now))) }
     {
         let target = Target::Property {
@@ -327,6 +339,8 @@ impl Phase {
         requires rest { AtRest setting.now self.old.going }
         requires iterator { head.now.iterator < setting.now.variables }
         requires bound { bound_of (stmt_of body.now) ≤ setting.now.variables }
+        requires filter_asked { Serve setting.now.in_rows.now (reads_outward (expr_of filter.now)) }
+        requires body_asked { Serve setting.now.in_rows.now (goes_outward (stmt_of body.now)) }
         ensures { IfOk result (λ c. Runs setting.now self.old self.new c (sequential (program.Foreach key place head.now (expr_of filter.now) (stmt_of body.now)) (run_of setting.now))) }
     {
         let around = Around {
@@ -341,7 +355,8 @@ impl Phase {
 
     // The end of the procedure with a value.
     pub fn return_value(&self, setting: &Setting, key: Key, place: Place, e: &Expr) -> Course
-        requires { AtRest setting.now self.now.going }
+        requires rest { AtRest setting.now self.now.going }
+        requires asked { Serve setting.now.in_rows.now (reads_outward (expr_of e.now)) }
         ensures { Runs setting.now self.now self.now result (sequential (program.Return key place (Some (expr_of e.now))) (run_of setting.now)) }
     {
         match self.value(setting, key, e) {

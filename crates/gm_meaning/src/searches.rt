@@ -11,6 +11,8 @@ ghost use Rattle.gm_loops.specs.LoopEnds.{AtRest};
 ghost use Rattle.gm_loops.specs.Sights.{level_in, Fits};
 ghost use Rattle.gm_meaning.specs.Phases.{run_of, state_of, seen_by, Runs};
 ghost use Rattle.gm_meaning.specs.Searches.{AreNodes, AreLevels};
+ghost use Rattle.gm_graph.specs.Serving.{Serve};
+ghost use Rattle.gm_loops.specs.Asking.{goes_outward, reads_outward};
 
 use crate::phases::{Course, Phase, sight};
 use gm_ast::tree::{Expr, Key, Search, Stmt};
@@ -59,6 +61,8 @@ impl Phase {
         requires iterator { iterator < setting.now.variables }
         requires bound { bound_of (stmt_of body.now) ≤ setting.now.variables }
         requires known { AreNodes setting.now.graph.now nodes.now }
+        requires filter_asked { Serve setting.now.in_rows.now (reads_outward (expr_of filter.now)) }
+        requires body_asked { Serve setting.now.in_rows.now (goes_outward (stmt_of body.now)) }
         ensures { IfOk result (λ c. Runs setting.now self.old self.new c
             (loops (run_of setting.now) (level_in (Some levels.now)) iterator key (expr_of filter.now) (stmt_of body.now) nodes.now)) }
     {
@@ -85,6 +89,8 @@ impl Phase {
         requires iterator { iterator < setting.now.variables }
         requires bound { bound_of (stmt_of body.now) ≤ setting.now.variables }
         requires known { All (AreNodes setting.now.graph.now) levels.now.lists }
+        requires filter_asked { Serve setting.now.in_rows.now (reads_outward (expr_of filter.now)) }
+        requires body_asked { Serve setting.now.in_rows.now (goes_outward (stmt_of body.now)) }
         ensures { IfOk result (λ c. Runs setting.now self.old self.new c
             (in_turns (run_of setting.now) levels.now.lists
             (loops (run_of setting.now) (level_in (Some levels.now)) iterator key (expr_of filter.now) (stmt_of body.now)))) }
@@ -123,6 +129,8 @@ impl Phase {
         requires iterator { iterator < setting.now.variables }
         requires bound { bound_of (stmt_of body.now) ≤ setting.now.variables }
         requires known { All (AreNodes setting.now.graph.now) levels.now.lists }
+        requires filter_asked { Serve setting.now.in_rows.now (reads_outward (expr_of filter.now)) }
+        requires body_asked { Serve setting.now.in_rows.now (goes_outward (stmt_of body.now)) }
         ensures { IfOk result (λ c. Runs setting.now self.old self.new c
             (in_turns (run_of setting.now) (reverse levels.now.lists)
             (loops (run_of setting.now) (level_in (Some levels.now)) iterator key (expr_of filter.now) (stmt_of body.now)))) }
@@ -162,6 +170,8 @@ impl Phase {
         requires rest { AtRest setting.now self.old.going }
         requires iterator { search.now.iterator < setting.now.variables }
         requires bound { bound_of (stmt_of body.now) ≤ setting.now.variables }
+        requires filter_asked { Serve setting.now.in_rows.now (reads_outward (expr_of filter.now)) }
+        requires body_asked { Serve setting.now.in_rows.now (goes_outward (stmt_of body.now)) }
         ensures { IfOk result (λ c. Runs setting.now self.old self.new c
             (sequential (program.InBfs key place search.now (expr_of filter.now) (stmt_of body.now)) (run_of setting.now))) }
     {
@@ -192,6 +202,10 @@ impl Phase {
         requires bound { bound_of (stmt_of body.now) ≤ setting.now.variables }
         requires back { bound_of (stmt_of back.now) ≤ setting.now.variables }
         requires known { All (AreNodes setting.now.graph.now) levels.now.lists }
+        requires filter_asked { Serve setting.now.in_rows.now (reads_outward (expr_of filter.now)) }
+        requires body_asked { Serve setting.now.in_rows.now (goes_outward (stmt_of body.now)) }
+        requires back_filter_asked { Serve setting.now.in_rows.now (reads_outward (expr_of back_filter.now)) }
+        requires back_asked { Serve setting.now.in_rows.now (goes_outward (stmt_of back.now)) }
         ensures { IfOk result (λ c. Runs setting.now self.old self.new c (λ s. then_do
             (in_turns (run_of setting.now) levels.now.lists
             (loops (run_of setting.now) (level_in (Some levels.now)) iterator key (expr_of filter.now) (stmt_of body.now)) s)
@@ -221,6 +235,10 @@ impl Phase {
         requires iterator { search.now.iterator < setting.now.variables }
         requires bound { bound_of (stmt_of body.now) ≤ setting.now.variables }
         requires back { bound_of (stmt_of back.now) ≤ setting.now.variables }
+        requires filter_asked { Serve setting.now.in_rows.now (reads_outward (expr_of filter.now)) }
+        requires body_asked { Serve setting.now.in_rows.now (goes_outward (stmt_of body.now)) }
+        requires back_filter_asked { Serve setting.now.in_rows.now (reads_outward (expr_of back_filter.now)) }
+        requires back_asked { Serve setting.now.in_rows.now (goes_outward (stmt_of back.now)) }
         ensures { IfOk result (λ c. Runs setting.now self.old self.new c
             (sequential (program.InBfsBoth key place search.now (expr_of filter.now) (stmt_of body.now) back_key (expr_of back_filter.now) (stmt_of back.now)) (run_of setting.now))) }
     {

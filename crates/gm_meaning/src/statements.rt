@@ -9,6 +9,8 @@ ghost use Rattle.gm_semantics.specs.Statements.{sequential, repeated, in_turns};
 ghost use Rattle.gm_loops.specs.Bounds.{bound_of};
 ghost use Rattle.gm_loops.specs.LoopEnds.{AtRest};
 ghost use Rattle.gm_meaning.specs.Phases.{run_of, asked, turn_of, Runs};
+ghost use Rattle.gm_graph.specs.Serving.{Serve};
+ghost use Rattle.gm_loops.specs.Asking.{goes_outward, reads_outward};
 
 use crate::phases::{Course, Phase};
 use gm_ast::tree::{Expr, Key, Stmt};
@@ -26,6 +28,7 @@ impl Phase {
     ) -> Result<Course, NoMemory>
         requires rest { AtRest setting.now self.old.going }
         requires bound { bound_of (sequence (map stmt_of stmts.now.items)) ≤ setting.now.variables }
+        requires asked { Serve setting.now.in_rows.now (goes_outward (sequence (map stmt_of stmts.now.items))) }
         ensures { IfOk result (λ c. Runs setting.now self.old self.new c (sequential (sequence (map stmt_of stmts.now.items)) (run_of setting.now))) }
     {
         for stmt in stmts {
@@ -49,6 +52,8 @@ impl Phase {
     ) -> Result<Course, NoMemory>
         requires rest { AtRest setting.now self.old.going }
         requires bound { bound_of (stmt_of body.now) ≤ setting.now.variables }
+        requires test_asked { Serve setting.now.in_rows.now (reads_outward (expr_of test.now)) }
+        requires body_asked { Serve setting.now.in_rows.now (goes_outward (stmt_of body.now)) }
         ensures { IfOk result (λ c. Runs setting.now self.old self.new c
             (repeated (suc setting.now.bound) (run_of setting.now) (asked setting.now key (expr_of test.now)) (sequential (stmt_of body.now) (run_of setting.now)))) }
     {
@@ -88,6 +93,8 @@ impl Phase {
         requires rest { AtRest setting.now self.old.going }
         requires iterator { iterator < setting.now.variables }
         requires bound { bound_of (stmt_of body.now) ≤ setting.now.variables }
+        requires filter_asked { Serve setting.now.in_rows.now (reads_outward (expr_of filter.now)) }
+        requires body_asked { Serve setting.now.in_rows.now (goes_outward (stmt_of body.now)) }
         ensures { IfOk result (λ c. Runs setting.now self.old self.new c (turn_of (run_of setting.now) key iterator (expr_of filter.now) (stmt_of body.now) node)) }
     {
         self.going.store.set_scalar(iterator, Value::At(Some(node)));
@@ -116,6 +123,8 @@ impl Phase {
         requires rest { AtRest setting.now self.old.going }
         requires iterator { iterator < setting.now.variables }
         requires bound { bound_of (stmt_of body.now) ≤ setting.now.variables }
+        requires filter_asked { Serve setting.now.in_rows.now (reads_outward (expr_of filter.now)) }
+        requires body_asked { Serve setting.now.in_rows.now (goes_outward (stmt_of body.now)) }
         ensures { IfOk result (λ c. Runs setting.now self.old self.new c
             (in_turns (run_of setting.now) (nodes setting.now.graph.now) (turn_of (run_of setting.now) key iterator (expr_of filter.now) (stmt_of body.now)))) }
     {
@@ -143,6 +152,8 @@ impl Phase {
     ) -> Result<Course, NoMemory>
         requires rest { AtRest setting.now self.old.going }
         requires bound { bound_of (stmt_of body.now) ≤ setting.now.variables }
+        requires test_asked { Serve setting.now.in_rows.now (reads_outward (expr_of test.now)) }
+        requires body_asked { Serve setting.now.in_rows.now (goes_outward (stmt_of body.now)) }
         ensures { IfOk result (λ c. Runs setting.now self.old self.new c (sequential (program.Do key place (stmt_of body.now) (expr_of test.now)) (run_of setting.now))) }
     {
         if !self.begin_turn(setting) {
@@ -156,6 +167,7 @@ impl Phase {
 
     // A statement.
     #[cycle(running)]
+    #[tactic(auto, using(gm_loops::proofs::Serving::block_served, gm_loops::proofs::Serving::assign_value, gm_loops::proofs::Serving::reduce_values, gm_loops::proofs::Serving::foreach_filter, gm_loops::proofs::Serving::foreach_body, gm_loops::proofs::Serving::if_test, gm_loops::proofs::Serving::if_first, gm_loops::proofs::Serving::if_other, crate::proofs::Serving::declared_value, crate::proofs::Serving::group_value, crate::proofs::Serving::for_filter, crate::proofs::Serving::for_body, crate::proofs::Serving::while_test, crate::proofs::Serving::while_body, crate::proofs::Serving::do_body, crate::proofs::Serving::do_test, crate::proofs::Serving::search_filter, crate::proofs::Serving::search_body, crate::proofs::Serving::both_filter, crate::proofs::Serving::both_body, crate::proofs::Serving::both_back_filter, crate::proofs::Serving::both_back, crate::proofs::Serving::returned_value))]
     pub fn statement<'x>(
         &mut self,
         setting: &'x Setting<'x>,
@@ -163,6 +175,7 @@ impl Phase {
     ) -> Result<Course, NoMemory>
         requires rest { AtRest setting.now self.old.going }
         requires bound { bound_of (stmt_of s.now) ≤ setting.now.variables }
+        requires asked { Serve setting.now.in_rows.now (goes_outward (stmt_of s.now)) }
         ensures { IfOk result (λ c. Runs setting.now self.old self.new c (sequential (stmt_of s.now) (run_of setting.now))) }
     {
         match s {

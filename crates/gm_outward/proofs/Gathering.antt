@@ -21,12 +21,12 @@ use Rattle.gm_forms.proofs.Leading.{flat-in-order, flat-hoisted, safe-rest}
 use Rattle.gm_forms.proofs.Named.{both-true}
 use Rattle.gm_forms.proofs.Weaker.{and-true}
 use Rattle.gm_flip.proofs.Sane.{passes-in, all-passes}
-use Rattle.gm_outward.specs.Gathered.{together, is_lone, conditions, reduction}
+use Rattle.gm_outward.specs.Gathered.{together, is_one_reduction, conditions, reduction}
 use Rattle.gm_outward.proofs.Lone.{touched-same, reduced-same, written-same, reduction-reads, conditions-read, reduction-tells, conditions-tell, reduction-inner, conditions-flat, conditions-safe, reduction-avoids, reduction-spares, reduction-alike, reduction-last, reduction-order, reduction-faults}
 use Rattle.gm_outward.proofs.Masks.{together-has, reads-together, tells-together}
 use Rattle.gm_outward.proofs.Sane.{Formed, lies-from, numbered-in, numbered-from, AreIn, anywhere-more, elsewhere-more, at-more, fewer}
 
-module _ (ds : List Declaration) (n : ℕ) (k : Key) (mask : Expr) (j : Key) (here : Place) (i : Head) (test : Expr) (body : Stmt) (lone : is_lone body ≡ true) where
+module _ (ds : List Declaration) (n : ℕ) (k : Key) (mask : Expr) (j : Key) (here : Place) (i : Head) (test : Expr) (body : Stmt) (lone : is_one_reduction body ≡ true) where
   abbrev t : ℕ
   t = i.iterator
 

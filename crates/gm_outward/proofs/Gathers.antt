@@ -31,7 +31,7 @@ use Rattle.gm_loop_laws.proofs.Alone.{nodes-below, hoists-nothing}
 use Rattle.gm_loop_laws.proofs.Joins.{map-each}
 use Rattle.gm_loop_laws.proofs.Masks.{Holds, certain-by, certain-keys, start, start-held, seen}
 use Rattle.gm_flip.proofs.Basics.{none}
-use Rattle.gm_outward.specs.Gathered.{together, is_idle, is_lone, conditions, reduction}
+use Rattle.gm_outward.specs.Gathered.{together, is_idle, is_one_reduction, conditions, reduction}
 use Rattle.gm_outward.proofs.Lone.{by-lone, conditions-flat}
 use Rattle.gm_outward.proofs.Masks.{certain-of}
 use Rattle.gm_outward.proofs.Turns.{follows, follows-by}
@@ -72,7 +72,7 @@ module _ (ds : List Declaration) (edge : Bool) (loop : Loop) (m : Mode) (it : It
   Inner s = is_inner_body ds its edge s ≡ true
 
   abbrev Does : Stmt → Type 0
-  Does s = is_lone s ≡ true → Inner s → does s m loop it ≡ follows it (P w (conditions s)) (does (reduction s) m loop)
+  Does s = is_one_reduction s ≡ true → Inner s → does s m loop it ≡ follows it (P w (conditions s)) (does (reduction s) m loop)
 
   goes-on : (f : Iteration → Iteration) → go_on it f ≡ f it
   goes-on f = ap (λ o. unless_failed o it f) fine
@@ -87,18 +87,18 @@ module _ (ds : List Declaration) (edge : Bool) (loop : Loop) (m : Mode) (it : It
       halves : Inner a × Inner b
       halves = both-true (is_inner_body ds its edge a) (is_inner_body ds its edge b) i
 
-      by : (c : Bool) → is_idle a ≡ c → cond c (is_lone b) (is_lone a && is_idle b) ≡ true → Does a → Does b →
+      by : (c : Bool) → is_idle a ≡ c → cond c (is_one_reduction b) (is_one_reduction a && is_idle b) ≡ true → Does a → Does b →
           does (Then a b) m loop it ≡ follows it (P w (cond (is_idle a) (conditions b) (conditions a))) (does (cond (is_idle a) (reduction b) (reduction a)) m loop)
       by true e h f g =
           ap (λ i. go_on i (does b m loop)) (idle-does a m loop e it) ∙ goes-on (does b m loop) ∙ g h halves.1
           ∙ sym (ap (λ c. follows it (P w (cond c (conditions b) (conditions a))) (does (cond c (reduction b) (reduction a)) m loop)) e)
       by false e h f g =
-          let q = both-true (is_lone a) (is_idle b) h in
+          let q = both-true (is_one_reduction a) (is_idle b) h in
           skips (does a m loop it) (does b m loop) (idle-does b m loop q.1) ∙ f q.0 halves.0
           ∙ sym (ap (λ c. follows it (P w (cond c (conditions b) (conditions a))) (does (cond c (reduction b) (reduction a)) m loop)) e)
   does-lone (If k c a b) l i =
-      let p = both-true (cannot_fail c) (is_lone a && is_idle b) l in
-      let q = both-true (is_lone a) (is_idle b) p.1 in
+      let p = both-true (cannot_fail c) (is_one_reduction a && is_idle b) l in
+      let q = both-true (is_one_reduction a) (is_idle b) p.1 in
       let u = both-true (is_flat its edge c) (is_inner_body ds its edge a && is_inner_body ds its edge b) i in
       let v = both-true (is_inner_body ds its edge a) (is_inner_body ds its edge b) u.1 in
       let sure = certain-of its edge c p.0 u.0 in
@@ -146,7 +146,7 @@ idle-pushes x p (InBfs k at hd c s) h = none h
 idle-pushes x p (InBfsBoth k at hd c s bk d u) h = none h
 idle-pushes x p (Return k at e) h = none h
 
-pushes-same : (x p : ℕ) (s : Stmt) → is_lone s ≡ true → pushes (reduction s) x p ≡ pushes s x p
+pushes-same : (x p : ℕ) (s : Stmt) → is_one_reduction s ≡ true → pushes (reduction s) x p ≡ pushes s x p
 pushes-same x p s h = by-lone (λ s. pushes (reduction s) x p ≡ pushes s x p)
     (λ a b e f. ap (λ c. pushes (cond c (reduction b) (reduction a)) x p) e ∙ f ∙ sym (ap (λ c. c || pushes b x p) (idle-pushes x p a e)))
     (λ a b e i f. ap (λ c. pushes (cond c (reduction b) (reduction a)) x p) e ∙ f ∙ sym (ap (λ c. pushes a x p || c) (idle-pushes x p b i) ∙ or-none (pushes a x p)))
@@ -155,7 +155,7 @@ pushes-same x p s h = by-lone (λ s. pushes (reduction s) x p ≡ pushes s x p)
 
 -- at the edges of a node
 module _ (ds : List Declaration) (loop : Loop) (k j : Key) (here : Place) (i : Head) (test : Expr) (body : Stmt) (is : IsGraph loop.graph) (apart : nat_eq i.iterator loop.outer ≡ false)
-    (inner : is_inner_body ds (loop.outer ∷ i.iterator ∷ []) true body ≡ true) (lone : is_lone body ≡ true) (s : Store) (x : ℕ) (among : IsIn x (nodes loop.graph)) where
+    (inner : is_inner_body ds (loop.outer ∷ i.iterator ∷ []) true body ≡ true) (lone : is_one_reduction body ≡ true) (s : Store) (x : ℕ) (among : IsIn x (nodes loop.graph)) where
   abbrev n : ℕ
   n = loop.outer
 
@@ -220,7 +220,7 @@ module _ (ds : List Declaration) (loop : Loop) (k j : Key) (here : Place) (i : H
 
 -- the loop runs as it did
 module _ (run : Run) (k j : Key) (at here : Place) (h i : Head) (test : Expr) (body : Stmt) (is : IsGraph run.graph) (apart : nat_eq i.iterator h.iterator ≡ false)
-    (inner : is_inner_body run.declarations (h.iterator ∷ i.iterator ∷ []) true body ≡ true) (lone : is_lone body ≡ true) where
+    (inner : is_inner_body run.declarations (h.iterator ∷ i.iterator ∷ []) true body ≡ true) (lone : is_one_reduction body ≡ true) where
   abbrev old : Stmt
   old = Foreach j here i test body
 

@@ -15,7 +15,7 @@ use Rattle.gm_forms.proofs.Doings.{in-left, in-right, in-either}
 use Rattle.gm_forms.proofs.Named.{both-true}
 use Rattle.gm_forms.proofs.Weaker.{and-true}
 use Rattle.gm_flip.proofs.Basics.{none}
-use Rattle.gm_outward.specs.Gathered.{together, is_idle, is_lone, conditions, reduction}
+use Rattle.gm_outward.specs.Gathered.{together, is_idle, is_one_reduction, conditions, reduction}
 use Rattle.gm_outward.proofs.Masks.{together-has, Reads, reads-together, Tells, tells-together}
 
 append-nil : {A : Type 0} (xs : List A) → xs ++ [] ≡ xs
@@ -27,15 +27,15 @@ module _ (Q : Stmt → Type 0)
     (front : (a b : Stmt) → is_idle a ≡ true → Q b → Q (Then a b)) (back : (a b : Stmt) → is_idle a ≡ false → is_idle b ≡ true → Q a → Q (Then a b))
     (under : (k : Key) (c : Expr) (a b : Stmt) → cannot_fail c ≡ true → is_idle b ≡ true → Q a → Q (If k c a b))
     (one : (k : Key) → (total : _) → (r : _) → (ts : _) → (es : _) → Q (Combine k total r ts es)) where
-  pub by-lone : (s : Stmt) → is_lone s ≡ true → Q s
+  pub by-lone : (s : Stmt) → is_one_reduction s ≡ true → Q s
   by-lone (Then a b) h = by (is_idle a) refl h (by-lone a) (by-lone b)
     where
-      by : (c : Bool) → is_idle a ≡ c → cond c (is_lone b) (is_lone a && is_idle b) ≡ true → (is_lone a ≡ true → Q a) → (is_lone b ≡ true → Q b) → Q (Then a b)
+      by : (c : Bool) → is_idle a ≡ c → cond c (is_one_reduction b) (is_one_reduction a && is_idle b) ≡ true → (is_one_reduction a ≡ true → Q a) → (is_one_reduction b ≡ true → Q b) → Q (Then a b)
       by true e l f g = front a b e (g l)
-      by false e l f g = let q = both-true (is_lone a) (is_idle b) l in back a b e q.1 (f q.0)
+      by false e l f g = let q = both-true (is_one_reduction a) (is_idle b) l in back a b e q.1 (f q.0)
   by-lone (If k c a b) h =
-      let p = both-true (cannot_fail c) (is_lone a && is_idle b) h in
-      let q = both-true (is_lone a) (is_idle b) p.1 in
+      let p = both-true (cannot_fail c) (is_one_reduction a && is_idle b) h in
+      let q = both-true (is_one_reduction a) (is_idle b) p.1 in
       under k c a b p.0 q.1 (by-lone a q.0)
   by-lone (Combine k total r ts es) h = one k total r ts es
   by-lone Skip h = none h
@@ -54,21 +54,21 @@ module _ (Q : Stmt → Type 0)
 
 -- what all parts of a body have, its reduction has, and so have its conditions together
 module _ (B : Stmt → Type 0) (first-of : (a b : Stmt) → B (Then a b) → B a) (second-of : (a b : Stmt) → B (Then a b) → B b) (yes-of : (k : Key) (c : Expr) (a b : Stmt) → B (If k c a b) → B a) where
-  pub reduction-has : (s : Stmt) → is_lone s ≡ true → B s → B (reduction s)
+  pub reduction-has : (s : Stmt) → is_one_reduction s ≡ true → B s → B (reduction s)
   reduction-has s h = by-lone (λ s. B s → B (reduction s))
       (λ a b e f p. subst (λ c. B (cond c (reduction b) (reduction a))) (sym e) (f (second-of a b p)))
       (λ a b e i f p. subst (λ c. B (cond c (reduction b) (reduction a))) (sym e) (f (first-of a b p)))
       (λ k c a b q i f p. f (yes-of k c a b p)) (λ k total r ts es p. p) s h
 
   module _ (Q : Expr → Type 0) (passes : Q always) (pair : (a b : Expr) → Q a → Q b → Q (Both a b)) (of : (k : Key) (c : Expr) (a b : Stmt) → cannot_fail c ≡ true → B (If k c a b) → Q c) where
-    pub conditions-have : (s : Stmt) → is_lone s ≡ true → B s → Q (conditions s)
+    pub conditions-have : (s : Stmt) → is_one_reduction s ≡ true → B s → Q (conditions s)
     conditions-have s h = by-lone (λ s. B s → Q (conditions s))
         (λ a b e f p. subst (λ c. Q (cond c (conditions b) (conditions a))) (sym e) (f (second-of a b p)))
         (λ a b e i f p. subst (λ c. Q (cond c (conditions b) (conditions a))) (sym e) (f (first-of a b p)))
         (λ k c a b q i f p. together-has Q passes pair c (conditions a) (of k c a b q p) (f (yes-of k c a b p))) (λ k total r ts es p. passes) s h
 
 -- the conditions cannot fault
-pub conditions-safe : (s : Stmt) → is_lone s ≡ true → cannot_fail (conditions s) ≡ true
+pub conditions-safe : (s : Stmt) → is_one_reduction s ≡ true → cannot_fail (conditions s) ≡ true
 conditions-safe s h = conditions-have (λ s. cannot_fail always ≡ true) (λ a b p. p) (λ a b p. p) (λ k c a b p. p) (λ e. cannot_fail e ≡ true) refl (λ a b p q. and-true (cannot_fail a) (cannot_fail b) p q) (λ k c a b q p. q) s h refl
 
 -- lists of what is done by parts
@@ -92,21 +92,21 @@ module _ {A : Type 0} (L : Stmt → List A) (both : (a b : Stmt) → L (Then a b
   idle-list (Return k at e) h = none h
 
   -- are those of the reduction
-  pub reduction-list : (s : Stmt) → is_lone s ≡ true → L (reduction s) ≡ L s
+  pub reduction-list : (s : Stmt) → is_one_reduction s ≡ true → L (reduction s) ≡ L s
   reduction-list s h = by-lone (λ s. L (reduction s) ≡ L s)
       (λ a b e f. ap (λ c. L (cond c (reduction b) (reduction a))) e ∙ f ∙ sym (both a b ∙ ap (λ l. l ++ L b) (idle-list a e)))
       (λ a b e i f. ap (λ c. L (cond c (reduction b) (reduction a))) e ∙ f ∙ sym (both a b ∙ ap (λ l. L a ++ l) (idle-list b i) ∙ append-nil (L a)))
       (λ k c a b q i f. f ∙ sym (ways k c a b ∙ ap (λ l. L a ++ l) (idle-list b i) ∙ append-nil (L a)))
       (λ k total r ts es. refl) s h
 
-pub touched-same : (s : Stmt) → is_lone s ≡ true → touched (reduction s) ≡ touched s
+pub touched-same : (s : Stmt) → is_one_reduction s ≡ true → touched (reduction s) ≡ touched s
 touched-same = reduction-list touched (λ a b. refl) (λ k c a b. refl) refl (λ x y at. refl)
 
 module _ (ds : List Declaration) (n : ℕ) where
-  pub reduced-same : (s : Stmt) → is_lone s ≡ true → reduced ds n true (reduction s) ≡ reduced ds n true s
+  pub reduced-same : (s : Stmt) → is_one_reduction s ≡ true → reduced ds n true (reduction s) ≡ reduced ds n true s
   reduced-same = reduction-list (reduced ds n true) (λ a b. refl) (λ k c a b. refl) refl (λ x y at. refl)
 
-  pub written-same : (s : Stmt) → is_lone s ≡ true → written ds n true (reduction s) ≡ written ds n true s
+  pub written-same : (s : Stmt) → is_one_reduction s ≡ true → written ds n true (reduction s) ≡ written ds n true s
   written-same = reduction-list (written ds n true) (λ a b. refl) (λ k c a b. refl) refl (λ x y at. refl)
 
   abbrev S : Stmt → Sights
@@ -126,10 +126,10 @@ module _ (ds : List Declaration) (n : ℕ) where
     yes-reads : (k : Key) (c : Expr) (a b : Stmt) → Reading (If k c a b) → Reading a
     yes-reads k c a b h r i = h r (in-right r (reads_in c) ((S a).properties ++ (S b).properties) (in-left r (S a).properties (S b).properties i))
 
-    pub reduction-reads : (s : Stmt) → is_lone s ≡ true → Reading s → Reading (reduction s)
+    pub reduction-reads : (s : Stmt) → is_one_reduction s ≡ true → Reading s → Reading (reduction s)
     reduction-reads = reduction-has Reading first-reads second-reads yes-reads
 
-    pub conditions-read : (s : Stmt) → is_lone s ≡ true → Reading s → Reads l (conditions s)
+    pub conditions-read : (s : Stmt) → is_one_reduction s ≡ true → Reading s → Reads l (conditions s)
     conditions-read = conditions-have Reading first-reads second-reads yes-reads (Reads l) (λ r i. absurd i) (λ a b p q r i. ⊎_elim (λ j. p r j) (λ j. q r j) (in-either r (reads_in a) (reads_in b) i))
         (λ k c a b q h r i. h r (in-left r (reads_in c) ((S a).properties ++ (S b).properties) i))
 
@@ -147,10 +147,10 @@ module _ (ds : List Declaration) (n : ℕ) where
     yes-tells : (k : Key) (c : Expr) (a b : Stmt) → Telling (If k c a b) → Telling a
     yes-tells k c a b h y i = h y (in-right y (told_in c) ((S a).scalars ++ (S b).scalars) (in-left y (S a).scalars (S b).scalars i))
 
-    pub reduction-tells : (s : Stmt) → is_lone s ≡ true → Telling s → Telling (reduction s)
+    pub reduction-tells : (s : Stmt) → is_one_reduction s ≡ true → Telling s → Telling (reduction s)
     reduction-tells = reduction-has Telling first-tells second-tells yes-tells
 
-    pub conditions-tell : (s : Stmt) → is_lone s ≡ true → Telling s → Tells l (conditions s)
+    pub conditions-tell : (s : Stmt) → is_one_reduction s ≡ true → Telling s → Tells l (conditions s)
     conditions-tell = conditions-have Telling first-tells second-tells yes-tells (Tells l) (λ y i. absurd i) (λ a b p q y i. ⊎_elim (λ j. p y j) (λ j. q y j) (in-either y (told_in a) (told_in b) i))
         (λ k c a b q h y i. h y (in-left y (told_in c) ((S a).scalars ++ (S b).scalars) i))
 
@@ -165,27 +165,27 @@ module _ (ds : List Declaration) (its : List ℕ) (edge : Bool) where
   inner-ways : (k : Key) (c : Expr) (a b : Stmt) → Inner (If k c a b) → (is_flat its edge c ≡ true) × Inner a
   inner-ways k c a b h = let q = both-true (is_flat its edge c) (is_inner_body ds its edge a && is_inner_body ds its edge b) h in (q.0, (both-true (is_inner_body ds its edge a) (is_inner_body ds its edge b) q.1).0)
 
-  pub reduction-inner : (s : Stmt) → is_lone s ≡ true → Inner s → Inner (reduction s)
+  pub reduction-inner : (s : Stmt) → is_one_reduction s ≡ true → Inner s → Inner (reduction s)
   reduction-inner = reduction-has Inner (λ a b h. (inner-halves a b h).0) (λ a b h. (inner-halves a b h).1) (λ k c a b h. (inner-ways k c a b h).1)
 
-  pub conditions-flat : (s : Stmt) → is_lone s ≡ true → Inner s → is_flat its edge (conditions s) ≡ true
+  pub conditions-flat : (s : Stmt) → is_one_reduction s ≡ true → Inner s → is_flat its edge (conditions s) ≡ true
   conditions-flat = conditions-have Inner (λ a b h. (inner-halves a b h).0) (λ a b h. (inner-halves a b h).1) (λ k c a b h. (inner-ways k c a b h).1)
       (λ e. is_flat its edge e ≡ true) refl (λ a b p q. and-true (is_flat its edge a) (is_flat its edge b) p q) (λ k c a b q h. (inner-ways k c a b h).0)
 
-pub reduction-avoids : (x : ℕ) (s : Stmt) → is_lone s ≡ true → avoids x s ≡ true → avoids x (reduction s) ≡ true
+pub reduction-avoids : (x : ℕ) (s : Stmt) → is_one_reduction s ≡ true → avoids x s ≡ true → avoids x (reduction s) ≡ true
 reduction-avoids x = reduction-has (λ s. avoids x s ≡ true) (λ a b h. (both-true (avoids x a) (avoids x b) h).0) (λ a b h. (both-true (avoids x a) (avoids x b) h).1) (λ k c a b h. (both-true (avoids x a) (avoids x b) h).0)
 
-pub reduction-spares : (ds : List Declaration) (s : Stmt) → is_lone s ≡ true → spares_locals ds s ≡ true → spares_locals ds (reduction s) ≡ true
+pub reduction-spares : (ds : List Declaration) (s : Stmt) → is_one_reduction s ≡ true → spares_locals ds s ≡ true → spares_locals ds (reduction s) ≡ true
 reduction-spares ds = reduction-has (λ s. spares_locals ds s ≡ true) (λ a b h. (both-true (spares_locals ds a) (spares_locals ds b) h).0) (λ a b h. (both-true (spares_locals ds a) (spares_locals ds b) h).1) (λ k c a b h. (both-true (spares_locals ds a) (spares_locals ds b) h).0)
 
-pub reduction-alike : (s : Stmt) → is_lone s ≡ true → targets_alike s ≡ true → targets_alike (reduction s) ≡ true
+pub reduction-alike : (s : Stmt) → is_one_reduction s ≡ true → targets_alike s ≡ true → targets_alike (reduction s) ≡ true
 reduction-alike = reduction-has (λ s. targets_alike s ≡ true) (λ a b h. (both-true (targets_alike a) (targets_alike b) h).0) (λ a b h. (both-true (targets_alike a) (targets_alike b) h).1) (λ k c a b h. (both-true (targets_alike a) (targets_alike b) h).0)
 
-pub reduction-last : (its : List ℕ) (s : Stmt) → is_lone s ≡ true → adds_last its s ≡ true → adds_last its (reduction s) ≡ true
+pub reduction-last : (its : List ℕ) (s : Stmt) → is_one_reduction s ≡ true → adds_last its s ≡ true → adds_last its (reduction s) ≡ true
 reduction-last its = reduction-has (λ s. adds_last its s ≡ true) (λ a b h. (both-true (adds_last its a) _ h).0) (λ a b h. (both-true (adds_last its b) _ (both-true (adds_last its a) _ h).1).0) (λ k c a b h. (both-true (adds_last its a) (adds_last its b) h).0)
 
 -- the order of faults
-pub reduction-order : (its : List ℕ) (s : Stmt) → is_lone s ≡ true → body_in_order its s ≡ true → body_in_order its (reduction s) ≡ true
+pub reduction-order : (its : List ℕ) (s : Stmt) → is_one_reduction s ≡ true → body_in_order its s ≡ true → body_in_order its (reduction s) ≡ true
 reduction-order its = reduction-has (λ s. body_in_order its s ≡ true)
     (λ a b h. (both-true (body_in_order its a) _ h).0) (λ a b h. (both-true (body_in_order its b) _ (both-true (body_in_order its a) _ h).1).0)
     (λ k c a b h. (both-true (body_in_order its a) _ (both-true (in_order c k) _ h).1).0)
@@ -194,6 +194,6 @@ module _ (its : List ℕ) (l : List K.Fault) where
   abbrev Faulting : Stmt → Type 0
   Faulting s = (g : K.Fault) → IsIn g (faults_of its s) → IsIn g l
 
-  pub reduction-faults : (s : Stmt) → is_lone s ≡ true → Faulting s → Faulting (reduction s)
+  pub reduction-faults : (s : Stmt) → is_one_reduction s ≡ true → Faulting s → Faulting (reduction s)
   reduction-faults = reduction-has Faulting (λ a b h g i. h g (in-left g (faults_of its a) (faults_of its b) i)) (λ a b h g i. h g (in-right g (faults_of its a) (faults_of its b) i))
       (λ k c a b h g i. h g (in-right g (faults_in c k) (faults_of its a ++ faults_of its b) (in-left g (faults_of its a) (faults_of its b) i)))

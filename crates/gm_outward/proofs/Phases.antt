@@ -36,7 +36,7 @@ use Rattle.gm_forms.specs.Uses.{Iterates, Owner, Use, has_role, suits, use_as, o
 use Rattle.gm_forms.proofs.Courses.{then_do-both, with_value-each, either_way-each, begin_turn-each, repeated-each, in_turns-each}
 use Rattle.gm_forms.proofs.Named.{both-true, all-append}
 use Rattle.gm_forms.proofs.Weaker.{and-true}
-use Rattle.gm_outward.specs.Gathered.{together, is_lone, conditions, reduction, gathered}
+use Rattle.gm_outward.specs.Gathered.{together, is_one_reduction, conditions, reduction, gathered}
 use Rattle.gm_outward.specs.Outward.{is_outer, chosen, left, asked_mask, asked_body, asked_outward, outward}
 use Rattle.gm_flip.proofs.Basics.{none}
 use Rattle.gm_outward.proofs.Lone.{conditions-have, reduction-has}
@@ -116,7 +116,7 @@ module _ (ds : List Declaration) where
   suit-yes : (k : Key) (c : Expr) (a b : Stmt) → Suit (uses_of (If k c a b)) → Suit (uses_of a)
   suit-yes k c a b h = suit-first a b (all-append (suits ds) (uses_in c) (uses_of a ++ uses_of b) h).1
 
-  gathered-named : (k : Key) (at : Place) (h : Head) (mask : Expr) (j : Key) (here : Place) (i : Head) (test : Expr) (body : Stmt) → is_lone body ≡ true →
+  gathered-named : (k : Key) (at : Place) (h : Head) (mask : Expr) (j : Key) (here : Place) (i : Head) (test : Expr) (body : Stmt) → is_one_reduction body ≡ true →
       Suit (uses_of (Foreach k at h mask (Foreach j here i test body))) → Suit (uses_of (Foreach k at h mask (Foreach j here i (together test (conditions body)) (reduction body))))
   gathered-named k at h mask j here i test body l s =
       let f = suits ds in
@@ -141,7 +141,7 @@ module _ (ds : List Declaration) where
     typed-yes : (k : Key) (c : Expr) (a b : Stmt) → Typed (If k c a b) → Typed a
     typed-yes k c a b h = (both-true (is_typed_in ds r a) (is_typed_in ds r b) (both-true (has_type ds Flag c) (is_typed_in ds r a && is_typed_in ds r b) h).1).0
 
-    gathered-typed : (k : Key) (at : Place) (h : Head) (mask : Expr) (j : Key) (here : Place) (i : Head) (test : Expr) (body : Stmt) → is_lone body ≡ true →
+    gathered-typed : (k : Key) (at : Place) (h : Head) (mask : Expr) (j : Key) (here : Place) (i : Head) (test : Expr) (body : Stmt) → is_one_reduction body ≡ true →
         Typed (Foreach k at h mask (Foreach j here i test body)) → Typed (Foreach k at h mask (Foreach j here i (together test (conditions body)) (reduction body)))
     gathered-typed k at h mask j here i test body l s =
         let a = both-true (has_type ds Flag mask) (has_type ds Flag test && is_typed_in ds r body) s in
@@ -196,19 +196,19 @@ module _ (ds : List Declaration) where
     Asks = (j : Key) (here : Place) (i : Head) (test : Expr) (inner : Stmt) → Loop j here i test inner → Keeps (Foreach k at h mask (Foreach j here i test inner)) → Keeps (asked k at h mask (Foreach j here i test inner))
 
     abbrev Gathers : Type 0
-    Gathers = (j : Key) (here : Place) (i : Head) (test : Expr) (inner : Stmt) → is_lone inner ≡ true → Loop j here i test inner → Keeps (Foreach k at h mask (Foreach j here i test inner)) →
+    Gathers = (j : Key) (here : Place) (i : Head) (test : Expr) (inner : Stmt) → is_one_reduction inner ≡ true → Loop j here i test inner → Keeps (Foreach k at h mask (Foreach j here i test inner)) →
         Keeps (Foreach k at h mask (Foreach j here i (together test (conditions inner)) (reduction inner)))
 
     formed-loop : (j : Key) (here : Place) (i : Head) (test : Expr) (inner : Stmt) → Given (Foreach k at h mask (Foreach j here i test inner)) → Loop j here i test inner
     formed-loop j here i test inner g = formed-of ds h.iterator k mask j here i test inner (cut-of k at h mask (Foreach j here i test inner) g).1
 
     each-loop : (body : Stmt) → Given (Foreach k at h mask body) → Keeps (Foreach k at h mask body) → Gathers → Asks → Keeps (asked_all k at h mask body)
-    each-loop (Foreach j here i test inner) g stays gathers asks = by (is_lone inner) refl
+    each-loop (Foreach j here i test inner) g stays gathers asks = by (is_one_reduction inner) refl
       where
         f : Loop j here i test inner
         f = formed-loop j here i test inner g
 
-        by : (b : Bool) → is_lone inner ≡ b → Keeps (asked k at h mask (Foreach j here i (cond b (together test (conditions inner)) test) (cond b (reduction inner) inner)))
+        by : (b : Bool) → is_one_reduction inner ≡ b → Keeps (asked k at h mask (Foreach j here i (cond b (together test (conditions inner)) test) (cond b (reduction inner) inner)))
         by true l = asks j here i (together test (conditions inner)) (reduction inner)
             (formed-of ds h.iterator k mask j here i (together test (conditions inner)) (reduction inner) (cut-new ds h.iterator k mask j here i test inner l f)) (gathers j here i test inner l f stays)
         by false l = asks j here i test inner f stays

@@ -16,11 +16,11 @@ is_idle (DeclareEdge x y at) = true
 is_idle _ = false
 
 -- whether a body is one reduction, under conditions that cannot fault and have no other branch
-abbrev pub is_lone : Stmt → Bool
-is_lone (Then a b) = if is_idle a then is_lone b else is_lone a && is_idle b
-is_lone (If k c a b) = cannot_fail c && (is_lone a && is_idle b)
-is_lone (Combine k total r ts es) = true
-is_lone _ = false
+abbrev pub is_one_reduction : Stmt → Bool
+is_one_reduction (Then a b) = if is_idle a then is_one_reduction b else is_one_reduction a && is_idle b
+is_one_reduction (If k c a b) = cannot_fail c && (is_one_reduction a && is_idle b)
+is_one_reduction (Combine k total r ts es) = true
+is_one_reduction _ = false
 
 -- the conditions of such a body
 abbrev pub conditions : Stmt → Expr
@@ -36,11 +36,11 @@ reduction s = s
 
 -- the filter of an inner loop: where the loop's body is one reduction, its conditions join it
 abbrev pub gathered_filter : Expr → Stmt → Expr
-gathered_filter test body = if is_lone body then together test (conditions body) else test
+gathered_filter test body = if is_one_reduction body then together test (conditions body) else test
 
 -- and its body
 abbrev pub gathered_body : Stmt → Stmt
-gathered_body body = if is_lone body then reduction body else body
+gathered_body body = if is_one_reduction body then reduction body else body
 
 -- an inner loop so
 abbrev pub gathered : Stmt → Stmt

@@ -39,12 +39,12 @@ fn is_idle(s: &Stmt) -> bool
 // Whether the statements of a block are one reduction under conditions, and others that do nothing.
 #[cycle(lone)]
 fn are_lone(stmts: &Vec<Stmt>) -> bool
-    ensures { result ≡ Gathered.is_lone (sequence (map stmt_of stmts.now.items)) }
+    ensures { result ≡ Gathered.is_one_reduction (sequence (map stmt_of stmts.now.items)) }
 {
     let mut found = false;
     for stmt in stmts {
         if !is_idle(stmt) {
-            if found || !is_lone(stmt) {
+            if found || !is_one_reduction(stmt) {
                 return false;
             }
             found = true;
@@ -55,13 +55,15 @@ fn are_lone(stmts: &Vec<Stmt>) -> bool
 
 // Whether a body is one reduction, under conditions that cannot fault and have no other branch.
 #[cycle(lone)]
-fn is_lone(s: &Stmt) -> bool
-    ensures { result ≡ Gathered.is_lone (stmt_of s.now) }
+fn is_one_reduction(s: &Stmt) -> bool
+    ensures { result ≡ Gathered.is_one_reduction (stmt_of s.now) }
 {
     match s {
         Stmt::Block(stmts) => are_lone(stmts),
         Stmt::Reduce { .. } => true,
-        Stmt::If { test, yes, no, .. } => cannot_fail(test) && (is_lone(yes) && is_idle(no)),
+        Stmt::If { test, yes, no, .. } => {
+            cannot_fail(test) && (is_one_reduction(yes) && is_idle(no))
+        }
         _ => false,
     }
 }
@@ -114,7 +116,7 @@ pub(crate) fn gather(alloc: Global, filter: &mut Expr, body: &mut Stmt) -> Resul
     ensures filter { OnOk result (expr_of filter.new ≡ Gathered.gathered_filter (expr_of filter.old) (stmt_of body.old)) }
     ensures body { OnOk result (stmt_of body.new ≡ Gathered.gathered_body (stmt_of body.old)) }
 {
-    if !is_lone(body) {
+    if !is_one_reduction(body) {
         return Ok(());
     }
     let (conditions, reduction) = lift(alloc, body)?;

@@ -23,7 +23,7 @@ module _ (goes : List Target → Type 0) (outer inner : ℕ → Type 0) where
   inner-within (Foreach k at hd test s) h = (h.0, tt)
   inner-within s h = tt
 
-  all-inner : (s : Stmt) → Phase goes outer inner s → Every inner (all_inner_iterators s)
+  pub all-inner : (s : Stmt) → Phase goes outer inner s → Every inner (all_inner_iterators s)
   all-inner (Then a b) h = every-append inner (all_inner_iterators a) (all_inner_iterators b) (all-inner a h.0) (all-inner b h.1)
   all-inner (Foreach k at hd test s) h = inner-within s h.1.1
   all-inner (For k at hd test s) h = all-inner s h.1

@@ -1,6 +1,6 @@
 pub mod Standing
-mod Tables
-mod Facts
+pub mod Tables
+pub mod Facts
 mod Groups
 mod Compounds
 mod Literals
@@ -13,7 +13,7 @@ mod InnerFolds
 mod Searches
 mod Unchecked
 mod UncheckedStatements
-mod Texts
+pub mod Texts
 mod Tuples
-mod Together
+pub mod Together
 mod Samples

@@ -115,7 +115,7 @@ module _ (goes : List Declaration → List Target → Type 0) (single : (ds : Li
 -- ---- the laws
 
 -- where it has any tuples
-any-stands : (p : Program) → IsTyped p → let q = levelled (with_plain_loops p) in Phase Any (Outer q.declarations) (Inner q.declarations) q.body
+pub any-stands : (p : Program) → IsTyped p → let q = levelled (with_plain_loops p) in Phase Any (Outer q.declarations) (Inner q.declarations) q.body
 any-stands p typed = levelled-stands (λ ds. Any) (λ ds t. tt) (λ ds more ts h. tt) p (program-stands Any p typed (all-given p.body))
 
 pub keep-apart : TypedKeepIteratorsApart

@@ -19,3 +19,4 @@ mod lasts;
 pub mod nodes;
 pub mod numbers;
 pub mod prepare;
+pub mod tuples;

@@ -3,18 +3,25 @@ use Rattle.std.proofs.Common.{◌≡◌, ℕ, Bool, true, false, ◌||◌, List,
 use Rattle.std.specs.Prelude.{nat_eq, flat_map}
 use Rattle.std.proofs.lemmas.Bool.{or_left}
 use Rattle.gm_ast.specs.declared.tree.Target.{Target}
-use Rattle.gm_ast.specs.Program.{Stmt, Skip, Then, Declare, DeclareEdge, Assign, Defer, Combine, Group, Foreach, For, If, While, Do, InBfs, InBfsBoth, Return}
-use Rattle.gm_ast.specs.Ways.{Mention, mentions, Action, actions}
+use Rattle.gm_ast.specs.Program.{Expr, Stmt, Skip, Then, Declare, DeclareEdge, Assign, Defer, Combine, Group, Foreach, For, If, While, Do, InBfs, InBfsBoth, Return}
+use Rattle.gm_ast.specs.Ways.{Mention, mentions, held_of, Action, actions}
 use Rattle.gm_ast.specs.Loops.{any}
 use Rattle.gm_push_pull.specs.Tests.{Test, passes_alone, passes}
-use Rattle.gm_push_pull.specs.Sweeps.{is_written, written, Demand, Demands}
-use Rattle.gm_push_pull.proofs.Ors.{or-swap, or-nothing}
+use Rattle.gm_push_pull.specs.Sweeps.{compared, is_written, written, Demand, Demands}
+use Rattle.gm_push_pull.proofs.Ors.{or-assoc, or-swap, or-nothing}
 use Rattle.gm_push_pull.proofs.Among.{Among, among-left, among-right, among-cases, any-append}
 use Rattle.gm_push_pull.proofs.Supports.{Closed, either_way}
 
 -- a test of what is mentioned beside conditions
 beside : (p : Mention → Bool) (ms cs : List Mention) → any p (ms ++ cs) ≡ (any p cs || any p ms)
 beside p ms cs = any-append p ms cs ∙ or-swap (any p ms) (any p cs)
+
+-- and of what a reduction looks at, where its values are mentioned before what its targets hold
+pub looked-at : (p : Mention → Bool) (ts : List Target) (es : List Expr) (cs : List Mention) → any p (flat_map mentions es ++ (flat_map held_of ts ++ cs)) ≡ (any p cs || any p (compared ts es))
+looked-at p ts es cs =
+    let held = flat_map held_of ts in
+    let values = flat_map mentions es in
+    beside p values (held ++ cs) ∙ ap (λ b. b || any p values) (beside p held cs) ∙ or-assoc (any p cs) (any p held) (any p values) ∙ ap (λ b. any p cs || b) (sym (any-append p held values))
 
 module _ (i : ℕ) (known : ℕ → Bool) (t : Test) (B : ℕ → Bool) where
   -- answers that are closed under what a list of actions writes
@@ -50,12 +57,13 @@ module _ (i : ℕ) (known : ℕ → Bool) (t : Test) (B : ℕ → Bool) where
   demands-closed (Declare k x (Some e)) cs h = λ y a b q.
       h (record { reduces = false; targets = Target.Scalar x (record { line = 0; col = 0 }) ∷ []; mentioned = (mentions e ++ []) ++ cs }) (inl refl) y a (or_left (nat_eq x y) false b)
       (beside (passes i t B) (mentions e ++ []) cs ∙ ap (λ c. any (passes i t B) cs || c) (any-append (passes i t B) (mentions e) [] ∙ or-nothing (any (passes i t B) (mentions e))) ∙ q)
-  demands-closed (Declare k x None) cs h = tt
+  demands-closed (Declare k x None) cs h = λ y a b q.
+      h (record { reduces = false; targets = Target.Scalar x (record { line = 0; col = 0 }) ∷ []; mentioned = cs }) (inl refl) y a (or_left (nat_eq x y) false b) q
   demands-closed (Assign k target e) cs h = λ y a b q.
       h (record { reduces = false; targets = target ∷ []; mentioned = (mentions e ++ []) ++ cs }) (inl refl) y a (or_left (is_written target y) false b)
       (beside (passes i t B) (mentions e ++ []) cs ∙ ap (λ c. any (passes i t B) cs || c) (any-append (passes i t B) (mentions e) [] ∙ or-nothing (any (passes i t B) (mentions e))) ∙ q)
   demands-closed (Combine k total r ts es) cs h = λ y a b q.
-      h (record { reduces = true; targets = ts; mentioned = flat_map mentions es ++ cs }) (inl refl) y a b (beside (passes i t B) (flat_map mentions es) cs ∙ q)
+      h (record { reduces = true; targets = ts; mentioned = flat_map mentions es ++ (flat_map held_of ts ++ cs) }) (inl refl) y a b (looked-at (passes i t B) ts es cs ∙ q)
   demands-closed Skip cs h = tt
   demands-closed (DeclareEdge x y at) cs h = tt
   demands-closed (Defer key target e) cs h = tt
@@ -78,12 +86,13 @@ module _ (i : ℕ) (known : ℕ → Bool) (t : Test) (B : ℕ → Bool) where
   closed-demands (Declare k x (Some e)) cs d = closed-one (record { reduces = false; targets = Target.Scalar x (record { line = 0; col = 0 }) ∷ []; mentioned = (mentions e ++ []) ++ cs })
       (λ y a b q. d y a (sym (or-nothing (nat_eq x y)) ∙ b)
       (sym (beside (passes i t B) (mentions e ++ []) cs ∙ ap (λ c. any (passes i t B) cs || c) (any-append (passes i t B) (mentions e) [] ∙ or-nothing (any (passes i t B) (mentions e)))) ∙ q))
-  closed-demands (Declare k x None) cs d = λ a k. absurd k
+  closed-demands (Declare k x None) cs d = closed-one (record { reduces = false; targets = Target.Scalar x (record { line = 0; col = 0 }) ∷ []; mentioned = cs })
+      (λ y a b q. d y a (sym (or-nothing (nat_eq x y)) ∙ b) q)
   closed-demands (Assign k target e) cs d = closed-one (record { reduces = false; targets = target ∷ []; mentioned = (mentions e ++ []) ++ cs })
       (λ y a b q. d y a (sym (or-nothing (is_written target y)) ∙ b)
       (sym (beside (passes i t B) (mentions e ++ []) cs ∙ ap (λ c. any (passes i t B) cs || c) (any-append (passes i t B) (mentions e) [] ∙ or-nothing (any (passes i t B) (mentions e)))) ∙ q))
-  closed-demands (Combine k total r ts es) cs d = closed-one (record { reduces = true; targets = ts; mentioned = flat_map mentions es ++ cs })
-      (λ y a b q. d y a b (sym (beside (passes i t B) (flat_map mentions es) cs) ∙ q))
+  closed-demands (Combine k total r ts es) cs d = closed-one (record { reduces = true; targets = ts; mentioned = flat_map mentions es ++ (flat_map held_of ts ++ cs) })
+      (λ y a b q. d y a b (sym (looked-at (passes i t B) ts es cs) ∙ q))
   closed-demands Skip cs d = λ a k. absurd k
   closed-demands (DeclareEdge x y at) cs d = λ a k. absurd k
   closed-demands (Defer key target e) cs d = λ a k. absurd k

@@ -1,6 +1,6 @@
 -- The syntax of trees with resolved names: one equation for each form over which the passes recurse.
 use Rattle.std.proofs.Common.{◌≡◌, ℕ, map, rules}
-use Rattle.std.specs.Prelude.{Box, box_value, Some}
+use Rattle.std.specs.Prelude.{Box, box_value, Some, None}
 use Rattle.std.specs.Global.{Vec}
 use Rattle.std.specs.declared.alloc.Global.{Global}
 use Rattle.gm_base.specs.declared.places.Place.{Place}
@@ -41,6 +41,9 @@ stmt_of-If k e a b = search (rules, stmt_lemmas)
 
 pub stmt_of-Declare : (k : Key) (x : ℕ) (e : E.Expr) → stmt_of (S.Declare k x (Some e)) ≡ P.Declare k x (Some (expr_of e))
 stmt_of-Declare k x e = search (rules, stmt_lemmas)
+
+pub stmt_of-Declare-None : (k : Key) (x : ℕ) → stmt_of (S.Declare k x None) ≡ P.Declare k x None
+stmt_of-Declare-None k x = search (rules, stmt_lemmas)
 
 pub stmt_of-Assign : (k : Key) (t : Target) (e : E.Expr) → stmt_of (S.Assign k t e) ≡ P.Assign k t (expr_of e)
 stmt_of-Assign k t e = search (rules, stmt_lemmas)

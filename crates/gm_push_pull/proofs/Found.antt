@@ -10,7 +10,7 @@ use Rattle.gm_base.specs.Rules.{broken_at, least}
 use Rattle.gm_ast.specs.declared.tree.Head.{Head}
 use Rattle.gm_ast.specs.declared.tree.Target.{Target}
 use Rattle.gm_ast.specs.Program.{Expr, Stmt, Skip, Then, Declare, DeclareEdge, Assign, Defer, Combine, Group, Foreach, For, If, While, Do, InBfs, InBfsBoth, Return}
-use Rattle.gm_ast.specs.Ways.{Mention, mentions, edge_reads, Action, actions, locals, is_in, is_local, all_local, owner_of, own_mentions, support, ends_with_loop, reductions_of, way_by, way_in, ways_of, is_against, reads_against, edges_against}
+use Rattle.gm_ast.specs.Ways.{Mention, mentions, edge_reads, held_of, Action, actions, locals, is_in, is_local, all_local, owner_of, own_mentions, support, ends_with_loop, reductions_of, way_by, way_in, ways_of, is_against, reads_against, edges_against}
 use Rattle.gm_ast.specs.Loops.{any}
 use Rattle.gm_push_pull.specs.declared.reads.Reads.{Reads}
 use Rattle.gm_push_pull.specs.declared.locals.Locals.{Locals}
@@ -18,14 +18,14 @@ use Rattle.gm_push_pull.specs.Places.{earlier, first_from, is_by, there_by}
 use Rattle.gm_push_pull.specs.Reads.{nothing}
 use Rattle.gm_push_pull.specs.Tests.{Test, Neighbour, AnyEdge, EdgeBy, holds, passes_alone, passes}
 use Rattle.gm_push_pull.specs.Locals.{is_known, held_by, held_so, or_nothing, noted_all, Gathers}
-use Rattle.gm_push_pull.specs.Sweeps.{Demands, Settles, IsSettled}
+use Rattle.gm_push_pull.specs.Sweeps.{compared, Demands, Settles, IsSettled}
 use Rattle.gm_push_pull.specs.Finding.{known_target, all_known, Reduction, reductions, way_found, first_against}
 use Rattle.gm_push_pull.proofs.Among.{any-append}
 use Rattle.gm_push_pull.proofs.Ors.{or-assoc, or-swap, or-nothing}
 use Rattle.gm_push_pull.proofs.Firsts.{by-earlier, first-by, same-place, least-at}
 use Rattle.gm_push_pull.proofs.Answers.{holds-nothing, holds-noted_all}
 use Rattle.gm_push_pull.proofs.Supports.{rests_on_such, least-closed, support-passes}
-use Rattle.gm_push_pull.proofs.Bodies.{demands-closed, closed-demands}
+use Rattle.gm_push_pull.proofs.Bodies.{looked-at, demands-closed, closed-demands}
 
 -- a body whose locals are gathered from none, and then settled
 pub settled-body : {z mid l : Locals} (i : ℕ) (s : Stmt) → z.iterator ≡ i → ((x : ℕ) → get nat_eq z.facts x ≡ None) → Gathers z mid (locals s) → Settles mid l s → IsSettled l i s
@@ -70,7 +70,7 @@ under : (f c m : Bool) → ((f || c) || m) ≡ (f || (m || c))
 under true c m = refl
 under false c m = or-swap c m
 
-parts : (f c v o : Bool) → (((f || c) || v) || o) ≡ ((v || c) || (o || f))
+parts : (f c v o : Bool) → (((f || c) || v) || o) ≡ ((c || v) || (o || f))
 parts true true true true = refl
 parts true true true false = refl
 parts true true false true = refl
@@ -117,17 +117,18 @@ module _ (l : Locals) (body : Stmt) (test : Expr) (settled : IsSettled l l.itera
       holds-noted_all t l r ms ∙ ap (λ b. b || any p ms) (h t) ∙ under (any p (mentions test)) (any p cs) (any p ms)
       ∙ ap (λ b. any p (mentions test) || b) (sym (any-append p ms cs))
 
-  one-match : (ts : List Target) (ms cs : List Mention) (r : Reads) → Around r cs
-      → Matches (record { targets = ts; reads = noted_all l (noted_all l r ms) (flat_map owner_of ts) }) (record { reduces = true; targets = ts; mentioned = ms ++ cs })
-  one-match ts ms cs r h = record {
+  -- ms: what it looks at; cs: the conditions around; both: these in some order
+  one-match : (ts : List Target) (ms cs both : List Mention) (r : Reads) → Around r cs → ((p : Mention → Bool) → any p both ≡ (any p cs || any p ms))
+      → Matches (record { targets = ts; reads = noted_all l (noted_all l r ms) (flat_map owner_of ts) }) (record { reduces = true; targets = ts; mentioned = both })
+  one-match ts ms cs both r h same = record {
     targets = refl;
     reads = λ t.
         let p = passes l.iterator t (held_so l t) in
         holds-noted_all t l (noted_all l r ms) (flat_map owner_of ts) ∙ ap (λ b. b || any p (flat_map owner_of ts)) (holds-noted_all t l r ms ∙ ap (λ b. b || any p ms) (h t))
         ∙ parts (any p (mentions test)) (any p cs) (any p ms) (any p (flat_map owner_of ts))
-        ∙ ap (λ b. b || (any p (flat_map owner_of ts) || any p (mentions test))) (sym (any-append p ms cs))
-        ∙ ap (λ b. any p (ms ++ cs) || b) (sym (any-append p (flat_map owner_of ts) (mentions test)))
-        ∙ sym (any-append p (ms ++ cs) (flat_map owner_of ts ++ mentions test));
+        ∙ ap (λ b. b || (any p (flat_map owner_of ts) || any p (mentions test))) (sym (same p))
+        ∙ ap (λ b. any p both || b) (sym (any-append p (flat_map owner_of ts) (mentions test)))
+        ∙ sym (any-append p both (flat_map owner_of ts ++ mentions test));
   }
 
   one-or-none : (x : Reduction) (a : Action) → Matches x a → (b c : Bool) → b ≡ c → All (if b then [] else (x ∷ [])) (cond (not c) (a ∷ []) [])
@@ -149,8 +150,9 @@ module _ (l : Locals) (body : Stmt) (test : Expr) (settled : IsSettled l l.itera
       let q = noted_all l r (mentions c) in
       both-match (reductions l a q) (reductions l b q) (actions a ds) (actions b ds) (all-match a q ds (around-more r (mentions c) cs h)) (all-match b q ds (around-more r (mentions c) cs h))
   all-match (Combine k total op ts es) r cs h =
-      one-or-none (record { targets = ts; reads = noted_all l (noted_all l r (flat_map mentions es)) (flat_map owner_of ts) }) (record { reduces = true; targets = ts; mentioned = flat_map mentions es ++ cs })
-      (one-match ts (flat_map mentions es) cs r h) (all_known l ts) (all_local (locals body) ts) (same-targets l l.iterator body settled ts)
+      let both = flat_map mentions es ++ (flat_map held_of ts ++ cs) in
+      one-or-none (record { targets = ts; reads = noted_all l (noted_all l r (compared ts es)) (flat_map owner_of ts) }) (record { reduces = true; targets = ts; mentioned = both })
+      (one-match ts (compared ts es) cs both r h (λ p. looked-at p ts es cs)) (all_known l ts) (all_local (locals body) ts) (same-targets l l.iterator body settled ts)
   all-match (Declare k x (Some e)) r cs h = tt
   all-match (Declare k x None) r cs h = tt
   all-match (Assign k target e) r cs h = tt

@@ -1,7 +1,7 @@
 -- How sweeps, one after another, add to what is known of the locals.
 use mathlib.Core.Bool.{beq}
 use Rattle.std.proofs.Common.{◌≡◌, ℕ, ◌<◌, Bool, true, false, ◌||◌, ◌&&◌, cond, List, [], ◌∷◌, refl, sym, ap, subst, ◌∙◌, ◌⊎◌, inl, inr, Option, Some, None, is_some, arith}
-use Rattle.std.specs.Prelude.{nat_eq, flat_map, if◌then◌else◌}
+use Rattle.std.specs.Prelude.{nat_eq, if◌then◌else◌}
 use Rattle.std.proofs.lemmas.Bool.{true≢false, false≢true, or_cases, or_left, or_right, or_parts, and_from, eqb-true}
 use Rattle.std.specs.Map.{lookup}
 use Rattle.std.specs.Option.{option_eq}
@@ -16,7 +16,7 @@ use Rattle.gm_push_pull.specs.declared.locals.Locals.{Locals}
 use Rattle.gm_push_pull.specs.Reads.{joined, nothing, reads_rank}
 use Rattle.gm_push_pull.specs.Tests.{Test, holds, passes_alone, passes}
 use Rattle.gm_push_pull.specs.Locals.{is_known, held_so, or_nothing, noted_all}
-use Rattle.gm_push_pull.specs.Sweeps.{is_written, written, Demand, Demands, Below, facts_rank, Grows, Settles}
+use Rattle.gm_push_pull.specs.Sweeps.{compared, is_written, written, Demand, Demands, Below, facts_rank, Grows, Settles}
 use Rattle.gm_push_pull.proofs.Ors.{or-assoc}
 use Rattle.gm_push_pull.proofs.Among.{any-among, among-any}
 use Rattle.gm_push_pull.proofs.Answers.{holds-joined, holds-nothing, holds-noted_all}
@@ -124,9 +124,9 @@ demands-less i known t B (If key c a b) h k le d =
     let r = any (passes i t B) (mentions c) in
     (demands-less i known t B a (h || r) (k || r) (or-more h k r le) d.0, demands-less i known t B b (h || r) (k || r) (or-more h k r le) d.1)
 demands-less i known t B (Declare key x (Some e)) h k le d = demand-less known B (nat_eq x) (h || any (passes i t B) (mentions e)) (k || any (passes i t B) (mentions e)) (or-more h k (any (passes i t B) (mentions e)) le) d
-demands-less i known t B (Declare key x None) h k le d = tt
+demands-less i known t B (Declare key x None) h k le d = demand-less known B (nat_eq x) h k le d
 demands-less i known t B (Assign key target e) h k le d = demand-less known B (is_written target) (h || any (passes i t B) (mentions e)) (k || any (passes i t B) (mentions e)) (or-more h k (any (passes i t B) (mentions e)) le) d
-demands-less i known t B (Combine key total r ts es) h k le d = demand-less known B (written ts) (h || any (passes i t B) (flat_map mentions es)) (k || any (passes i t B) (flat_map mentions es)) (or-more h k (any (passes i t B) (flat_map mentions es)) le) d
+demands-less i known t B (Combine key total r ts es) h k le d = demand-less known B (written ts) (h || any (passes i t B) (compared ts es)) (k || any (passes i t B) (compared ts es)) (or-more h k (any (passes i t B) (compared ts es)) le) d
 demands-less i known t B Skip h k le d = tt
 demands-less i known t B (DeclareEdge x y at) h k le d = tt
 demands-less i known t B (Defer key target e) h k le d = tt

@@ -11,3 +11,4 @@ pub mod Bodies
 pub mod Found
 pub mod Webs
 pub mod Spreading
+mod Rows

@@ -218,6 +218,19 @@ weaves-one l {b = b} {e = e} {around = around} {site = site} ms target o g t B C
     one : (x : ℕ) → written (target ∷ []) x ≡ true → is_written target x ≡ true
     one x w = sym (or-nothing (is_written target x)) ∙ w
 
+-- a declaration without a value rests on the conditions around it alone
+pub weaves-declared : (l : Locals) {a b : Web} {around : ℕ} (x : ℕ) → Adds a b (record { from = Node.Site around; to = Node.Local x } ∷ [])
+    → (t : Test) (B C : ℕ → Bool) → Below l t B → around < length a.seeds.items → FitsWeb (is_known l) t B C a → Demand (is_known l) B (nat_eq x) (C around)
+    → (more : ℕ → Bool) × FitsWeb (is_known l) t B more b × (length a.seeds.items ≤ length b.seeds.items) × ((k : ℕ) → k < length a.seeds.items → more k ≡ C k)
+weaves-declared l {a = a} {b = b} {around = around} x g t B C low lt h d =
+    let target = Target.Scalar x (record { line = 0; col = 0 }) in
+    let same : length b.seeds.items ≡ length a.seeds.items = ap length g.seeds in (
+      C,
+      fits-added (is_known l) t B C (fed around target) g h (fits-fed-one (is_known l) B C (length a.seeds.items) around target lt d),
+      omega (arith, same),
+      λ k q. refl,
+    )
+
 -- the web of a body, from one with no condition
 pub web-whole : {a b : Web} (l : Locals) (s : Stmt) → a.seeds.items ≡ record { site = 0; reads = nothing } ∷ [] → a.links.items ≡ [] → Weaves l a b 0 s → IsWebOf l b s
 web-whole {a = a} l s seeds links g t B low d =

@@ -11,6 +11,7 @@ use Rattle.gm_push_pull.specs.declared.locals.Locals.{Locals}
 use Rattle.gm_push_pull.specs.declared.finding.Finder.{Finder}
 use Rattle.gm_push_pull.specs.Places.{earlier}
 use Rattle.gm_push_pull.specs.Locals.{is_known, noted_all}
+use Rattle.gm_push_pull.specs.Sweeps.{compared}
 
 -- whether a target is a local
 abbrev pub known_target : Locals → Target → Bool
@@ -33,7 +34,7 @@ reductions l (Then a b) r = reductions l a r ++ reductions l b r
 reductions l (If k c a b) r = reductions l a (noted_all l r (mentions c)) ++ reductions l b (noted_all l r (mentions c))
 reductions l (Combine k total op ts es) r =
     if all_known l ts then []
-    else (record { targets = ts; reads = noted_all l (noted_all l r (flat_map mentions es)) (flat_map owner_of ts) } ∷ [])
+    else (record { targets = ts; reads = noted_all l (noted_all l r (compared ts es)) (flat_map owner_of ts) } ∷ [])
 reductions l _ r = []
 
 -- the way of a reduction with some targets, whose support reads this

@@ -1,8 +1,8 @@
 -- What a sweep over an inner body does to what is known of its locals.
-use Rattle.std.specs.Prelude.{◌≡◌, ℕ, ◌+◌, ◌<◌, ◌≤◌, nat_eq, Bool, true, false, ◌||◌, List, [], ◌∷◌, Some, flat_map}
+use Rattle.std.specs.Prelude.{◌≡◌, ℕ, ◌+◌, ◌<◌, ◌≤◌, nat_eq, Bool, true, false, ◌||◌, List, [], ◌∷◌, ◌++◌, Some, None, flat_map}
 use Rattle.gm_ast.specs.declared.tree.Target.{Target}
-use Rattle.gm_ast.specs.Program.{Stmt, Then, Declare, Assign, Combine, If}
-use Rattle.gm_ast.specs.Ways.{mentions, locals, is_in}
+use Rattle.gm_ast.specs.Program.{Expr, Stmt, Then, Declare, Assign, Combine, If}
+use Rattle.gm_ast.specs.Ways.{Mention, mentions, held_of, locals, is_in}
 use Rattle.gm_ast.specs.Loops.{any}
 use Rattle.gm_push_pull.specs.declared.reads.Reads.{Reads}
 use Rattle.gm_push_pull.specs.declared.locals.Locals.{Locals}
@@ -19,17 +19,22 @@ is_written (Target.Property y p at) x = false
 abbrev pub written : List Target → ℕ → Bool
 written ts x = any (λ t. is_written t x) ts
 
+-- what a reduction looks at: what its targets hold, and its values
+abbrev pub compared : List Target → List Expr → List Mention
+compared ts es = flat_map held_of ts ++ flat_map mentions es
+
 -- an answer is given for the locals that are written, where it holds of what is written
 abbrev pub Demand : (ℕ → Bool) → (ℕ → Bool) → (ℕ → Bool) → Bool → Type 0
 Demand known of_local writes h = (x : ℕ) → known x ≡ true → writes x ≡ true → h ≡ true → of_local x ≡ true
 
--- an answer is given for all locals that a statement writes, where it holds of what is written or of the conditions around
+-- an answer is given for all locals that a statement writes, where it holds of what is written, of what is compared or of the conditions around
 abbrev pub Demands : ℕ → (ℕ → Bool) → Test → (ℕ → Bool) → Stmt → Bool → Type 0
 Demands i known t B (Then a b) h = Demands i known t B a h × Demands i known t B b h
 Demands i known t B (If k c a b) h = Demands i known t B a (h || any (passes i t B) (mentions c)) × Demands i known t B b (h || any (passes i t B) (mentions c))
+Demands i known t B (Declare k x None) h = Demand known B (nat_eq x) h
 Demands i known t B (Declare k x (Some e)) h = Demand known B (nat_eq x) (h || any (passes i t B) (mentions e))
 Demands i known t B (Assign k target e) h = Demand known B (is_written target) (h || any (passes i t B) (mentions e))
-Demands i known t B (Combine k total r ts es) h = Demand known B (written ts) (h || any (passes i t B) (flat_map mentions es))
+Demands i known t B (Combine k total r ts es) h = Demand known B (written ts) (h || any (passes i t B) (compared ts es))
 Demands i known t B _ h = Unit {0}
 
 -- whatever is known of locals is among these answers

@@ -142,8 +142,8 @@ impl Finder {
                 if self.all_known(targets) {
                     return Ok(());
                 }
-                let by_values = self.locals.noted_each(values, around);
-                let reads = self.locals.noted_owners(targets, by_values);
+                let looked_at = self.locals.noted_reduction(targets, values, around);
+                let reads = self.locals.noted_owners(targets, looked_at);
                 self.add(targets, reads)?;
                 Ok(())
             }

@@ -2,8 +2,9 @@
 
 ghost use Rattle.std.specs.Prelude.{◌≡◌, flat_map, map};
 ghost use Rattle.gm_ast.specs.Tree.{expr_of};
-ghost use Rattle.gm_ast.specs.Ways.{Alone, Through, OfEdge, mentions, owner_of};
+ghost use Rattle.gm_ast.specs.Ways.{Alone, Through, OfEdge, held_of, mentions, owner_of};
 ghost use Rattle.gm_push_pull.specs.Locals.{held_by, noted, noted_all};
+ghost use Rattle.gm_push_pull.specs.Sweeps.{compared};
 
 use crate::reads::{NOTHING, Reads};
 use gm_ast::tree::{Expr, Target};
@@ -83,7 +84,7 @@ impl Locals {
     }
 
     // Adds what some expressions mention.
-    pub fn noted_each(&self, values: &[Expr], reads: Reads) -> Reads
+    fn noted_each(&self, values: &[Expr], reads: Reads) -> Reads
         ensures { result ≡ noted_all self.now reads (flat_map mentions (map expr_of values.now)) }
     {
         let mut all = reads;
@@ -91,6 +92,27 @@ impl Locals {
             all = self.noted(value, all);
         }
         all
+    }
+
+    // Adds what some targets hold that are scalars.
+    fn noted_held(&self, targets: &[Target], reads: Reads) -> Reads
+        ensures { result ≡ noted_all self.now reads (flat_map held_of targets.now) }
+    {
+        let mut all = reads;
+        for target in targets {
+            if let Target::Scalar { variable, .. } = *target {
+                all = self.alone(variable, all);
+            }
+        }
+        all
+    }
+
+    // Adds what a reduction looks at: what it compares, and its values.
+    pub fn noted_reduction(&self, targets: &[Target], values: &[Expr], reads: Reads) -> Reads
+        ensures { result ≡ noted_all self.now reads (compared targets.now (map expr_of values.now)) }
+    {
+        let held = self.noted_held(targets, reads);
+        self.noted_each(values, held)
     }
 
     // Adds the node variables of some targets.

@@ -108,8 +108,8 @@ impl Locals {
         Ok(changed)
     }
 
-    // Adds what is read by the values that a statement writes, under conditions that read this. Answers whether
-    // anything is new.
+    // Adds what is read by the values that a statement writes, and by what it compares, under conditions that read
+    // this. Answers whether anything is new.
     #[cycle(sweeping)]
     fn sweep(&mut self, s: &Stmt, around: Reads) -> Result<bool, AllocError>
         ensures { IfOk result (λ changed. Grows self.old self.new (λ t B. Demands self.old.iterator (is_known self.old) t B (stmt_of s.now) (holds around t)) changed) }
@@ -130,7 +130,10 @@ impl Locals {
                 value,
                 ..
             } => match value {
-                None => Ok(false),
+                None => {
+                    let changed = self.add(*variable, around)?;
+                    Ok(changed)
+                }
                 Some(value) => {
                     let reads = self.noted(value, around);
                     let changed = self.add(*variable, reads)?;
@@ -147,7 +150,7 @@ impl Locals {
                 values,
                 ..
             } => {
-                let reads = self.noted_each(values, around);
+                let reads = self.noted_reduction(targets, values, around);
                 let changed = self.write_each(targets, reads)?;
                 Ok(changed)
             }

@@ -3,9 +3,10 @@
 ghost use Rattle.std.specs.Prelude.{◌≡◌, ◌∷◌, [], IfOk, OnOk, flat_map, map};
 ghost use Rattle.gm_ast.specs.Program.{sequence};
 ghost use Rattle.gm_ast.specs.Tree.{expr_of, stmt_of};
-ghost use Rattle.gm_ast.specs.Ways.{mentions};
+ghost use Rattle.gm_ast.specs.Ways.{held_of, mentions};
 ghost use Rattle.gm_push_pull.specs.Locals.{noted_all};
 ghost use Rattle.gm_push_pull.specs.Reads.{nothing};
+ghost use Rattle.gm_push_pull.specs.Sweeps.{compared};
 ghost use Rattle.gm_push_pull.specs.Webs.{Adds, IsWebOf, Opens, Weaves, fed, link_from};
 
 use crate::locals::Locals;
@@ -14,8 +15,8 @@ use gm_ast::tree::{Expr, Stmt, Target};
 use indexmap::IndexMap;
 use std::alloc::{AllocError, Global};
 
-// Where something is read: the value of a local, or a site. A site is a condition with those around it, or the values
-// of a statement that writes with the conditions around them. It stands for a local of its own, so there are no more
+// Where something is read: the value of a local, or a site. A site is a condition with those around it, or what a
+// statement that writes looks at with the conditions around it. It stands for a local of its own, so there are no more
 // links than variables in the text.
 #[derive(Clone, Copy, Debug)]
 pub enum Node {
@@ -141,6 +142,29 @@ impl Web {
         Ok(())
     }
 
+    // Adds a link to a site from each scalar among some targets.
+    fn link_held(&mut self, targets: &[Target], site: u32) -> Result<(), AllocError>
+        ensures { OnOk result (Adds self.old self.new (map (link_from site) (flat_map held_of targets.now))) }
+    {
+        for target in targets {
+            self.link_target(*target, site)?;
+        }
+        Ok(())
+    }
+
+    // Adds a link to a site from a target that is a scalar.
+    fn link_target(&mut self, target: Target, site: u32) -> Result<(), AllocError>
+        ensures { OnOk result (Adds self.old self.new (map (link_from site) (held_of target))) }
+    {
+        match target {
+            Target::Scalar { variable, .. } => {
+                self.link(Node::Local(variable), Node::Site(site))?;
+                Ok(())
+            }
+            Target::Property { .. } => Ok(()),
+        }
+    }
+
     // Adds a site that reads this by itself, within another. Answers its number.
     fn open(&mut self, around: u32, reads: Reads) -> Result<u32, AllocError>
         ensures { IfOk result (λ site. Opens self.old self.new around reads site []) }
@@ -163,17 +187,19 @@ impl Web {
         Ok(site)
     }
 
-    // Adds the site of some expressions. Answers its number.
-    fn open_values(
+    // Adds the site of a reduction. Answers its number.
+    fn open_reduction(
         &mut self,
         locals: &Locals,
+        targets: &[Target],
         values: &[Expr],
         around: u32,
     ) -> Result<u32, AllocError>
-        ensures { IfOk result (λ site. Opens self.old self.new around (noted_all locals.now nothing (flat_map mentions (map expr_of values.now))) site (flat_map mentions (map expr_of values.now))) }
+        ensures { IfOk result (λ site. Opens self.old self.new around (noted_all locals.now nothing (compared targets.now (map expr_of values.now))) site (compared targets.now (map expr_of values.now))) }
     {
-        let reads = locals.noted_each(values, NOTHING);
+        let reads = locals.noted_reduction(targets, values, NOTHING);
         let site = self.open(around, reads)?;
+        self.link_held(targets, site)?;
         self.link_values(values, site)?;
         Ok(site)
     }
@@ -238,7 +264,10 @@ impl Web {
                 value,
                 ..
             } => match value {
-                None => Ok(()),
+                None => {
+                    self.link(Node::Site(around), Node::Local(*variable))?;
+                    Ok(())
+                }
                 Some(value) => {
                     let site = self.open_value(locals, value, around)?;
                     self.link(Node::Site(site), Node::Local(*variable))?;
@@ -255,7 +284,7 @@ impl Web {
                 values,
                 ..
             } => {
-                let site = self.open_values(locals, values, around)?;
+                let site = self.open_reduction(locals, targets, values, around)?;
                 self.feed_each(site, targets)?;
                 Ok(())
             }

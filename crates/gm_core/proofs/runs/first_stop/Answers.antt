@@ -1,7 +1,8 @@
 -- The master list runs from its start.
-use Rattle.std.proofs.Common.{◌≡◌, ◌∙◌, ◌-◌, ap, arith}
+use Rattle.std.proofs.Common.{◌≡◌, ◌∙◌, ◌-◌, ap, arith, subst, sym}
 use Rattle.gm_image.specs.Views.{program}
 use Rattle.gm_image.specs.declared.images.Image.{Image}
+use Rattle.gm_machine.specs.Asking.{IsServed}
 use Rattle.gm_machine.specs.Machine.{pause, start_control}
 use Rattle.gm_machine.specs.Masters.{control_of}
 use Rattle.gm_core.proofs.CoreChanges.{pause-starts}
@@ -12,6 +13,11 @@ master_run-next-requires-clause-bounded c =
     let master = c.in_ok-master.master in
     let none : master.turns ≡ 0 = ap (λ d. d.turns) c.in_ok-master.ensures.control in
     omega (arith, none)
+
+pub master_run-next-requires-clause-served : goal.master_run-next-requires-clause-served
+master_run-next-requires-clause-served c =
+    let s = c.args.setting.now in
+    subst (λ (i : Image). IsServed (program i) s.graph.now s.in_rows.now) (sym c.image-image.ensures.same) c.requires.served
 
 pub returns-clause-next : goal.returns-clause-next
 returns-clause-next c =

@@ -1,12 +1,21 @@
 -- The owners are those of the formula.
-use Rattle.std.proofs.Common.{◌≡◌, ◌∙◌, ℕ, List, None, ap, subst}
+use Rattle.std.proofs.Common.{◌≡◌, ◌∙◌, ℕ, List, None, ap, rules, subst}
 use Rattle.std.specs.Prelude.{IfOk, OnOk, IfErr}
 use Rattle.gm_model.specs.Graphs.{node_count}
 use Rattle.gm_image.specs.Views.{program}
+use Rattle.gm_image.specs.declared.images.Image.{Image}
+use Rattle.gm_machine.specs.Asking.{IsServed}
 use Rattle.gm_core.specs.Cores.{start, effects, first_illegal}
 use Rattle.gm_core.specs.Owners.{owners_by}
 use Rattle.gm_core.specs.Runs.{view_of, StopsAt}
 use Rattle.gm_core.proofs.runs.run_events.Goals as goal
+
+pub run_from_start-outcome-requires : goal.run_from_start-outcome-requires
+run_from_start-outcome-requires c = record {
+  columns = c.requires.columns;
+  served = subst (λ (i : Image). IsServed (program i) c.args.graph.now c.in_ok-in_rows.in_rows) c.image.ensures.same c.in_ok-in_rows.ensures;
+  dealt = search rules;
+}
 
 pub returns-clause-state : goal.returns-clause-state
 returns-clause-state c =

@@ -13,7 +13,7 @@ pub returns-else-options-clause-ran : goal.returns-else-options-clause-ran
 returns-else-options-clause-ran g c =
     let not : c.args.options.now.observe ≡ false = c.if-options.false in
     rw not (IfOk-weaker c.run_alone.result _ _
-    (λ a says. ran-alone (program c.args.image.now) c.args.options.now.turns _ _ c.args.graph.now c.args.args.now a.text.items a.status says)
+    (λ a says. ran-alone (program c.args.image.now) c.args.options.now.turns _ _ c.args.graph.now c.args.args.now a.text.items a.status c.node_count-nodes.ensures.known says)
     c.run_alone.ensures)
 
 pub returns-else-options-clause-part : goal.returns-else-options-clause-part

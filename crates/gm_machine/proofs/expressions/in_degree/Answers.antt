@@ -2,6 +2,6 @@
 use Rattle.gm_machine.proofs.Outside.{in-none}
 use Rattle.gm_machine.proofs.expressions.in_degree.Goals as goal
 
-pub returns-else-node-node_count-clause-degree : goal.returns-else-node-node_count-clause-degree
-returns-else-node-node_count-clause-degree c =
-    in-none c.args.graph.now c.args.node c.node_count.result c.node_count.ensures.known c.node_count.ensures.count c.if-node-node_count.false
+pub returns-in-Some-2-clause-degree : goal.returns-in-Some-2-clause-degree
+returns-in-Some-2-clause-degree c =
+    in-none c.args.s.now.graph.now c.args.s.now.node c.node_count.result c.node_count.ensures.known c.node_count.ensures.count c.if-s-node_count.false

@@ -16,10 +16,19 @@ use Rattle.gm_machine.proofs.FieldRows.{length-by_node}
 use Rattle.gm_machine.proofs.InboxLemmas.{by_place-read, messages-read}
 use Rattle.gm_machine.proofs.NodeSteps.{runs-read, runs-same, runs-steps, place-same}
 use Rattle.gm_machine.proofs.OneStep.{block-keeps}
+use Rattle.gm_machine.proofs.Serving.{code_served}
 use Rattle.gm_machine.proofs.node_steps.steps_of_nodes.Goals as goal
 
 pub run_round-requires-clause-columns : goal.run_round-requires-clause-columns
 run_round-requires-clause-columns c = c.requires.duty.columns
+
+pub run_round-requires-clause-rows : goal.run_round-requires-clause-rows
+run_round-requires-clause-rows c = c.requires.duty.served.same
+
+pub run_round-requires-clause-asked : goal.run_round-requires-clause-asked
+run_round-requires-clause-asked c =
+    let d : Duty = c.args.duty.now in
+    code_served d.in_rows.now d.graph.now (program d.image.now) d.block (code_of c.block_at-code.result) c.block_at-code.ensures c.requires.duty.served
 
 pub run_round-requires-clause-keeps : goal.run_round-requires-clause-keeps
 run_round-requires-clause-keeps c =
@@ -44,7 +53,7 @@ run_round-requires-clause-full c =
 pub returns-clause-steps : goal.returns-clause-steps
 returns-clause-steps c =
     let d : Duty = c.args.duty.now in
-    let r : Round = record { image = d.image; code = c.block_at-code.result; graph = d.graph; globals = d.globals; nodes = c.args.nodes.now; values = record { ref_ptr = c.args.inbox.ref_ptr; now = c.inbox.inside.values }; sorted = c.as_slice-sorted.result; starts = c.as_slice-starts.result } in
+    let r : Round = record { image = d.image; code = c.block_at-code.result; graph = d.graph; in_rows = d.in_rows; globals = d.globals; nodes = c.args.nodes.now; values = record { ref_ptr = c.args.inbox.ref_ptr; now = c.inbox.inside.values }; sorted = c.as_slice-sorted.result; starts = c.as_slice-starts.result } in
     let before : FieldColumns = c.fields.inside.columns in
     let old : List (List Value) = fields_of before in
     let new : List (List Value) = fields_of c.run_round.new.fields in

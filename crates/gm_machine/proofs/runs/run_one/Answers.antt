@@ -9,10 +9,10 @@ use Rattle.gm_machine.proofs.StateBounds.{supersteps-bounded}
 use Rattle.gm_machine.proofs.runs.run_one.Goals as goal
 
 pub run-requires-clause-keeps : goal.run-requires-clause-keeps
-run-requires-clause-keeps c = sound-keeps (program c.image.result.now) c.image.ensures.sound
+run-requires-clause-keeps c = sound-keeps (program c.image-plain.result.now) c.image-plain.ensures.sound
 
 pub returns-clause-bounded : goal.returns-clause-bounded
 returns-clause-bounded c =
-    subst (λ (i : Image). c.in_ok-end.end.supersteps ≤ most_supersteps (program i) c.args.turns) c.image.ensures.same
-    (subst (λ (e : RunEnd). e.supersteps ≤ most_supersteps (program c.image.result.now) c.args.turns) (sym c.in_ok-end.ensures.end)
-    (supersteps-bounded (program c.image.result.now) c.args.graph.now c.args.args.now c.args.turns))
+    subst (λ (i : Image). c.in_ok-end.end.supersteps ≤ most_supersteps (program i) c.args.turns) c.image-plain.ensures.same
+    (subst (λ (e : RunEnd). e.supersteps ≤ most_supersteps (program c.image-plain.result.now) c.args.turns) (sym c.in_ok-end.ensures.end)
+    (supersteps-bounded (program c.image-plain.result.now) c.args.graph.now c.args.args.now c.args.turns))

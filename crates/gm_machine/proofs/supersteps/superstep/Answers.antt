@@ -15,7 +15,7 @@ use Rattle.gm_machine.proofs.NodeSteps.{all-places, superstep-is}
 use Rattle.gm_machine.proofs.supersteps.superstep.Goals as goal
 
 pub step_all-requires-clause-duty : goal.step_all-requires-clause-duty
-step_all-requires-clause-duty c = record { columns = c.requires.columns; keeps = c.requires.keeps }
+step_all-requires-clause-duty c = record { columns = c.requires.columns; served = c.requires.served; keeps = c.requires.keeps }
 
 pub step_all-requires-clause-inbox : goal.step_all-requires-clause-inbox
 step_all-requires-clause-inbox c =
@@ -27,7 +27,7 @@ returns-clause-superstep c =
     let columns : FieldColumns = c.args.nodes.now.fields in
     let fields : List (List Value) = fields_of columns in
     let wide : columns.nodes ≡ length fields = sym (length-by_node columns.nodes (columns_of columns)) in
-    let d : Duty = record { image = c.args.image; block = c.args.block; graph = c.args.graph; globals = c.as_slice-seen.result } in
+    let d : Duty = record { image = c.args.image; block = c.args.block; graph = c.args.graph; in_rows = c.args.in_rows; globals = c.as_slice-seen.result } in
     superstep-is p c.args.graph.now c.args.block columns.nodes c.args.globals.now.items c.settle_puts.new.globals.items (nodes_of c.args.nodes.now)
     (all_after d c.in_ok-inbox.inbox fields) (held columns) (held c.step_all.new.columns) c.empty-sent.result c.step_all.new.sent c.in_ok-put.put c.lesser.result c.in_ok-supersteps.supersteps c.in_ok-messages.messages
     refl wide c.empty-sent.ensures.messages c.empty-sent.ensures.puts c.empty-sent.ensures.fault

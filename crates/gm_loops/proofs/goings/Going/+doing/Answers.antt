@@ -1,7 +1,8 @@
-use Rattle.std.proofs.Common.{◌≡◌, ◌∙◌, ◌≤◌, ◌+◌, ◌<◌, ℕ, Bool, List, [], ◌∷◌, drop, get_or, length, map, None, Option, take, refl, ap, sym, subst}
+use Rattle.std.proofs.Common.{◌≡◌, ◌∙◌, ◌≤◌, ◌+◌, ◌<◌, ℕ, Bool, List, [], ◌∷◌, drop, get_or, length, map, None, Option, take, refl, ap, sym, subst, rules}
 use Rattle.std.proofs.lemmas.List.{take_all}
 use Rattle.gm_model.specs.Graphs.{Step}
 use Rattle.gm_ast.specs.declared.tree.Stmt as S
+use Rattle.gm_ast.specs.declared.tree.Stmt.{the_lemmas as stmt_lemmas}
 use Rattle.gm_ast.specs.Program as P
 use Rattle.gm_ast.specs.Tree.{expr_of, stmt_of}
 use Rattle.gm_semantics.specs.declared.faults.Fault.{Fault}
@@ -15,6 +16,8 @@ use Rattle.gm_loops.specs.declared.goings.Going.{Going}
 use Rattle.gm_loops.specs.declared.ranges.Hop.{Hop}
 use Rattle.gm_loops.specs.declared.sights.Sight.{Sight}
 use Rattle.gm_graph.specs.Walks.{edge_at}
+use Rattle.gm_graph.specs.Serving.{Serve}
+use Rattle.gm_loops.specs.Asking.{goes_outward}
 use Rattle.gm_loops.specs.Around.{loop_of, mode_in}
 use Rattle.gm_loops.specs.Bounds.{bound_of}
 use Rattle.gm_loops.specs.Goings.{Does}
@@ -24,8 +27,9 @@ use Rattle.gm_loops.specs.Scopes.{no_scope}
 use Rattle.gm_loops.specs.Sights.{view_of}
 use Rattle.gm_loops.specs.Turns.{Begins, DoesTurn, DoesTurns, Keeps, inner_turn, seen}
 use Rattle.gm_loops.proofs.Closing.{inner-done}
+use Rattle.gm_loops.proofs.Serving.{stmt_item}
 use Rattle.gm_loops.proofs.Effects.{does-as}
-use Rattle.gm_loops.proofs.Statements.{below-right, drop-end, drop-next, if-fault, if-no, if-yes}
+use Rattle.gm_loops.proofs.Statements.{below-right, drop-end, drop-next, if-fault, if-no, if-yes, item_bound}
 use Rattle.gm_loops.proofs.Trees.{stmt_of-Foreach, stmt_of-If}
 use Rattle.gm_loops.proofs.Turning.{has-fault, no-fault, ready-same, turns-at, turns-kept, turns-step, does-none, does-stop, does-then, turn-passed, turn-skipped, turns-anywhere, taken-more, turns-none, turns-once}
 use Rattle.gm_loops.proofs.goings.Going.+doing.Goals as goal
@@ -89,6 +93,15 @@ does-returns-in_ok-inner_loop-in-Foreach t c =
     (sym (ap stmt_of l.is ∙ stmt_of-Foreach l.key l.place l.head l.filter l.body))
     (subst (λ (s : S.Stmt). Does a.setting.now I.Outermost c.args.self.now new (does (P.Foreach l.key l.place l.head (expr_of l.filter) (stmt_of s)) I.Outermost (loop_of a)))
     c.deref-in-Outermost-mode.ensures (c.in_ok-inner_loop-in-Foreach.ensures l.place)))
+
+pub does_all-does-requires : goal.does_all-does-requires
+does_all-does-requires t c =
+    let f = c.args.around.now.setting.now in
+    let bound : bound_of (stmt_of c.stmt-item.result) ≤ f.variables =
+    item_bound _ _ c.loop-stmt.stmt-index _ _ c.deref-stmt-items.ensures.value c.loop-stmt-test.true c.stmt-item.is c.loop-stmt.invariant.bound in
+    let asked : Serve f.in_rows.now (goes_outward (stmt_of c.stmt-item.result)) =
+    stmt_item _ _ _ c.loop-stmt.stmt-index _ c.deref-stmt-items.ensures.value c.loop-stmt-test.true c.stmt-item.is c.requires.asked in
+    (search (rules, stmt_lemmas), (c.loop-stmt.invariant.ready, (bound, asked)))
 
 pub does_all-loop-stmt-init : goal.does_all-loop-stmt-init
 does_all-loop-stmt-init t c = record { ready = c.requires.ready; bound = c.requires.bound; rest = λ new h. h }

@@ -13,8 +13,8 @@ use Rattle.gm_loops.proofs.goings.Going.begins.Goals as goal
 pub write-requires : goal.write-requires
 write-requires c = omega (arith, c.requires.bound, c.requires.ready.fits.scalars)
 
-pub value-requires : goal.value-requires
-value-requires c =
+pub value-requires-clause-fits : goal.value-requires-clause-fits
+value-requires-clause-fits c =
     let f = c.args.around.now.setting.now in
     let r = c.requires.ready in
     subst (λ (s : Sight). Fits s.setting.now c.write.new.self.store) (sym c.sight.ensures)

@@ -41,6 +41,8 @@ outer_turn-requires c =
       bound = c.requires.bound;
       filter = subst (λ (s : Store). IsFilter c.args.around.now c.args.key (expr_of c.args.filter.now) s c.args.passing.now) (sym (h.turns.restored.store (edges_in c.args.around.now.setting.now))) c.requires.filter;
       slots = subst (λ (s : Shape). All (λ (w : Write). HasSlot s w.slot) c.loop-k.own.items) (sym h.turns.restored.shape) h.slots;
+      filter_asked = c.requires.filter_asked;
+      body_asked = c.requires.body_asked;
     }
 
 pub loop-k-preserved : goal.loop-k-preserved

@@ -3,6 +3,9 @@ use Rattle.gm_value.specs.declared.values.Value.{Value}
 use Rattle.gm_model.specs.Graphs.{Step}
 use Rattle.gm_ast.specs.Program.{Expr}
 use Rattle.gm_ast.specs.Tree.{expr_of}
+use Rattle.gm_ast.specs.declared.tree.Expr.{the_lemmas as expr_lemmas}
+use Rattle.gm_graph.specs.Serving.{Serve}
+use Rattle.gm_loops.specs.Asking.{reads_outward}
 use Rattle.gm_semantics.specs.declared.faults.Fault.{Fault}
 use Rattle.gm_semantics.specs.Faults.{oks, joined}
 use Rattle.gm_semantics.specs.Expressions.{View, Answer, evaluated, early, element, entered, reduce_of, reduction, settled}
@@ -12,9 +15,34 @@ use Rattle.gm_loops.specs.Runnings.{Runs, elements_at, listed}
 use Rattle.gm_loops.specs.Sights.{view_of}
 use Rattle.gm_loops.specs.declared.scopes.Scope.{the_lemmas as scope_lemmas}
 use Rattle.gm_loops.proofs.Elements.{one-more, unpassed}
+use Rattle.gm_loops.proofs.Serving.{binary_right, choose_no, choose_yes, fold_body}
 use Rattle.gm_loops.proofs.Trees.{expr_of-Binary, expr_of-Fold}
 use Rattle.gm_loops.proofs.sights.Sight.+evaluated.Goals as goal
 use Rattle.gm_loops.proofs.sights.Sight.+evaluated.Goals.{then-passes, else-passes}
+
+pub evaluated-requires-in-Binary-2 : goal.evaluated-requires-in-Binary-2
+evaluated-requires-in-Binary-2 t c =
+    let asked : Serve c.args.self.now.setting.now.in_rows.now (reads_outward (expr_of c.deref-in-Binary-2.result.now)) =
+    binary_right _ _ _ _ _ _ _ c.in-Binary.is c.deref-in-Binary-2.ensures c.requires.asked in
+    (search (rules, expr_lemmas), (c.requires.fits, asked))
+
+pub evaluated-requires-in-Choose-2 : goal.evaluated-requires-in-Choose-2
+evaluated-requires-in-Choose-2 t c =
+    let asked : Serve c.args.self.now.setting.now.in_rows.now (reads_outward (expr_of c.deref-in-Choose-2.result.now)) =
+    choose_yes _ _ _ _ _ _ c.in-Choose.is c.deref-in-Choose-2.ensures c.requires.asked in
+    (search (rules, expr_lemmas), (c.requires.fits, asked))
+
+pub evaluated-requires-in-Choose-3 : goal.evaluated-requires-in-Choose-3
+evaluated-requires-in-Choose-3 t c =
+    let asked : Serve c.args.self.now.setting.now.in_rows.now (reads_outward (expr_of c.deref-in-Choose-3.result.now)) =
+    choose_no _ _ _ _ _ _ c.in-Choose.is c.deref-in-Choose-3.ensures c.requires.asked in
+    (search (rules, expr_lemmas), (c.requires.fits, asked))
+
+pub evaluated-requires-then-passes : goal.evaluated-requires-then-passes
+evaluated-requires-then-passes t c =
+    let asked : Serve c.args.self.now.setting.now.in_rows.now (reads_outward (expr_of c.deref-then-passes.result.now)) =
+    fold_body _ _ _ _ _ _ _ c.in-Fold.is c.deref-then-passes.ensures c.requires.asked in
+    (search (rules, expr_lemmas), (rw c.entered-then-passes.ensures c.requires.fits, rw c.entered-then-passes.ensures asked))
 
 pub returns-in-Binary : goal.returns-in-Binary
 returns-in-Binary t c = rw (c.in-Binary.is, expr_of-Binary) (search rules)

@@ -6,6 +6,9 @@ use Rattle.gm_value.specs.Totals.{IsTotal}
 use Rattle.gm_model.specs.Graphs.{Step}
 use Rattle.gm_ast.specs.Program.{Expr}
 use Rattle.gm_ast.specs.Tree.{expr_of}
+use Rattle.gm_ast.specs.declared.tree.Expr.{the_lemmas as expr_lemmas}
+use Rattle.gm_graph.specs.Serving.{Serve}
+use Rattle.gm_loops.specs.Asking.{reads_outward}
 use Rattle.gm_semantics.specs.declared.faults.Fault.{Fault}
 use Rattle.gm_semantics.specs.Faults.{least, errs, oks, joined}
 use Rattle.gm_semantics.specs.Expressions.{View, Answer, Evaluated, evaluated, early, element, entered, members_of, plain, reduce_of, reduction, settled, steps_in}
@@ -14,8 +17,33 @@ use Rattle.gm_loops.specs.Runnings.{elements_at}
 use Rattle.gm_loops.specs.Sights.{view_of}
 use Rattle.gm_loops.specs.declared.scopes.Scope.{the_lemmas as scope_lemmas}
 use Rattle.gm_loops.proofs.Elements.{no-fault-reduction, one-member, passed-element, unpassed-element}
+use Rattle.gm_loops.proofs.Serving.{binary_right, choose_no, choose_yes, fold_body}
 use Rattle.gm_loops.proofs.Trees.{expr_of-Fold}
 use Rattle.gm_loops.proofs.sights.Sight.+finding.Goals as goal
+
+pub faultless_operation-faultless-requires-in-Binary-2 : goal.faultless_operation-faultless-requires-in-Binary-2
+faultless_operation-faultless-requires-in-Binary-2 t c =
+    let asked : Serve c.args.self.now.setting.now.in_rows.now (reads_outward (expr_of c.deref-in-Binary-2.result.now)) =
+    binary_right _ _ _ _ _ _ _ c.in-Binary.is c.deref-in-Binary-2.ensures c.requires.asked in
+    (search (rules, expr_lemmas), (c.requires.fits, asked))
+
+pub faultless_operation-faultless-requires-in-Choose-2 : goal.faultless_operation-faultless-requires-in-Choose-2
+faultless_operation-faultless-requires-in-Choose-2 t c =
+    let asked : Serve c.args.self.now.setting.now.in_rows.now (reads_outward (expr_of c.deref-in-Choose-2.result.now)) =
+    choose_yes _ _ _ _ _ _ c.in-Choose.is c.deref-in-Choose-2.ensures c.requires.asked in
+    (search (rules, expr_lemmas), (c.requires.fits, asked))
+
+pub faultless_operation-faultless-requires-in-Choose-3 : goal.faultless_operation-faultless-requires-in-Choose-3
+faultless_operation-faultless-requires-in-Choose-3 t c =
+    let asked : Serve c.args.self.now.setting.now.in_rows.now (reads_outward (expr_of c.deref-in-Choose-3.result.now)) =
+    choose_no _ _ _ _ _ _ c.in-Choose.is c.deref-in-Choose-3.ensures c.requires.asked in
+    (search (rules, expr_lemmas), (c.requires.fits, asked))
+
+pub faultless_fold-faultless-requires-then-is_true : goal.faultless_fold-faultless-requires-then-is_true
+faultless_fold-faultless-requires-then-is_true t c =
+    let asked : Serve c.args.self.now.setting.now.in_rows.now (reads_outward (expr_of c.deref-then-is_true.result.now)) =
+    fold_body _ _ _ _ _ _ _ c.in-Fold.is c.deref-then-is_true.ensures c.requires.asked in
+    (search (rules, expr_lemmas), (rw c.entered-taking.ensures c.requires.fits, rw c.entered-taking.ensures asked))
 
 pub faultless_fold-returns-in-Fold : goal.faultless_fold-returns-in-Fold
 faultless_fold-returns-in-Fold t c =

@@ -2,7 +2,7 @@ use Rattle.std.proofs.Common.{◌≡◌, ◌∙◌, ◌<◌, ◌≤◌, ◌-◌,
 use Rattle.std.specs.Prelude.{box_value}
 use Rattle.gm_value.specs.Operations.{is_true}
 use Rattle.gm_model.specs.Graphs.{node_count}
-use Rattle.gm_ast.specs.declared.tree.Stmt.{Stmt}
+use Rattle.gm_ast.specs.declared.tree.Stmt.{Stmt, the_lemmas as stmt_lemmas}
 use Rattle.gm_ast.specs.Program as P
 use Rattle.gm_ast.specs.Program.{sequence}
 use Rattle.gm_ast.specs.Tree.{expr_of, stmt_of}
@@ -10,6 +10,8 @@ use Rattle.gm_semantics.specs.Levels.{numbers_from, nodes}
 use Rattle.gm_semantics.specs.Expressions.{Answer}
 use Rattle.gm_semantics.specs.Statements as S
 use Rattle.gm_semantics.specs.Statements.{State, sequential, repeated, in_turns}
+use Rattle.gm_loops.specs.Bounds.{bound_of}
+use Rattle.gm_loops.proofs.Serving.{stmt_item}
 use Rattle.gm_meaning.specs.declared.phases.Course.{Course}
 use Rattle.gm_meaning.specs.declared.phases.Course.TheVariants.{Goes}
 use Rattle.gm_meaning.specs.Phases.{run_of, state_of, asked, turn_of, Runs}
@@ -23,6 +25,17 @@ use Rattle.gm_meaning.proofs.phases.Phase.+running.Goals as goal
 
 pub block-loop-stmt-init : goal.block-loop-stmt-init
 block-loop-stmt-init t c = record { meaning = refl; bound = c.requires.bound; rest = c.requires.rest }
+
+pub block-statement-requires : goal.block-statement-requires
+block-statement-requires t c =
+    let f = c.args.setting.now in
+    let stmts = c.args.stmts.now.items in
+    let i = c.loop-stmt.stmt-index in
+    let item = c.stmt-item.result in
+    let lt : i < length stmts = rw c.deref-stmt-items.ensures.value at c.loop-stmt-test.true in
+    let is : item ≡ get_or stmts i item = rw c.deref-stmt-items.ensures.value at c.stmt-item.is in
+    let bound : bound_of (stmt_of item) ≤ f.variables = omega (arith, block-bound stmts i item lt is, c.loop-stmt.invariant.bound) in
+    (search (rules, stmt_lemmas), (c.loop-stmt.invariant.rest, (bound, stmt_item f.in_rows.now stmts stmts i item refl lt is c.requires.asked)))
 
 pub block-returns-in_default : goal.block-returns-in_default
 block-returns-in_default t c =
@@ -159,8 +172,8 @@ repeats-rounds-preserved t c =
       rest = goes.rest;
     }
 
-pub turn_at-value-requires : goal.turn_at-value-requires
-turn_at-value-requires t c = (rest-store c.args.setting.now c.args.self.now.going c.set_scalar.new.self c.set_scalar.ensures.shape c.set_scalar.ensures.undo c.requires.rest).ready.fits
+pub turn_at-value-requires-clause-fits : goal.turn_at-value-requires-clause-fits
+turn_at-value-requires-clause-fits t c = (rest-store c.args.setting.now c.args.self.now.going c.set_scalar.new.self c.set_scalar.ensures.shape c.set_scalar.ensures.undo c.requires.rest).ready.fits
 
 pub turn_at-returns-in-Err : goal.turn_at-returns-in-Err
 turn_at-returns-in-Err t c =
@@ -309,15 +322,15 @@ repeats_after-returns-in_default t c =
 
 pub repeats-statement-requires : goal.repeats-statement-requires
 repeats-statement-requires t c =
-    (search rules, (rest-begun c.args.setting.now c.rounds.self c.begin_turn.new.self c.begin_turn.ensures.going c.rounds.invariant.rest, c.requires.bound))
+    (search rules, (rest-begun c.args.setting.now c.rounds.self c.begin_turn.new.self c.begin_turn.ensures.going c.rounds.invariant.rest, (c.requires.bound, c.requires.body_asked)))
 
 pub repeats_after-repeats-requires : goal.repeats_after-repeats-requires
 repeats_after-repeats-requires t c =
-    (search rules, (c.in_ok-course.ensures.rest, c.requires.bound))
+    (search rules, (c.in_ok-course.ensures.rest, (c.requires.bound, (c.requires.test_asked, c.requires.body_asked))))
 
 pub turn_at-statement-requires : goal.turn_at-statement-requires
 turn_at-statement-requires t c =
-    (search rules, (rest-store c.args.setting.now c.args.self.now.going c.set_scalar.new.self c.set_scalar.ensures.shape c.set_scalar.ensures.undo c.requires.rest, c.requires.bound))
+    (search rules, (rest-store c.args.setting.now c.args.self.now.going c.set_scalar.new.self c.set_scalar.ensures.shape c.set_scalar.ensures.undo c.requires.rest, (c.requires.bound, c.requires.body_asked)))
 
 pub statement-returns-in-For : goal.statement-returns-in-For
 statement-returns-in-For t c =

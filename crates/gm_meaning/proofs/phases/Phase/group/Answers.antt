@@ -9,12 +9,17 @@ use Rattle.gm_semantics.specs.Levels.{numbers_from, no_levels}
 use Rattle.gm_semantics.specs.Statements.{State, sequential, loops}
 use Rattle.gm_meaning.specs.Phases.{run_of, state_of, Runs}
 use Rattle.gm_meaning.proofs.Going.{if-ok, runs-as}
+use Rattle.gm_loops.specs.Asking.{reads_outward}
 use Rattle.gm_meaning.proofs.Levels.{numbers-below}
+use Rattle.gm_meaning.proofs.Serving.{any_rows}
 use Rattle.gm_meaning.proofs.Trees.{expr_of-Const}
 use Rattle.gm_meaning.proofs.phases.Phase.group.Goals as goal
 
 pub loops-requires-clause-known : goal.loops-requires-clause-known
 loops-requires-clause-known c = numbers-below 0 c.node_count.result (node_count c.args.setting.now.graph.now) (omega (arith, c.node_count.ensures.count))
+
+pub loops-requires-clause-filter_asked : goal.loops-requires-clause-filter_asked
+loops-requires-clause-filter_asked c = any_rows c.args.setting.now.in_rows.now (E.Const (Flag true)) (ap reads_outward (expr_of-Const (Flag true)))
 
 pub returns : goal.returns
 returns c =

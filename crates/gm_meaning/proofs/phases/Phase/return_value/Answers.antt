@@ -11,10 +11,10 @@ pub returns-in-Ok : goal.returns-in-Ok
 returns-in-Ok c =
     let f = c.args.setting.now in
     let s : State = state_of f c.args.self.now in
-    runs-same f c.args.self.now (Returns (Some c.in-Ok.value)) _ (ap (λ (a : Answer). with_value a (λ w. S.Returns (Some w) s)) (sym c.in-Ok.is ∙ c.value.ensures)) c.requires
+    runs-same f c.args.self.now (Returns (Some c.in-Ok.value)) _ (ap (λ (a : Answer). with_value a (λ w. S.Returns (Some w) s)) (sym c.in-Ok.is ∙ c.value.ensures)) c.requires.rest
 
 pub returns-in-Err : goal.returns-in-Err
 returns-in-Err c =
     let f = c.args.setting.now in
     let s : State = state_of f c.args.self.now in
-    runs-same f c.args.self.now (Faults c.in-Err.fault) _ (ap (λ (a : Answer). with_value a (λ w. S.Returns (Some w) s)) (sym c.in-Err.is ∙ c.value.ensures)) c.requires
+    runs-same f c.args.self.now (Faults c.in-Err.fault) _ (ap (λ (a : Answer). with_value a (λ w. S.Returns (Some w) s)) (sym c.in-Err.is ∙ c.value.ensures)) c.requires.rest

@@ -1,13 +1,13 @@
 use Rattle.std.proofs.Common.{◌≡◌, ◌∙◌, ◌∷◌, ◌+◌, ◌||◌, [], List, Bool, false, refl, ap, sym, subst, drop, map}
-use Rattle.std.specs.Prelude.{flat_map, nat_eq, box_value}
+use Rattle.std.specs.Prelude.{nat_eq, box_value}
 use Rattle.gm_ast.specs.Program.{Stmt, sequence}
 use Rattle.gm_ast.specs.Tree.{expr_of, stmt_of}
 use Rattle.gm_ast.specs.Ways.{mentions}
 use Rattle.gm_push_pull.specs.declared.locals.Locals.{Locals}
 use Rattle.gm_push_pull.specs.Tests.{holds}
 use Rattle.gm_push_pull.specs.Locals.{is_known}
-use Rattle.gm_push_pull.specs.Sweeps.{Demand, Demands, Grows, is_written, written}
-use Rattle.gm_push_pull.proofs.CoreTrees.{stmt_of-Block, stmt_of-If, stmt_of-Declare, stmt_of-Assign, stmt_of-Reduce}
+use Rattle.gm_push_pull.specs.Sweeps.{compared, Demand, Demands, Grows, is_written, written}
+use Rattle.gm_push_pull.proofs.CoreTrees.{stmt_of-Block, stmt_of-If, stmt_of-Declare, stmt_of-Declare-None, stmt_of-Assign, stmt_of-Reduce}
 use Rattle.gm_push_pull.proofs.Ors.{or-nothing}
 use Rattle.gm_push_pull.proofs.Growing.{grows-written, grows-If, grows-none, sweep-next}
 use Rattle.gm_push_pull.proofs.Items.{drop-item, nothing-left}
@@ -60,12 +60,15 @@ sweep-returns-in_ok-second-in-If t c =
     (subst (λ w. Grows z mid (λ q B. Demands z.iterator (is_known z) q B one (holds w q)) c.in_ok-first-in-If.first) c.noted-inside.ensures first)
     (subst (λ w. Grows mid c.sweep-in-If.new.self (λ q B. Demands mid.iterator (is_known mid) q B other (holds w q)) c.in_ok-second-in-If.second) c.noted-inside.ensures second))
 
+pub sweep-returns-in_ok-changed-in-None : goal.sweep-returns-in_ok-changed-in-None
+sweep-returns-in_ok-changed-in-None t c = rw (c.in-Declare.is, c.in-None.is, stmt_of-Declare-None) c.in_ok-changed-in-None.ensures
+
 pub sweep-returns-in_ok-changed-in-Some : goal.sweep-returns-in_ok-changed-in-Some
 sweep-returns-in_ok-changed-in-Some t c =
     let r = c.in-Declare in
     let z = c.args.self.now in
     rw (r.is, c.in-Some.is, stmt_of-Declare) (grows-written (nat_eq r.variable) c.args.around (mentions (expr_of c.in-Some.value))
-    (subst (λ w. Grows z c.add.new.self (λ q B. Demand (is_known z) B (nat_eq r.variable) (holds w q)) c.in_ok-changed-in-Some.changed) c.noted-reads.ensures c.in_ok-changed-in-Some.ensures))
+    (subst (λ w. Grows z c.add-in-Some.new.self (λ q B. Demand (is_known z) B (nat_eq r.variable) (holds w q)) c.in_ok-changed-in-Some.changed) c.noted-reads.ensures c.in_ok-changed-in-Some.ensures))
 
 pub sweep-returns-in_ok-changed-in-Assign : goal.sweep-returns-in_ok-changed-in-Assign
 sweep-returns-in_ok-changed-in-Assign t c =
@@ -78,6 +81,6 @@ pub sweep-returns-in_ok-changed-in-Reduce : goal.sweep-returns-in_ok-changed-in-
 sweep-returns-in_ok-changed-in-Reduce t c =
     let r = c.in-Reduce in
     let z = c.args.self.now in
-    rw (r.is, stmt_of-Reduce) (grows-written (written r.targets.items) c.args.around (flat_map mentions (map expr_of r.values.items))
+    rw (r.is, stmt_of-Reduce) (grows-written (written r.targets.items) c.args.around (compared r.targets.items (map expr_of r.values.items))
     (subst (λ w. Grows z c.write_each.new.self (λ q B. Demand (is_known z) B (written r.targets.items) (holds w q)) c.in_ok-changed-in-Reduce.changed)
-    (rw c.deref-in-Reduce.ensures.value at c.noted_each-reads.ensures) (rw c.deref-in-Reduce-2.ensures.value at c.in_ok-changed-in-Reduce.ensures)))
+    (rw (c.deref-in-Reduce.ensures.value, c.deref-in-Reduce-2.ensures.value) at c.noted_reduction-reads.ensures) (rw c.deref-in-Reduce-3.ensures.value at c.in_ok-changed-in-Reduce.ensures)))

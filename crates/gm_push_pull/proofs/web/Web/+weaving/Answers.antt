@@ -1,12 +1,13 @@
 use Rattle.std.proofs.Common.{◌≡◌, ◌∷◌, ◌+◌, [], List, ap, sym, subst, drop, map}
-use Rattle.std.specs.Prelude.{flat_map, box_value}
+use Rattle.std.specs.Prelude.{box_value}
 use Rattle.gm_ast.specs.declared.tree.Target.{Target}
 use Rattle.gm_ast.specs.Program.{Stmt, sequence}
 use Rattle.gm_ast.specs.Tree.{expr_of, stmt_of}
 use Rattle.gm_ast.specs.Ways.{mentions}
+use Rattle.gm_push_pull.specs.Sweeps.{compared}
 use Rattle.gm_push_pull.specs.Webs.{Weaves}
-use Rattle.gm_push_pull.proofs.CoreTrees.{stmt_of-Block, stmt_of-If, stmt_of-Declare, stmt_of-Assign, stmt_of-Reduce}
-use Rattle.gm_push_pull.proofs.Webs.{weaves-none, weaves-then, weaves-If, weaves-write, weaves-one}
+use Rattle.gm_push_pull.proofs.CoreTrees.{stmt_of-Block, stmt_of-If, stmt_of-Declare, stmt_of-Declare-None, stmt_of-Assign, stmt_of-Reduce}
+use Rattle.gm_push_pull.proofs.Webs.{weaves-none, weaves-then, weaves-If, weaves-write, weaves-one, weaves-declared}
 use Rattle.gm_push_pull.proofs.Items.{drop-item, nothing-left}
 use Rattle.gm_push_pull.proofs.web.Web.+weaving.Goals as goal
 
@@ -42,6 +43,11 @@ weave-returns-in_ok-weave-in-If-2 t c =
     let second = rw (c.deref-in-If.ensures) at c.in_ok-weave-in-If-2.ensures in
     rw (r.is, stmt_of-If) (weaves-If c.args.locals.now (mentions (expr_of r.test)) one other c.in_ok-site-in-If.ensures first second)
 
+pub weave-returns-in_ok-link-in-None : goal.weave-returns-in_ok-link-in-None
+weave-returns-in_ok-link-in-None t c =
+    let r = c.in-Declare in
+    rw (r.is, c.in-None.is, stmt_of-Declare-None) (weaves-declared c.args.locals.now r.variable c.in_ok-link-in-None.ensures)
+
 pub weave-returns-in_ok-link-in-Some : goal.weave-returns-in_ok-link-in-Some
 weave-returns-in_ok-link-in-Some t c =
     let r = c.in-Declare in
@@ -55,5 +61,5 @@ weave-returns-in_ok-feed-in-Assign t c =
 pub weave-returns-in_ok-feed_each-in-Reduce : goal.weave-returns-in_ok-feed_each-in-Reduce
 weave-returns-in_ok-feed_each-in-Reduce t c =
     let r = c.in-Reduce in
-    rw (r.is, stmt_of-Reduce) (weaves-write c.args.locals.now (flat_map mentions (map expr_of r.values.items)) r.targets.items
-    (rw c.deref-in-Reduce.ensures.value at c.in_ok-site-in-Reduce.ensures) (rw c.deref-in-Reduce-2.ensures.value at c.in_ok-feed_each-in-Reduce.ensures))
+    rw (r.is, stmt_of-Reduce) (weaves-write c.args.locals.now (compared r.targets.items (map expr_of r.values.items)) r.targets.items
+    (rw (c.deref-in-Reduce.ensures.value, c.deref-in-Reduce-2.ensures.value) at c.in_ok-site-in-Reduce.ensures) (rw c.deref-in-Reduce-3.ensures.value at c.in_ok-feed_each-in-Reduce.ensures))

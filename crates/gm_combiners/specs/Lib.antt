@@ -1,0 +1,3 @@
+pub mod Combiners
+pub mod Candidates
+pub mod Laws
