@@ -53,7 +53,8 @@ use Rattle.gm_lowering.proofs.Homes.{HomeShows}
 use Rattle.gm_lowering.proofs.InnerPicks.{inner-now, is-inside, inside-way}
 use Rattle.gm_lowering.proofs.Own.{after-set}
 use Rattle.gm_lowering.proofs.OwnTuples.{all-inside, inner-tuple-now}
-use Rattle.gm_lowering.proofs.Picks.{Typed, parts-typed, kept_value, pick-of, held-typed, value-typed, pick-term, picks-way}
+use Rattle.gm_lowering.proofs.Picks.{Typed, kept_value, pick-of, held-typed, value-typed, pick-term, picks-way}
+use Rattle.gm_lowering.proofs.Spots.{PartsReady}
 use Rattle.gm_lowering.proofs.Terms.{rest-term, hoisted-parallel}
 use Rattle.gm_lowering.proofs.TupleFacts.{tuple-spares, own-distinct, types_of_all, held-typed as tuple-held-typed, new-typed as tuple-new-typed, spares-first, spares-second}
 use Rattle.gm_lowering.proofs.TupleLines.{Tupled, tuple-goes}
@@ -120,20 +121,28 @@ kept-inside c loop edge found r ts es depth_is o = or-cases (picks_inside c foun
       let i = is-inside c loop depth_is found r t u ts es o in
       (inr (inr (all-inside c loop 0 depth_is edge (t ∷ (u ∷ ts)) i.inner, i.inner)), i.found_all)
 
--- for any site of an each whose reductions end with a loop: one that also keeps what its locals hold
+-- for any site of an each whose reductions end with a loop: one that also reduces by what a turn holds that has types, and that keeps what its locals hold
 module _ (c : Layout) (seg : Segment) (loop : Loop) (i k j edge registers fields : ℕ) (s : VertexContext)
     (apart : IsApart c registers fields)
     (unlike_outer : is_register (variable_at c.declarations loop.outer) ≡ false)
     (unlike_inner : is_register (variable_at c.declarations i) ≡ false)
     (depth_is : (x : ℕ) → loop.depth x ≡ (variable_at c.declarations x).depth)
-    (base : Reduce → List Target → List Expr → Bool)
-    (late : (r : Reduce) (ts : List Target) (es : List Expr) → base r ts es ≡ true
+    (more base : Reduce → List Target → List Expr → Bool)
+    (late : (r : Reduce) (ts : List Target) (es : List Expr) → more r ts es || base r ts es ≡ true
     → ((ends_of_all (AtEdge edge) loop ts ≡ WithInner) ⊎ (ends_of_all (AtEdge edge) loop ts ≡ WithOutermost)) × (list_all (home_finds c loop.outer i) es ≡ true))
     (Gave : Iteration → VertexState → Type 0)
     (gave_registers : (it : Iteration) (w : VertexState) (rs : List Value) → length rs ≡ length w.registers → Gave it w → Gave it (record w { registers = rs }))
     (Placed : ℕ → Stmt → Type 0)
     (holds : Holds (each_site c seg loop.outer i) loop (AtEdge edge) s (lines_after s) (λ it u. HomeShows c loop i k j edge registers fields s it u × Gave it u) Gave (home_finds c loop.outer i) sets_nothing base (λ kind st it. Placed kind st))
-    (table : TypeTable) (around : List ℕ) (result : Option VType) where
+    (table : TypeTable) (around : List ℕ) (result : Option VType)
+    (Types : Stmt → Iteration → Type 0) (parts : PartsReady loop (AtEdge edge) Types) (typed_of : (st : Stmt) (it : Iteration) → Types st it → Typed c table around result loop st it)
+    (sends : (kind : ℕ) (key : Key) (total : TotalKey) (r : Reduce) (ts : List Target) (es : List Expr) (it : Iteration) (w : VertexState) (rest : List Line) (turn : Iteration)
+    → more r ts es ≡ true → Placed kind (S.Combine key total r ts es) → Types (S.Combine key total r ts es) turn
+    → ((x : ℕ) → list_any (names_scalar x) ts ≡ true → it.store.scalar x ≡ turn.store.scalar x)
+    → HomeShows c loop i k j edge registers fields s it w × Gave it w
+    → let out = does (S.Combine key total r ts es) (AtEdge edge) loop it in
+    Ending (each_env c seg loop.outer i) (lines_after s) (λ it' u. HomeShows c loop i k j edge registers fields s it' u × Gave it' u) Gave
+    (reduce_lines (each_site c seg loop.outer i) kind (way_of c.declarations loop.outer ts) key total r ts (map (term (each_env c seg loop.outer i) key) es)) rest w out out.fault) where
   abbrev n : ℕ
   n = loop.outer
 
@@ -159,11 +168,11 @@ module _ (c : Layout) (seg : Segment) (loop : Loop) (i k j edge registers fields
   run = lines_after s
 
   abbrev pub gives_all : Reduce → List Target → List Expr → Bool
-  gives_all r ts es = base r ts es || (picks_inside c found r ts es || tuples_inside c found r ts es)
+  gives_all r ts es = (more r ts es || base r ts es) || (picks_inside c found r ts es || tuples_inside c found r ts es)
 
   pub late-all : (r : Reduce) (ts : List Target) (es : List Expr) → gives_all r ts es ≡ true → EndsSo c loop m ts × (list_all found es ≡ true)
   late-all r ts es o =
-      or-cases (base r ts es) o
+      or-cases (more r ts es || base r ts es) o
       (λ h. let l = late r ts es h in (⊎_elim (λ (e : ends_of_all m loop ts ≡ WithInner). inl e) (λ (e : ends_of_all m loop ts ≡ WithOutermost). inr (inl e)) l.0, l.1))
       (λ h. kept-inside c loop edge found r ts es depth_is h)
 
@@ -185,7 +194,7 @@ module _ (c : Layout) (seg : Segment) (loop : Loop) (i k j edge registers fields
 
   -- an iteration that knows what a turn knows that has types, as far as the statement needs it
   abbrev pub Alike : Stmt → Iteration → Type 0
-  Alike st it = (turn : Iteration) × SameGiven turn it × NearTo (Needs st) turn it × Typed c table around result loop st turn × (is_body c found sets_nothing gives_all st ≡ true)
+  Alike st it = (turn : Iteration) × SameGiven turn it × NearTo (Needs st) turn it × Types st turn × (is_body c found sets_nothing gives_all st ≡ true)
 
   abbrev pub Ready : ℕ → Stmt → Iteration → Type 0
   Ready kind st it = Placed kind st × Alike st it × HasSpares c registers (body_positions c.declarations st)
@@ -198,7 +207,7 @@ module _ (c : Layout) (seg : Segment) (loop : Loop) (i k j edge registers fields
 
   alike-first : (a b : Stmt) (it : Iteration) → Alike (S.Then a b) it → Alike a it
   alike-first a b it h =
-      (h.0, h.1, less (Needs (S.Then a b)) (Needs a) h.0 it (needs-first a b) h.2, (parts-typed c table around result loop m).first a b h.0 h.3, (both-true (is_body c found sets_nothing gives_all a) _ h.4).0)
+      (h.0, h.1, less (Needs (S.Then a b)) (Needs a) h.0 it (needs-first a b) h.2, parts.first a b h.0 h.3, (both-true (is_body c found sets_nothing gives_all a) _ h.4).0)
 
   alike-second : (a b : Stmt) (it : Iteration) → Alike (S.Then a b) it → (does a m loop it).fault ≡ None → Alike b (does a m loop it)
   alike-second a b it h fine =
@@ -208,7 +217,7 @@ module _ (c : Layout) (seg : Segment) (loop : Loop) (i k j edge registers fields
         does a m loop h.0,
         out.0,
         less (Known c its n k loop m found gives_all loosen no_local off late-all a V) (Needs b) (does a m loop h.0) (does a m loop it) known (out.1 (sym out.0.fault ∙ fine)),
-        (parts-typed c table around result loop m).second a b h.0 h.3,
+        parts.second a b h.0 h.3,
         fits.1,
       ) where
         known : (x : ℕ) → Needs b x → Known c its n k loop m found gives_all loosen no_local off late-all a (Needs (S.Then a b)) x
@@ -223,7 +232,7 @@ module _ (c : Layout) (seg : Segment) (loop : Loop) (i k j edge registers fields
     h.0,
     h.1,
     less (Needs (S.If key e a b)) (Needs a) h.0 it (λ x q. ⊎_elim (λ (z : is_local c x ≡ false). inl z) (λ (z : first_use x a ≡ Read). inr (read-first (reads_scalar x e) (first_use x a) (first_use x b) z)) q) h.2,
-    (parts-typed c table around result loop m).yes key e a b h.0 h.3,
+    parts.yes key e a b h.0 h.3,
     (both-true (is_body c found sets_nothing gives_all a) _ (both-true (found e) _ h.4).1).0,
   )
 
@@ -232,7 +241,7 @@ module _ (c : Layout) (seg : Segment) (loop : Loop) (i k j edge registers fields
     h.0,
     h.1,
     less (Needs (S.If key e a b)) (Needs b) h.0 it (λ x q. ⊎_elim (λ (z : is_local c x ≡ false). inl z) (λ (z : first_use x b ≡ Read). inr (read-second (reads_scalar x e) (first_use x a) (first_use x b) z)) q) h.2,
-    (parts-typed c table around result loop m).no key e a b h.0 h.3,
+    parts.no key e a b h.0 h.3,
     (both-true (is_body c found sets_nothing gives_all a) _ (both-true (found e) _ h.4).1).1,
   )
 
@@ -280,6 +289,7 @@ module _ (c : Layout) (seg : Segment) (loop : Loop) (i k j edge registers fields
       let local = (both-true (is_local c x) (nat_lt 1 (variable_at c.declarations x).depth) b.0).0 in
       let st = S.Combine key total r (T.Scalar x at ∷ []) (e ∷ []) in
       let turn = like.0 in
+      let typed = typed_of st turn like.3 in
       let u = view_in loop m it key in
       let told = holds.tells it w key e b.1 q in
       let held = v.scalar x in
@@ -290,8 +300,8 @@ module _ (c : Layout) (seg : Segment) (loop : Loop) (i k j edge registers fields
       let same_new : evaluated e u ≡ evaluated e (view_in loop m turn key) =
       eval-near c its n k loop m found gives_all loosen no_local off late-all (Needs st) (λ y z. inl z) e key turn it b.1
       (λ y z. inr (ap (λ f. use_if f Read) (or-left (list_any (names_scalar y) (T.Scalar x at ∷ [])) (or-left false z)))) like.2 in
-      let held_of : IsValue table.limit ty (it.store.scalar x) = subst (IsValue table.limit ty) (sym same_held) (held-typed c table around result loop m key total r x at e turn local like.3) in
-      let new_of : IfOk (evaluated e u).rest (IsValue table.limit ty) = subst (λ z. IfOk z.rest (IsValue table.limit ty)) (sym same_new) (value-typed c table around result loop m key total r x at e turn local like.3) in
+      let held_of : IsValue table.limit ty (it.store.scalar x) = subst (IsValue table.limit ty) (sym same_held) (held-typed c table around result loop m key total r x at e turn local typed) in
+      let new_of : IfOk (evaluated e u).rest (IsValue table.limit ty) = subst (λ z. IfOk z.rest (IsValue table.limit ty)) (sym same_new) (value-typed c table around result loop m key total r x at e turn local typed) in
       let out = does st m loop it in
       subst (λ way. Ended (reduce_lines site kind way key total r (T.Scalar x at ∷ []) (value ∷ [])) rest w out out.fault) (sym (picks-way c n x at local))
       (subst (λ z. Ended (SetRegister (c.register x) (M.Choose (compared (better r) value held) value held) ∷ []) rest w z z.fault)
@@ -368,7 +378,7 @@ module _ (c : Layout) (seg : Segment) (loop : Loop) (i k j edge registers fields
       let x = is-inside c loop depth_is found r t u ts es o in
       let spares = tuple-spares c registers key total r t u ts es x.some ready.2 in
       let turn = ready.1.0 in
-      let typed = ready.1.3 in
+      let typed = typed_of st turn ready.1.3 in
       let types = types_of_all c table around result loop m key total r t u ts es turn k x.some typed in
       let out = does st m loop it in
       let less' : length all < positions = omega arith in
@@ -399,6 +409,9 @@ module _ (c : Layout) (seg : Segment) (loop : Loop) (i k j edge registers fields
     placed_yes = λ kind key e a b it h. (holds.placed_yes kind key e a b it h.0, alike-yes key e a b it h.1, spares-first c registers (body_positions c.declarations a) (body_positions c.declarations b) h.2);
     placed_no = λ kind key e a b it h. (holds.placed_no kind key e a b it h.0, alike-no key e a b it h.1, spares-second c registers (body_positions c.declarations a) (body_positions c.declarations b) h.2);
     reduce = λ kind key total r ts es it w rest o h q.
-        or-cases (base r ts es) o (λ z. holds.reduce kind key total r ts es it w rest z h.0 q)
+        or-cases (more r ts es || base r ts es) o
+        (λ z. or-cases (more r ts es) z
+        (λ y. sends kind key total r ts es it w rest h.1.0 y h.0 h.1.3 (λ x f. h.1.2.0.at (Scalar x) (inr (ap (λ t. use_if t Read) (or-right (list_any (reads_scalar x) es) f)))) q)
+        (λ y. holds.reduce kind key total r ts es it w rest y h.0 q))
         (λ z. or-cases (picks_inside c found r ts es) z (λ y. pick-case kind key total r ts es it w rest y h.1 q) (λ y. tuple-case kind key total r ts es it w rest y h q));
   }

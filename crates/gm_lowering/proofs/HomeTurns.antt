@@ -12,6 +12,8 @@ use Rattle.gm_value.specs.Numbers.{zero_of}
 use Rattle.gm_value.specs.Operations.{is_true}
 use Rattle.gm_ast.specs.declared.tree.Key.{Key}
 use Rattle.gm_ast.specs.declared.tree.Target.{Target}
+use Rattle.gm_ast.specs.declared.tree.TotalKey.{TotalKey}
+use Rattle.gm_ast.specs.Program as S
 use Rattle.gm_ast.specs.Program.{Expr, Stmt}
 use Rattle.gm_ast.specs.Ways.{is_in}
 use Rattle.gm_forms.specs.Typing.{type_at}
@@ -31,8 +33,9 @@ use Rattle.gm_machine.specs.Vertex.{VertexContext, VertexState, After, lines_aft
 use Rattle.gm_lowering.specs.Layouts.{Layout, is_register, body_positions}
 use Rattle.gm_lowering.specs.Places.{Segment}
 use Rattle.gm_lowering.specs.Terms.{Env, term, each_env}
-use Rattle.gm_lowering.specs.Bodies.{Site, lines_of}
-use Rattle.gm_lowering.specs.Blocks.{Read, first_use, is_read, is_read_first, reads_scalar, zero_line, zero_lines, each_site}
+use Rattle.gm_lowering.specs.Plans.{way_of}
+use Rattle.gm_lowering.specs.Bodies.{Site, lines_of, reduce_lines}
+use Rattle.gm_lowering.specs.Blocks.{Read, first_use, is_read, is_read_first, reads_scalar, names_scalar, zero_line, zero_lines, each_site}
 use Rattle.gm_lowering.specs.Sites.{finds, given, same_length, is_local, IsInGraph, IsApart, is_body}
 use Rattle.gm_lowering.specs.OwnLoops.{is_declared, puts_to_scalars, folds_to, PicksTyped, HasSpares}
 use Rattle.gm_lowering.specs.MessageLoops.{sets_nothing, receiver_gives, picks_inside, tuples_inside, is_to_scalars, is_to_nodes}
@@ -44,6 +47,8 @@ use Rattle.gm_lowering.proofs.Givens.{are_scalars, scalars-end, are_kept}
 use Rattle.gm_lowering.proofs.HomePicks.{each-loosen, each-no-local, each-apart, late-all, Ready, keeping-holds}
 use Rattle.gm_lowering.proofs.Homes.{own-end, home-holds, HomeShows}
 use Rattle.gm_lowering.proofs.Own.{global-no_register}
+use Rattle.gm_lowering.proofs.Picks.{Typed, parts-typed}
+use Rattle.gm_lowering.proofs.Spots.{PartsReady}
 use Rattle.gm_lowering.proofs.OwnSteps.{under-ends}
 
 or-split : (a b : Bool) → a || b ≡ true → (a ≡ true) ⊎ (b ≡ true)
@@ -77,8 +82,8 @@ TurnAs v Gave it a (Some f) = (a.fault ≡ Some (fault_of v f)) × Gave it a.sta
 -- for any site of an each: how it holds with what its locals keep, that nothing is given at first, and that what is given is the same for iterations that give the same
 module _ (c : Layout) (seg : Segment) (registers : List VType) (fields : ℕ) (loop : Loop) (i : ℕ) (kind : ℕ) (key : Key) (test : Expr) (body : Stmt) (s : VertexContext) (w : VertexState) (r : Store)
     (able : IsEachLoop c registers fields loop i test) (shows : EdgeShows c loop registers fields s w r)
-    (base : Reduce → List Target → List Expr → Bool)
-    (base_late : (r' : Reduce) (ts : List Target) (es : List Expr) → base r' ts es ≡ true
+    (more base : Reduce → List Target → List Expr → Bool)
+    (base_late : (r' : Reduce) (ts : List Target) (es : List Expr) → more r' ts es || base r' ts es ≡ true
     → ((ends_of_all (AtEdge s.near.edge) loop ts ≡ WithInner) ⊎ (ends_of_all (AtEdge s.near.edge) loop ts ≡ WithOutermost)) × (list_all (home_finds c loop.outer i) es ≡ true))
     (Gave : Iteration → VertexState → Type 0) (gave_registers : (it : Iteration) (u : VertexState) (rs : List Value) → length rs ≡ length u.registers → Gave it u → Gave it (record u { registers = rs }))
     (Placed : ℕ → Stmt → Type 0) (base_placed : Placed kind body)
@@ -86,8 +91,16 @@ module _ (c : Layout) (seg : Segment) (registers : List VType) (fields : ℕ) (l
     (at_first : (it : Iteration) → it.with_inner ≡ [] → it.with_outermost ≡ [] → it.deferred ≡ [] → Gave it w)
     (moved : (a b : Iteration) (u : VertexState) → SameGiven a b → Gave b u → Gave a u)
     (table : TypeTable) (around : List ℕ) (result : Option VType)
-    (fits : is_body c (home_finds c loop.outer i) sets_nothing (λ r' ts es. base r' ts es || (picks_inside c (home_finds c loop.outer i) r' ts es || tuples_inside c (home_finds c loop.outer i) r' ts es)) body ≡ true)
-    (typed : PicksTyped c table around result loop body (begun (write r (Scalar i) (At (Some s.near.node)))))
+    (Types : Stmt → Iteration → Type 0) (parts : PartsReady loop (AtEdge s.near.edge) Types) (typed_of : (st : Stmt) (it : Iteration) → Types st it → Typed c table around result loop st it)
+    (base_sends : (kind' : ℕ) (key' : Key) (total : TotalKey) (r' : Reduce) (ts : List Target) (es : List Expr) (it : Iteration) (u : VertexState) (rest : List Line) (typed_turn : Iteration)
+    → more r' ts es ≡ true → Placed kind' (S.Combine key' total r' ts es) → Types (S.Combine key' total r' ts es) typed_turn
+    → ((x : ℕ) → list_any (names_scalar x) ts ≡ true → it.store.scalar x ≡ typed_turn.store.scalar x)
+    → HomeShows c loop i s.node s.near.node s.near.edge (length registers) fields s it u × Gave it u
+    → let done = does (S.Combine key' total r' ts es) (AtEdge s.near.edge) loop it in
+    Ends (each_env c seg loop.outer i) (lines_after s) (λ it' u'. HomeShows c loop i s.node s.near.node s.near.edge (length registers) fields s it' u' × Gave it' u') Gave
+    (reduce_lines (each_site c seg loop.outer i) kind' (way_of c.declarations loop.outer ts) key' total r' ts (map (term (each_env c seg loop.outer i) key') es)) rest u done done.fault)
+    (fits : is_body c (home_finds c loop.outer i) sets_nothing (λ r' ts es. (more r' ts es || base r' ts es) || (picks_inside c (home_finds c loop.outer i) r' ts es || tuples_inside c (home_finds c loop.outer i) r' ts es)) body ≡ true)
+    (typed : Types body (begun (write r (Scalar i) (At (Some s.near.node)))))
     (spares : HasSpares c (length registers) (body_positions c.declarations body)) where
   abbrev n : ℕ
   n = loop.outer
@@ -120,16 +133,16 @@ module _ (c : Layout) (seg : Segment) (registers : List VType) (fields : ℕ) (l
   sh it u = HomeShows c loop i s.node j edge (length registers) fields s it u × Gave it u
 
   abbrev gives : Reduce → List Target → List Expr → Bool
-  gives r' ts es = base r' ts es || (picks_inside c found r' ts es || tuples_inside c found r' ts es)
+  gives r' ts es = (more r' ts es || base r' ts es) || (picks_inside c found r' ts es || tuples_inside c found r' ts es)
 
   late : (r' : Reduce) (ts : List Target) (es : List Expr) → gives r' ts es ≡ true → EndsSo c loop m ts × (list_all found es ≡ true)
-  late = late-all c seg loop i s.node j edge (length registers) fields s able.apart able.outer able.inner able.depths base base_late Gave gave_registers Placed base_holds table around result
+  late = late-all c seg loop i s.node j edge (length registers) fields s able.apart able.outer able.inner able.depths more base base_late Gave gave_registers Placed base_holds table around result Types parts typed_of base_sends
 
   abbrev Kept : ℕ → Stmt → Iteration → Type 0
-  Kept = Ready c seg loop i s.node j edge (length registers) fields s able.apart able.outer able.inner able.depths base base_late Gave gave_registers Placed base_holds table around result
+  Kept = Ready c seg loop i s.node j edge (length registers) fields s able.apart able.outer able.inner able.depths more base base_late Gave gave_registers Placed base_holds table around result Types parts typed_of base_sends
 
   holds : Holds site loop m s run sh Gave found sets_nothing gives Kept
-  holds = keeping-holds c seg loop i s.node j edge (length registers) fields s able.apart able.outer able.inner able.depths base base_late Gave gave_registers Placed base_holds table around result
+  holds = keeping-holds c seg loop i s.node j edge (length registers) fields s able.apart able.outer able.inner able.depths more base base_late Gave gave_registers Placed base_holds table around result Types parts typed_of base_sends
 
   loosen : (e : Expr) → found e ≡ true → finds c its true e ≡ true
   loosen = each-loosen c n i
@@ -419,9 +432,11 @@ module _ (c : Layout) (seg : Segment) (registers : List VType) (fields : ℕ) (l
   pub each-turn : TurnEnds c at_home w home_out (lines_after s (home_lines c seg loop.outer i kind key test body) 0 w) home_out.fault
   each-turn =
       by-fault home_out (lines_after s (home_lines c seg loop.outer i kind key test body) 0 w) home_out.fault
-      (turn-ends c seg registers fields loop i kind key test body s w r is-each shows (receiver_gives c loop.outer finds_here) late-home (λ x u. HomeGave c at_home w x u) gave-registers Anywhere tt
+      (turn-ends c seg registers fields loop i kind key test body s w r is-each shows (λ r' ts es. false) (receiver_gives c loop.outer finds_here) late-home (λ x u. HomeGave c at_home w x u) gave-registers Anywhere tt
       (home-holds c seg loop i s.node s.near.node s.near.edge (length registers) fields s w able.apart able.outer able.inner able.two able.types able.depths able.own)
-      none-given gave-moved table around result able.fits typed able.spares)
+      none-given gave-moved table around result
+      (Typed c table around result loop) (parts-typed c table around result loop (AtEdge s.near.edge)) (λ st it t. t) (λ kind' key' total r' ts es it u rest turn o placed types same q. absurd (both_ways false refl o))
+      able.fits typed able.spares)
 
 pub each-turns : EachLinesAreTurns
 each-turns c seg registers fields loop i kind key test body s w r table around result able typed shows = each-turn c seg registers fields loop i kind key test body s w r able shows table around result typed

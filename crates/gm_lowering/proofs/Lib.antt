@@ -32,7 +32,7 @@ pub mod Receiving
 pub mod Regions
 pub mod MessageTurns
 pub mod Received
-pub mod Halves
+pub mod InOrder
 pub mod TwoSupersteps
 pub mod Shapes
 pub mod Ranks
@@ -49,9 +49,10 @@ pub mod Registers
 pub mod Takings
 pub mod Made
 pub mod TakingSteps
+pub mod Sent
+pub mod Sendings
 pub mod SenderTurns
 pub mod SenderSteps
-pub mod Sendings
 pub mod OwnSends
 pub mod SenderSupersteps
 pub mod SendSteps
@@ -59,3 +60,4 @@ pub mod OwnSendLoops
 pub mod ReceiverSends
 pub mod ReceiverSendSteps
 pub mod ReceiverSendLoops
+pub mod SentBehind

@@ -1,6 +1,6 @@
 -- What a loop gives is made by the reductions of its body.
 use Rattle.std.proofs.Common.{◌≡◌, ◌⊎◌, inl, inr, ℕ, zero, suc, Bool, true, false, Option, Some, None, Result, Ok, Err, List, [], ◌∷◌, ◌++◌, map, refl, ap, ◌∙◌, sym, subst, arith, ⊎_elim, ◌<◌}
-use Rattle.std.specs.Prelude.{◌&&◌, ◌||◌, nat_eq, nat_lt, if◌then◌else◌, IsTrue, not}
+use Rattle.std.specs.Prelude.{◌&&◌, ◌||◌, nat_eq, nat_lt, if◌then◌else◌, not}
 use Rattle.std.specs.List.{list_all}
 use Rattle.std.proofs.lemmas.Bool.{both_ways, eqb-true, ltb-true, eq-eqb}
 use Rattle.gm_value.specs.declared.values.Value.{Value}
@@ -42,10 +42,10 @@ use Rattle.gm_lowering.proofs.Kept.{Gives}
 use Rattle.gm_lowering.proofs.Regions.{in-front, in-back, in-parts}
 
 -- slots of variables: scalars, or properties at one node
-abbrev at_node : ℕ → ℕ → Slot
+abbrev pub at_node : ℕ → ℕ → Slot
 at_node j p = Node p j
 
-abbrev AreOf : List Slot → List ℕ → Type 0
+abbrev pub AreOf : List Slot → List ℕ → Type 0
 AreOf ss vs = (ss ≡ map Scalar vs) ⊎ ((j : ℕ) × (ss ≡ map (at_node j) vs))
 
 -- a contribution is made by one of some reductions
@@ -363,17 +363,22 @@ module _ (ms : List Made) (go : all_go ms ≡ true) (cs : List Contribution) (go
   }
 
 -- all of some
-all-of : {A : Type 0} (p : A → Bool) (xs : List A) (x : A) → list_all p xs ≡ true → IsIn x xs → p x ≡ true
+pub all-of : {A : Type 0} (p : A → Bool) (xs : List A) (x : A) → list_all p xs ≡ true → IsIn x xs → p x ≡ true
 all-of p [] x h i = absurd i
 all-of p (y ∷ ys) x h i =
     let q = both-true (p y) (list_all p ys) h in ⊎_elim (λ (e : x ≡ y). ap p e ∙ q.0) (λ (j : IsIn x ys). all-of p ys x q.1 j) i
 
+-- what a loop gives is made by the reductions of its body
+pub made-in : (ds : List Declaration) (loop : Loop) (key : Key) (test : Expr) (body : Stmt) (r : Store) → ((x : ℕ) → loop.depth x ≡ depth_at ds x) → targets_alike body ≡ true
+    → (x : Contribution) → IsIn x (given_in loop key test body r) → IsMade (made ds loop.outer false body) x
+made-in ds loop key test body r depths alike =
+    let ms = made ds loop.outer false body in
+    joined-in ds loop depths ms (iteration loop key test body r) (λ it. it.with_outermost)
+    (λ k x i. (turn-good ds loop depths ms Outermost key test (does body Outermost loop) loop.outer k r (λ it g. does-good ds loop depths ms body Outermost alike (λ a j. j) it g)).outermost x i) (nodes loop.graph)
+
 pub loops-give-apart : LoopsGiveApart
 loops-give-apart ds loop key test body r depths h =
-    gives-so ms t.1 (given_in loop key test body r)
-    (joined-in ds loop depths ms (iteration loop key test body r) (λ it. it.with_outermost)
-    (λ k x i. (turn-good ds loop depths ms Outermost key test (does body Outermost loop) loop.outer k r (λ it g. does-good ds loop depths ms body Outermost q.0 (λ a j. j) it g)).outermost x i) (nodes loop.graph))
-    (λ a i. all-of (λ (m : Made). are_any m.variables) ms a t.0 i) where
+    gives-so ms t.1 (given_in loop key test body r) (made-in ds loop key test body r depths q.0) (λ a i. all-of (λ (m : Made). are_any m.variables) ms a t.0 i) where
       ms : List Made
       ms = made ds loop.outer false body
 

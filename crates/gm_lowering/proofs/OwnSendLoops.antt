@@ -40,12 +40,12 @@ use Rattle.gm_lowering.specs.Bodies.{spots_of, reduce_spots}
 use Rattle.gm_lowering.specs.Sites.{is_body, are_of_scalars}
 use Rattle.gm_lowering.specs.OwnLoops.{own_finds, own_sets, own_gives, fold_spots, HaveIndices, own_block, AreTyped, NodeShows}
 use Rattle.gm_lowering.specs.MessageLoops.{is_to_scalars, is_to_nodes}
-use Rattle.gm_lowering.specs.SenderSteps.{AreSent}
+use Rattle.gm_lowering.specs.Sent.{sends_through, AreSent}
 use Rattle.gm_lowering.specs.Phases.{GlobalsApart, NodesInGraph, Shown, GivesApart, given_in, own_spots}
 use Rattle.gm_lowering.specs.Settles.{HasSpot, spot_of_fault, HaveRoom}
 use Rattle.gm_lowering.specs.TakingSteps.{taking_block, IsTaken}
 use Rattle.gm_lowering.specs.SenderLoops.{TotalsLast, TwoStepsAre}
-use Rattle.gm_lowering.specs.OwnSends.{sends_through, sending_gives, IsSendingOwnLoop, OwnSends}
+use Rattle.gm_lowering.specs.OwnSends.{sending_gives, IsSendingOwnLoop, OwnSends}
 use Rattle.gm_lowering.specs.OwnSendLoops.{SendingOwnLoopsAreTwoSupersteps}
 use Rattle.gm_lowering.proofs.Givens.{node_slots}
 use Rattle.gm_lowering.proofs.Kept.{Gives, body-gives}

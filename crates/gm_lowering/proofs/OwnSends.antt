@@ -49,8 +49,8 @@ use Rattle.gm_lowering.specs.OwnLoops.{own_finds, own_sets, own_gives, own_block
 use Rattle.gm_lowering.specs.MessageLoops.{is_to_scalars, is_to_nodes}
 use Rattle.gm_lowering.specs.Settles.{fault_or_none}
 use Rattle.gm_lowering.specs.TakingSteps.{Carried}
-use Rattle.gm_lowering.specs.SenderSteps.{AreSent}
-use Rattle.gm_lowering.specs.OwnSends.{may_hold_node, sends_through, sending_gives, IsSendingOwnLoop, OwnSent, OwnSends, SendingOwnStepsAreIterations}
+use Rattle.gm_lowering.specs.Sent.{may_hold_node, sends_through, AreSent}
+use Rattle.gm_lowering.specs.OwnSends.{sending_gives, IsSendingOwnLoop, OwnSent, OwnSends, SendingOwnStepsAreIterations}
 use Rattle.gm_lowering.proofs.Bodies.{Ends as Ending, Holds}
 use Rattle.gm_lowering.proofs.Givens.{none-hoisted, are_kept, values-all}
 use Rattle.gm_lowering.proofs.Own as O
@@ -58,9 +58,8 @@ use Rattle.gm_lowering.proofs.OwnGives as OG
 use Rattle.gm_lowering.proofs.OwnSteps.{body-alone, filtered-ends, begins}
 use Rattle.gm_lowering.proofs.Picks.{parts-are}
 use Rattle.gm_lowering.proofs.Receiving.{or-cases}
-use Rattle.gm_lowering.proofs.SenderSteps.{sent-both}
+use Rattle.gm_lowering.proofs.Sent.{sends-way, long-values, filter-last, get-left, get-right, sent-both}
 use Rattle.gm_lowering.proofs.Sendings.{node-inside, scalar-inside, held-value, off-one, out_of, does-send, send-by}
-use Rattle.gm_lowering.proofs.SenderTurns.{sends-way, long-values, filter-last, get-left, get-right}
 use Rattle.gm_lowering.proofs.TupleFacts.{no-spares, spares-first, spares-second}
 
 map-both : {A B : Type 0} (f : A → B) (xs ys : List A) → map f (xs ++ ys) ≡ map f xs ++ map f ys
@@ -200,8 +199,8 @@ module _ (c : Layout) (seg : Segment) (loop : Loop) (k registers fields places :
       subst (λ way'. Ended (reduce_lines (own_site c seg n) first way' key total r (t ∷ ts) (map (term v key) es)) rest w out out.fault) (sym way)
       (subst (λ node. Ended (Send first node (map (term v key) es) ∷ []) rest w out out.fault) (sym (through off))
       (subst (λ z. Ended (Send first (M.Live (v.place key at) (v.scalar x)) (map (term v key) es) ∷ []) rest w z z.fault) (sym same)
-      (send-by c v loop s run Shows Gave kind all (λ ss. Unit {0}) base.fine (λ it' w' f' q'. gave-failed it' w' f' q'.1) (λ k' to' terms' ls u'. refl) (λ it' w' a' msg o' z. sends it' w' a' msg o')
-      first total r x t ts (M.Live (v.place key at) (v.scalar x)) (map (term v key) es) it w rest u at q e.0 (λ j. tt) place.0 place.1 (let z : first + 0 ≡ kind + place.0 = place.2 in omega (arith, z))
+      (send-by c v loop s run Shows Gave kind all (λ a. Unit {0}) base.fine (λ it' w' f' q'. gave-failed it' w' f' q'.1) (λ k' to' terms' ls u'. refl) (λ it' w' a' msg o' z. sends it' w' a' msg o')
+      first total r x t ts (M.Live (v.place key at) (v.scalar x)) (map (term v key) es) it w rest u at q e.0 (λ j ys. tt) place.0 place.1 (let z : first + 0 ≡ kind + place.0 = place.2 in omega (arith, z))
       at_node (λ j h. node-inside loop.graph (it.store.scalar x) j in_graph h) to (evaluated_all es u).rest (long-values u (t ∷ ts) es f.0) (values-all v u (view s w) es tell)))) where
         known : nat_lt x (length c.declarations) ≡ true → has_value (variable_at c.declarations x) ≡ true → (b : Bool) → b || (nat_lt x (length c.declarations) && has_value (variable_at c.declarations x)) ≡ true
         known e f true = refl

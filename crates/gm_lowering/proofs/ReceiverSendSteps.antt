@@ -1,6 +1,6 @@
 -- The step of a vertex whose receivers send takes what the turns that reach its node give, and sends the rest.
 use Rattle.std.proofs.Common.{◌≡◌, ◌<◌, ◌≤◌, ℕ, suc, Bool, true, false, Option, Some, None, List, [], ◌∷◌, ◌++◌, length, map, refl, ap, ◌∙◌, sym, subst}
-use Rattle.std.specs.Prelude.{◌&&◌, ◌||◌, nat_eq, not, filter}
+use Rattle.std.specs.Prelude.{◌&&◌, nat_eq, filter}
 use Rattle.std.specs.List.{list_all}
 use Rattle.std.proofs.lemmas.Bool.{both_ways, not-true}
 use Rattle.std.proofs.lemmas.List.{append-nil}
@@ -12,7 +12,6 @@ use Rattle.gm_value.specs.Bag.{IsIn}
 use Rattle.gm_model.specs.Graphs.{NumberedGraph, Step, node_count}
 use Rattle.gm_ast.specs.declared.tree.Key.{Key}
 use Rattle.gm_ast.specs.declared.tree.Target.{Target}
-use Rattle.gm_ast.specs.declared.tree.Target.TheVariants as T
 use Rattle.gm_ast.specs.declared.tree.TotalKey.{TotalKey}
 use Rattle.gm_ast.specs.Program as P
 use Rattle.gm_ast.specs.Program.{Expr, Stmt}
@@ -36,50 +35,26 @@ use Rattle.gm_lowering.specs.Terms.{Env}
 use Rattle.gm_lowering.specs.Plans.{Load, Away, aways, loads_in, way_of}
 use Rattle.gm_lowering.specs.Bodies.{reduce_spots}
 use Rattle.gm_lowering.specs.Blocks.{receiver_env}
-use Rattle.gm_lowering.specs.Sites.{finds, same_length, is_body, given}
+use Rattle.gm_lowering.specs.Sites.{finds, is_body, given}
 use Rattle.gm_lowering.specs.OwnLoops.{NodeShows, AreTyped}
-use Rattle.gm_lowering.specs.MessageLoops.{has_load, receiver_finds, sets_nothing, inner_gives, handler_lines, is_to_scalars, is_to_nodes}
+use Rattle.gm_lowering.specs.MessageLoops.{has_load, receiver_finds, sets_nothing, inner_gives, handler_lines, is_to_scalars, is_to_nodes, TurnsAreTyped}
 use Rattle.gm_lowering.specs.Phases.{GivesApart}
 use Rattle.gm_lowering.specs.Receiving.{receive_block, turn_of, given_by, faults_by, IsMessageOf, inner_spots}
 use Rattle.gm_lowering.specs.Settles.{HasSpot, HaveRoom, fault_or_none}
-use Rattle.gm_lowering.specs.SenderSteps.{AreSent}
-use Rattle.gm_lowering.specs.OwnSends.{may_hold_node, sends_through}
-use Rattle.gm_lowering.specs.ReceiverSends.{is_sent_target, is_taken_here, are_sent_slots, is_sent, is_received, receiver_sends, IsSendingMessageLoop, TurnsAreTyped, ReceiverSent, RunSends, ReceivesAndSends, SendingReceiversAreTurns}
+use Rattle.gm_lowering.specs.Sent.{sends_through, sender_gives, AreSent}
+use Rattle.gm_lowering.specs.ReceiverSends.{are_sent_slots, is_sent, is_received, IsSendingMessageLoop, ReceiverSent, RunSends, ReceivesAndSends, SendingReceiversAreTurns, tells_sent}
 use Rattle.gm_lowering.proofs.FoldFacts.{IsReceived, body-weaker}
-use Rattle.gm_lowering.proofs.Givens.{node_slots, are_kept}
+use Rattle.gm_lowering.proofs.Givens.{node_slots}
 use Rattle.gm_lowering.proofs.Handled.{filter-both, Joins, Ran, takes}
 use Rattle.gm_lowering.proofs.Kept.{Gives}
 use Rattle.gm_lowering.proofs.Picks.{parts-are}
 use Rattle.gm_lowering.proofs.Received.{joined-both}
-use Rattle.gm_lowering.proofs.Receiving.{all-weaker, and-last, inner-weaker, inner-left, inner-give, or-cases, message-shows, one-handler}
-use Rattle.gm_lowering.proofs.ReceiverSends.{sent-slots, sending-handlers}
-use Rattle.gm_lowering.proofs.Sendings.{off-both, send-left, send-gives}
-use Rattle.gm_lowering.proofs.SenderSteps.{sent-both}
-use Rattle.gm_lowering.proofs.Spots.{Has, HoldNodes, Left}
+use Rattle.gm_lowering.proofs.Receiving.{inner-left, inner-give, or-cases, message-shows, one-handler}
+use Rattle.gm_lowering.proofs.ReceiverSends.{sent-slots, sending-handlers, told-sent}
+use Rattle.gm_lowering.proofs.Sendings.{off-both, send-left, send-gives, sender-weaker}
+use Rattle.gm_lowering.proofs.Sent.{sent-both}
+use Rattle.gm_lowering.proofs.Spots.{Has, HoldNodes, Left, PartsReady}
 use Rattle.gm_lowering.proofs.TurnsLeft.{both, home_at, no-locals, outer-in, at-receiver, turn-left}
-
--- a weaker test of what is sent
-sends-weaker : (c : Layout) (its : List ℕ) (found other : Expr → Bool) (r : Reduce) (ts : List Target) (es : List Expr) → ((e : Expr) → found e ≡ true → other e ≡ true) → sends_through c its found r ts es ≡ true → sends_through c its other r ts es ≡ true
-sends-weaker c its found other r [] es f o = absurd (both_ways false refl o)
-sends-weaker c its found other r (T.Scalar x at ∷ ts) es f o = absurd (both_ways false refl o)
-sends-weaker c its found other r (T.Property x p at ∷ ts) es f o =
-    let all = T.Property x p at ∷ ts in
-    and-last (not (is_in its x)) (may_hold_node c x) (are_kept c x all && (same_length all es && list_all found es)) (are_kept c x all && (same_length all es && list_all other es)) o
-    (λ k. and-last (are_kept c x all) (same_length all es) (list_all found es) (list_all other es) k (λ z. all-weaker found other es f z))
-
-receives-weaker : (c : Layout) (n i : ℕ) (out : List ℕ) (found other : Expr → Bool) (r : Reduce) (ts : List Target) (es : List Expr) → ((e : Expr) → found e ≡ true → other e ≡ true) → receiver_sends c n i out found r ts es ≡ true → receiver_sends c n i out other r ts es ≡ true
-receives-weaker c n i out found other r ts es f o =
-    or-cases (list_all (is_taken_here out) ts && inner_gives c i found r ts es) (list_all (is_sent_target out) ts && sends_through c (n ∷ (i ∷ [])) found r ts es) o
-    (λ z.
-    let y = both-true (list_all (is_taken_here out) ts) (inner_gives c i found r ts es) z in
-    ap (λ b. (b && inner_gives c i other r ts es) || (list_all (is_sent_target out) ts && sends_through c (n ∷ (i ∷ [])) other r ts es)) y.0
-    ∙ ap (λ b. b || (list_all (is_sent_target out) ts && sends_through c (n ∷ (i ∷ [])) other r ts es)) (inner-weaker c i found other r ts es f y.1))
-    (λ z.
-    let y = both-true (list_all (is_sent_target out) ts) (sends_through c (n ∷ (i ∷ [])) found r ts es) z in
-    or-right (list_all (is_taken_here out) ts && inner_gives c i other r ts es) (ap (λ b. b && sends_through c (n ∷ (i ∷ [])) other r ts es) y.0 ∙ sends-weaker c (n ∷ (i ∷ [])) found other r ts es f y.1)) where
-      or-right : {y : Bool} (b : Bool) → y ≡ true → b || y ≡ true
-      or-right true k = refl
-      or-right false k = k
 
 -- parts of what turns give
 pub joined-filter : (t : Contribution → Bool) (f : ℕ × Step → List Contribution) (xs : List (ℕ × Step)) → joined (map (λ x. filter t (f x)) xs) ≡ filter t (joined (map f xs))
@@ -87,10 +62,10 @@ joined-filter t f [] = refl
 joined-filter t f (x ∷ xs) = ap (λ l. filter t (f x) ++ l) (joined-filter t f xs) ∙ sym (filter-both t (f x) (joined (map f xs)))
 
 -- what is sent for turns
-abbrev pub SentFor : ℕ → List Away → NumberedGraph → List ℕ → (ℕ × Step → Iteration) → List (ℕ × Step) → List Message → Type 0
+abbrev pub SentFor : ℕ → List Away → NumberedGraph → List (ℕ × ℕ) → (ℕ × Step → Iteration) → List (ℕ × Step) → List Message → Type 0
 SentFor kind sends g out turn xs ms = AreSent kind sends g (filter (is_sent out) (given_by turn xs)) ms
 
-pub sent-joins : (kind : ℕ) (sends : List Away) (g : NumberedGraph) (out : List ℕ) (turn : ℕ × Step → Iteration) → Joins (SentFor kind sends g out turn)
+pub sent-joins : (kind : ℕ) (sends : List Away) (g : NumberedGraph) (out : List (ℕ × ℕ)) (turn : ℕ × Step → Iteration) → Joins (SentFor kind sends g out turn)
 sent-joins kind sends g out turn = record {
   nothing = tt;
   both = λ xs ys ms ns a b.
@@ -98,7 +73,7 @@ sent-joins kind sends g out turn = record {
       (sent-both kind sends g (filter (is_sent out) (given_by turn xs)) (filter (is_sent out) (given_by turn ys)) ms ns a b);
 }
 
-module _ (c : Layout) (p : image.Program) (fields base : ℕ) (all : List Spot) (loop : Loop) (i : ℕ) (loads : List Load) (out : List ℕ) (kind : ℕ) (key : Key) (test : Expr) (body : Stmt)
+module _ (c : Layout) (p : image.Program) (fields base : ℕ) (all : List Spot) (loop : Loop) (i : ℕ) (loads : List Load) (out : List (ℕ × ℕ)) (kind : ℕ) (key : Key) (test : Expr) (body : Stmt)
     (globals fs : List Value) (j : ℕ) (r : Store) (message : ℕ × Step → Message)
     (table : TypeTable) (around : List ℕ) (result : Option VType)
     (able : IsSendingMessageLoop c p.registers fields loop i loads out test body)
@@ -168,16 +143,30 @@ module _ (c : Layout) (p : image.Program) (fields base : ℕ) (all : List Spot) 
   loosen e h = (both-true (loose e) (list_all (has_load loads) (loads_in n e)) h).0
 
   abbrev gives : Reduce → List Target → List Expr → Bool
-  gives = receiver_sends c n i out loose
+  gives = sender_gives c n i loose
 
   fits : is_body c loose sets_nothing gives body ≡ true
-  fits = body-weaker c (receiver_finds c n i loads) loose sets_nothing (receiver_sends c n i out (receiver_finds c n i loads)) gives loosen (λ r' ts es h. receives-weaker c n i out (receiver_finds c n i loads) loose r' ts es loosen h) body able.fits
+  fits =
+      body-weaker c (receiver_finds c n i loads) loose sets_nothing (sender_gives c n i (receiver_finds c n i loads)) gives loosen (λ r' ts es h. sender-weaker c n i (receiver_finds c n i loads) loose r' ts es loosen h) body able.fits
 
   abbrev Good : Contribution → Type 0
   Good y = is_sent out y ≡ false → IsReceived c j all y
 
   abbrev Ready : P.Stmt → Iteration → Type 0
-  Ready = AreTyped c table around result loop
+  Ready st it = AreTyped c table around result loop st it × (tells_sent c.declarations i out st ≡ true)
+
+  told : (a b : P.Stmt) → tells_sent c.declarations i out a && tells_sent c.declarations i out b ≡ true → (tells_sent c.declarations i out a ≡ true) × (tells_sent c.declarations i out b ≡ true)
+  told a b h = both-true (tells_sent c.declarations i out a) (tells_sent c.declarations i out b) h
+
+  parts-ready : (m : Mode) → PartsReady loop m Ready
+  parts-ready m =
+      let types = parts-are c table around result loop m in
+      record {
+        first = λ a b it h. (types.first a b it h.0, (told a b h.1).0);
+        second = λ a b it h. (types.second a b it h.0, (told a b h.1).1);
+        yes = λ k e a b it h. (types.yes k e a b it h.0, (told a b h.1).0);
+        no = λ k e a b it h. (types.no k e a b it h.0, (told a b h.1).1);
+      }
 
   module _ (x : ℕ × Step) (is_of : Is x) where
     abbrev m : Mode
@@ -204,25 +193,25 @@ module _ (c : Layout) (p : image.Program) (fields base : ℕ) (all : List Spot) 
     reductions-left : (k : Key) (total : TotalKey) (r' : Reduce) (ts : List Target) (es : List Expr) (it : Iteration) → gives r' ts es ≡ true → Ready (P.Combine k total r' ts es) it → it.fault ≡ None → HoldNodes g its home it
         → Left c its true loop m home (does (P.Combine k total r' ts es) m loop it) (spots_in_all es k ++ reduce_spots false its (way_of c.declarations i ts) k total ts)
     reductions-left k total r' ts es it o y e h =
-        or-cases (list_all (is_taken_here out) ts && inner_gives c i loose r' ts es) (list_all (is_sent_target out) ts && sends_through c (n ∷ (i ∷ [])) loose r' ts es) o
-        (λ z. inner-left c loop i able.depths able.two table around result none outer-here x.1.edge j home k total r' ts es it (both-true (list_all (is_taken_here out) ts) (inner_gives c i loose r' ts es) z).1 (λ a. y) e h (at-j it h))
-        (λ z. send-left c its true false i loop m home off k total r' ts es it (both-true (list_all (is_sent_target out) ts) (sends_through c (n ∷ (i ∷ [])) loose r' ts es) z).1 e h)
+        or-cases (inner_gives c i loose r' ts es) (sends_through c (n ∷ (i ∷ [])) loose r' ts es) o
+        (λ z. inner-left c loop i able.depths able.two table around result none outer-here x.1.edge j home k total r' ts es it z (λ a. y.0) e h (at-j it h))
+        (λ z. send-left c its true false i loop m home off k total r' ts es it z e h)
 
     reductions-give : (k : Key) (total : TotalKey) (r' : Reduce) (ts : List Target) (es : List Expr) (it : Iteration) → gives r' ts es ≡ true → Ready (P.Combine k total r' ts es) it → HoldNodes g its home it
         → ((f : Spot) → HasSpot f (reduce_spots false its (way_of c.declarations i ts) k total ts) → HasSpot f all)
         → Gives Good it → Gives Good (does (P.Combine k total r' ts es) m loop it)
     reductions-give k total r' ts es it o y h e q =
-        or-cases (list_all (is_taken_here out) ts && inner_gives c i loose r' ts es) (list_all (is_sent_target out) ts && sends_through c (n ∷ (i ∷ [])) loose r' ts es) o
+        or-cases (inner_gives c i loose r' ts es) (sends_through c (n ∷ (i ∷ [])) loose r' ts es) o
+        (λ z. inner-give c loop i able.depths able.two table around result none outer-here x.1.edge j home all Good (λ a w d. w) k total r' ts es it z (λ a. y.0) h (at-j it h) e q)
         (λ z.
-        inner-give c loop i able.depths able.two table around result none outer-here x.1.edge j home all Good (λ a w d. w) k total r' ts es it (both-true (list_all (is_taken_here out) ts) (inner_gives c i loose r' ts es) z).1 (λ a. y) h (at-j it h) e q)
-        (λ z.
-        let w = both-true (list_all (is_sent_target out) ts) (sends_through c (n ∷ (i ∷ [])) loose r' ts es) z in
-        send-gives c its true false i loop m home off Good k total r' ts es it w.1 h (λ a ys d. absurd (both_ways (are_sent_slots out (node_slots a ts)) d (sent-slots out c (n ∷ (i ∷ [])) loose r' ts es a w.0 w.1))) q)
+        let goes = told-sent out c n i loose total.key.statement r' ts es z y.1 in
+        send-gives c its true false i loop m home off Good k total r' ts es it z h
+        (λ a ys d. absurd (both_ways (are_sent_slots out total.key.statement (node_slots a ts)) d (sent-slots out c (n ∷ (i ∷ [])) loose total.key.statement r' ts es a goes z))) q)
 
     pub left-at : Has (turn x).fault all × Gives Good (turn x)
     left-at =
         turn-left c loop i able.outer able.inner able.two all key test body r gives Ready Good incl (loosen test able.found) fits x is_of.from_inside here-inside
-        (parts-are c table around result loop m) (typed x.0 x.1.node is_of.from_inside here-inside)
+        (parts-ready m) (typed x.0 x.1.node is_of.from_inside here-inside, able.told)
         (λ k total r' ts es it o y e h. reductions-left k total r' ts es it o y e h) (λ k total r' ts es it o y h e q. reductions-give k total r' ts es it o y h e q)
 
   -- what a handler's run has done

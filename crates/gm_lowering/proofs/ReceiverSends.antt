@@ -22,7 +22,7 @@ use Rattle.gm_forms.proofs.Named.{both-true}
 use Rattle.gm_semantics.specs.declared.faults.Fault.{Fault}
 use Rattle.gm_semantics.specs.declared.slots.Slot.{Slot}
 use Rattle.gm_semantics.specs.declared.slots.Slot.TheVariants as slots
-use Rattle.gm_semantics.specs.Contributions.{Contribution}
+use Rattle.gm_semantics.specs.Contributions.{Contribution, statement_of}
 use Rattle.gm_semantics.specs.Expressions.{evaluated_all, node_held}
 use Rattle.gm_semantics.specs.Faults.{then_with}
 use Rattle.gm_semantics.specs.Iterations.{Loop, Mode, AtEdge, Iteration, begun, view_in, failed, gave_outermost, turn_at, does}
@@ -43,15 +43,16 @@ use Rattle.gm_lowering.specs.Bodies.{reduce_lines, target_node}
 use Rattle.gm_lowering.specs.Blocks.{receiver_env, receiver_site}
 use Rattle.gm_lowering.specs.Showing.{answer_of}
 use Rattle.gm_lowering.specs.Sites.{are_of_scalars, same_length, given, IsApart, IsInGraph}
-use Rattle.gm_lowering.specs.OwnLoops.{HasSpares, AreTyped}
-use Rattle.gm_lowering.specs.MessageLoops.{receiver_finds, sets_nothing, inner_gives, handler_lines, is_to_scalars, is_to_nodes, MessageShows}
+use Rattle.gm_lowering.specs.OwnLoops.{HasSpares, AreTyped, puts_to_scalars, folds_to}
+use Rattle.gm_lowering.specs.MessageLoops.{receiver_finds, sets_nothing, inner_gives, handler_lines, is_to_scalars, is_to_nodes, MessageShows, receiver_gives, picks_inside, tuples_inside}
 use Rattle.gm_lowering.specs.Settles.{fault_or_none}
-use Rattle.gm_lowering.specs.SenderSteps.{AreSent}
+use Rattle.gm_lowering.specs.Sent.{may_hold_node, sends_through, sender_gives, AreSent}
 use Rattle.gm_lowering.specs.TakingSteps.{Carried}
-use Rattle.gm_lowering.specs.OwnSends.{may_hold_node, sends_through}
-use Rattle.gm_lowering.specs.ReceiverSends.{is_sent_target, is_taken_here, are_sent_slots, is_sent, is_received, receiver_sends, IsSendingMessageLoop, ReceiverSent, RunSends, SendingHandlersAreTurns}
+use Rattle.gm_lowering.specs.ReceiverSends.{is_part, is_sent_target, is_taken_here, are_sent_slots, is_sent, is_received, goes_away, are_told, tells_sent, IsSendingMessageLoop, ReceiverSent, RunSends, SendingHandlersAreTurns}
 use Rattle.gm_lowering.proofs.Bodies.{Ends as Ending, Holds}
-use Rattle.gm_lowering.proofs.Givens.{none-hoisted, node_slots, are_kept, values-all}
+use Rattle.gm_lowering.proofs.Givens.{none-hoisted, node_slots, are_kept, values-all, folds-way}
+use Rattle.gm_lowering.proofs.InnerPicks.{pick-way, inside-way}
+use Rattle.gm_lowering.proofs.PutFacts.{puts-way}
 use Rattle.gm_lowering.proofs.Own.{live-same}
 use Rattle.gm_lowering.proofs.OwnSteps.{filtered-ends}
 use Rattle.gm_lowering.proofs.Picks.{parts-are}
@@ -59,28 +60,27 @@ use Rattle.gm_lowering.proofs.Receivers as R
 use Rattle.gm_lowering.proofs.Receivers.{Giving, one-more, no-more}
 use Rattle.gm_lowering.proofs.Receiving.{or-cases}
 use Rattle.gm_lowering.proofs.Sendings.{node-inside, scalar-inside, held-value, off-both, out_of, does-send, send-by}
-use Rattle.gm_lowering.proofs.SenderSteps.{sent-both}
-use Rattle.gm_lowering.proofs.SenderTurns.{sends-way, long-values, filter-last, get-left, get-right}
+use Rattle.gm_lowering.proofs.Sent.{sends-way, long-values, filter-last, get-left, get-right, sent-both}
 use Rattle.gm_lowering.proofs.TupleFacts.{spares-first, spares-second}
 
 -- what goes to scalars is not sent
-pub scalars-stay : (out : List ℕ) (xs : List Slot) → are_of_scalars xs ≡ true → are_sent_slots out xs ≡ false
-scalars-stay out [] h = refl
-scalars-stay out (slots.Scalar x ∷ xs) h = refl
-scalars-stay out (slots.Node p n ∷ xs) h = absurd (both_ways false refl h)
+pub scalars-stay : (out : List (ℕ × ℕ)) (k : ℕ) (xs : List Slot) → are_of_scalars xs ≡ true → are_sent_slots out k xs ≡ false
+scalars-stay out k [] h = refl
+scalars-stay out k (slots.Scalar x ∷ xs) h = refl
+scalars-stay out k (slots.Node p n ∷ xs) h = absurd (both_ways false refl h)
 
 -- one more that is received, or sent
-received-more : (out : List ℕ) (xs : List Contribution) (a : Contribution) → is_sent out a ≡ false → filter (is_received out) (xs ++ a ∷ []) ≡ filter (is_received out) xs ++ a ∷ []
+received-more : (out : List (ℕ × ℕ)) (xs : List Contribution) (a : Contribution) → is_sent out a ≡ false → filter (is_received out) (xs ++ a ∷ []) ≡ filter (is_received out) xs ++ a ∷ []
 received-more out xs a h = filter-last (is_received out) xs a true (ap not h)
 
-received-same : (out : List ℕ) (xs : List Contribution) (a : Contribution) → is_sent out a ≡ true → filter (is_received out) (xs ++ a ∷ []) ≡ filter (is_received out) xs
+received-same : (out : List (ℕ × ℕ)) (xs : List Contribution) (a : Contribution) → is_sent out a ≡ true → filter (is_received out) (xs ++ a ∷ []) ≡ filter (is_received out) xs
 received-same out xs a h = filter-last (is_received out) xs a false (ap not h) ∙ append-nil (filter (is_received out) xs)
 
-sent-same : (out : List ℕ) (xs : List Contribution) (a : Contribution) → is_sent out a ≡ false → filter (is_sent out) (xs ++ a ∷ []) ≡ filter (is_sent out) xs
+sent-same : (out : List (ℕ × ℕ)) (xs : List Contribution) (a : Contribution) → is_sent out a ≡ false → filter (is_sent out) (xs ++ a ∷ []) ≡ filter (is_sent out) xs
 sent-same out xs a h = filter-last (is_sent out) xs a false h ∙ append-nil (filter (is_sent out) xs)
 
 -- a receiver that sends
-pub sending-giving : (c : Layout) (v : Env) (kind : ℕ) (all : List Away) (g : NumberedGraph) (out : List ℕ) → Giving c v out (λ it w. ReceiverSent c v kind all g out it w)
+pub sending-giving : (c : Layout) (v : Env) (kind : ℕ) (all : List Away) (g : NumberedGraph) (out : List (ℕ × ℕ)) → Giving c v out (λ it w. ReceiverSent c v kind all g out it w)
 sending-giving c v kind all g out = record {
   stays = λ it new w u inner outermost deferred puts folds messages q. record {
     puts = puts ∙ q.puts ∙ ap (λ l. map (given c v) (filter is_to_scalars (filter (is_received out) l))) (sym outermost);
@@ -97,7 +97,7 @@ sending-giving c v kind all g out = record {
     deferred = q.deferred;
   };
   puts = λ it w a o q.
-      let h = scalars-stay out a.slots o in
+      let h = scalars-stay out (statement_of a) a.slots o in
       record {
         puts = one-more c v is_to_scalars (filter (is_received out) it.with_outermost) a w.puts q.puts o ∙ ap (λ l. map (given c v) (filter is_to_scalars l)) (sym (received-more out it.with_outermost a h));
         folds = no-more c v is_to_nodes (filter (is_received out) it.with_outermost) a w.folds q.folds (ap not o) ∙ ap (λ l. map (given c v) (filter is_to_nodes l)) (sym (received-more out it.with_outermost a h));
@@ -108,10 +108,43 @@ sending-giving c v kind all g out = record {
 }
 
 -- the slots of what is sent
-pub sent-slots : (out : List ℕ) (c : Layout) (its : List ℕ) (found : Expr → Bool) (r : Reduce) (ts : List Target) (es : List Expr) (j : ℕ) → list_all (is_sent_target out) ts ≡ true → sends_through c its found r ts es ≡ true → are_sent_slots out (node_slots j ts) ≡ true
-sent-slots out c its found r [] es j h o = absurd (both_ways false refl o)
-sent-slots out c its found r (T.Scalar x at ∷ ts) es j h o = absurd (both_ways false refl o)
-sent-slots out c its found r (T.Property x p at ∷ ts) es j h o = (both-true (is_in out p) (list_all (is_sent_target out) ts) h).0
+pub sent-slots : (out : List (ℕ × ℕ)) (c : Layout) (its : List ℕ) (found : Expr → Bool) (k : ℕ) (r : Reduce) (ts : List Target) (es : List Expr) (j : ℕ) → list_all (is_sent_target out k) ts ≡ true → sends_through c its found r ts es ≡ true → are_sent_slots out k (node_slots j ts) ≡ true
+sent-slots out c its found k r [] es j h o = absurd (both_ways false refl o)
+sent-slots out c its found k r (T.Scalar x at ∷ ts) es j h o = absurd (both_ways false refl o)
+sent-slots out c its found k r (T.Property x p at ∷ ts) es j h o = (both-true (is_part out k p) (list_all (is_sent_target out k) ts) h).0
+
+-- what is told of a reduction through a node variable
+pub told-sent : (out : List (ℕ × ℕ)) (c : Layout) (n i : ℕ) (found : Expr → Bool) (k : ℕ) (r : Reduce) (ts : List Target) (es : List Expr) → sends_through c (n ∷ (i ∷ [])) found r ts es ≡ true
+    → are_told out k (way_of c.declarations i ts) ts ≡ true → list_all (is_sent_target out k) ts ≡ true
+told-sent out c n i found k r [] es o h = absurd (both_ways false refl o)
+told-sent out c n i found k r (T.Scalar x at ∷ ts) es o h = absurd (both_ways false refl o)
+told-sent out c n i found k r (T.Property x p at ∷ ts) es o h =
+    let all = T.Property x p at ∷ ts in
+    let a = both-true (not (is_in (n ∷ (i ∷ [])) x)) (may_hold_node c x && (are_kept c x all && (same_length all es && list_all found es))) o in
+    let b = both-true (may_hold_node c x) (are_kept c x all && (same_length all es && list_all found es)) a.1 in
+    let d = both-true (are_kept c x all) (same_length all es && list_all found es) b.1 in
+    let off = off-both x n i (not-true (is_in (n ∷ (i ∷ [])) x) a.0) in
+    ap (λ w. are_told out k w all) (sym (sends-way c i x (T.Property x p at) ts off.0 d.0)) ∙ h
+
+-- and of one that sends nothing
+inner-stays : (c : Layout) (loop : Loop) (i : ℕ) (found : Expr → Bool) (r : Reduce) (ts : List Target) (es : List Expr) → ((x : ℕ) → loop.depth x ≡ (variable_at c.declarations x).depth) → inner_gives c i found r ts es ≡ true
+    → goes_away (way_of c.declarations i ts) ≡ false
+inner-stays c loop i found r ts es depth_is o =
+    or-cases (receiver_gives c i found r ts es) (picks_inside c found r ts es || tuples_inside c found r ts es) o
+    (λ z. or-cases (puts_to_scalars c found r ts es) (folds_to c i found r ts es) z (put ts es) (fold ts es))
+    (λ z. or-cases (picks_inside c found r ts es) (tuples_inside c found r ts es) z (λ y. ap goes_away (pick-way c i found r ts es y)) (λ y. ap goes_away (inside-way c loop depth_is i found r ts es y))) where
+      put : (ts : List Target) (es : List Expr) → puts_to_scalars c found r ts es ≡ true → goes_away (way_of c.declarations i ts) ≡ false
+      put [] es h = absurd (both_ways false refl h)
+      put (t ∷ ts) es h = ap goes_away (puts-way c i (t ∷ ts) (both-true _ _ h).0)
+
+      fold : (ts : List Target) (es : List Expr) → folds_to c i found r ts es ≡ true → goes_away (way_of c.declarations i ts) ≡ false
+      fold [] es h = absurd (both_ways false refl h)
+      fold (t ∷ ts) es h = ap goes_away (folds-way c i t ts (both-true _ _ h).0)
+
+pub told-here : (out : List (ℕ × ℕ)) (c : Layout) (loop : Loop) (i : ℕ) (found : Expr → Bool) (k : ℕ) (r : Reduce) (ts : List Target) (es : List Expr) → ((x : ℕ) → loop.depth x ≡ (variable_at c.declarations x).depth)
+    → inner_gives c i found r ts es ≡ true → are_told out k (way_of c.declarations i ts) ts ≡ true → list_all (is_taken_here out k) ts ≡ true
+told-here out c loop i found k r ts es depth_is o h =
+    ap (λ b. if b then list_all (is_sent_target out k) ts else list_all (is_taken_here out k) ts) (sym (inner-stays c loop i found r ts es depth_is o)) ∙ h
 
 module _ (c : Layout) (seg : Segment) (loop : Loop) (i k j edge registers fields : ℕ) (loads : List Load) (s : VertexContext)
     (apart : IsApart c registers fields)
@@ -120,7 +153,7 @@ module _ (c : Layout) (seg : Segment) (loop : Loop) (i k j edge registers fields
     (two : nat_eq i loop.outer ≡ false)
     (type_is : (x : ℕ) → loop.vtype x ≡ (variable_at c.declarations x).vtype)
     (depth_is : (x : ℕ) → loop.depth x ≡ (variable_at c.declarations x).depth)
-    (out : List ℕ) (kind : ℕ) (all : List Away) (table : TypeTable) (around : List ℕ) (result : Option VType) (limit : table.limit ≤ node_count loop.graph) where
+    (out : List (ℕ × ℕ)) (kind : ℕ) (all : List Away) (table : TypeTable) (around : List ℕ) (result : Option VType) (limit : table.limit ≤ node_count loop.graph) where
   abbrev n : ℕ
   n = loop.outer
 
@@ -150,7 +183,7 @@ module _ (c : Layout) (seg : Segment) (loop : Loop) (i k j edge registers fields
   Placed first st = (at : ℕ) (a : Away) → slice_get (aways c.declarations i st) at ≡ Some a → (l : ℕ) × (slice_get all l ≡ Some a) × (first + at ≡ kind + l)
 
   abbrev pub Ready : ℕ → Stmt → Iteration → Type 0
-  Ready first st it = AreTyped c table around result loop st it × HasSpares c registers (body_positions c.declarations st) × Placed first st
+  Ready first st it = AreTyped c table around result loop st it × HasSpares c registers (body_positions c.declarations st) × Placed first st × (tells_sent c.declarations i out st ≡ true)
 
   gave-failed : (it : Iteration) (w : VertexState) (f : Fault) → Gave it w → Gave (failed it f) w
   gave-failed = R.gave-failed c seg loop i k j edge registers fields loads s apart unlike_outer unlike_inner two type_is depth_is out Gave giving
@@ -159,7 +192,7 @@ module _ (c : Layout) (seg : Segment) (loop : Loop) (i k j edge registers fields
   Ended = Ending v run Shows Gave
 
   -- one more message
-  sends : (it : Iteration) (w : VertexState) (a : Contribution) (msg : Message) → are_sent_slots out a.slots ≡ true → Carried kind all a msg → msg.to < node_count loop.graph → Shows it w
+  sends : (it : Iteration) (w : VertexState) (a : Contribution) (msg : Message) → is_sent out a ≡ true → Carried kind all a msg → msg.to < node_count loop.graph → Shows it w
       → Shows (gave_outermost it a) (record w { messages = w.messages ++ msg ∷ [] })
   sends it w a msg o carry lt q = (
     R.shows-given c seg loop i k j edge registers fields loads s apart unlike_outer unlike_inner two type_is depth_is out Gave giving it w (record w { messages = w.messages ++ msg ∷ [] }) a q.0 refl refl,
@@ -174,12 +207,12 @@ module _ (c : Layout) (seg : Segment) (loop : Loop) (i k j edge registers fields
   )
 
   send-case : (first : ℕ) (key : Key) (total : TotalKey) (r : Reduce) (ts : List Target) (es : List Expr) (it : Iteration) (w : VertexState) (rest : List Line)
-      → list_all (is_sent_target out) ts ≡ true → sends_through c (n ∷ (i ∷ [])) found r ts es ≡ true → Ready first (S.Combine key total r ts es) it → Shows it w
+      → sends_through c (n ∷ (i ∷ [])) found r ts es ≡ true → Ready first (S.Combine key total r ts es) it → Shows it w
       → let end = does (S.Combine key total r ts es) m loop it in
       Ended (reduce_lines (receiver_site c seg n i loads) first (way_of c.declarations i ts) key total r ts (map (term v key) es)) rest w end end.fault
-  send-case first key total r [] es it w rest goes o ready q = absurd (both_ways false refl o)
-  send-case first key total r (T.Scalar x at ∷ ts) es it w rest goes o ready q = absurd (both_ways false refl o)
-  send-case first key total r (T.Property x p at ∷ ts) es it w rest goes o ready q =
+  send-case first key total r [] es it w rest o ready q = absurd (both_ways false refl o)
+  send-case first key total r (T.Scalar x at ∷ ts) es it w rest o ready q = absurd (both_ways false refl o)
+  send-case first key total r (T.Property x p at ∷ ts) es it w rest o ready q =
       let t = T.Property x p at in
       let values' = same_length (t ∷ ts) es && list_all found es in
       let a = both-true (not (is_in (n ∷ (i ∷ [])) x)) (may_hold_node c x && (are_kept c x (t ∷ ts) && values')) o in
@@ -194,6 +227,7 @@ module _ (c : Layout) (seg : Segment) (loop : Loop) (i k j edge registers fields
       let st = S.Combine key total r (t ∷ ts) es in
       let end = does st m loop it in
       let way = sends-way c i x t ts off.0 e.0 in
+      let goes = told-sent out c n i found total.key.statement r (t ∷ ts) es o ready.3 in
       let place = ready.2 0 (record { total = total; reduce = r; targets = t ∷ ts }) (ap (λ w'. slice_get (away_by w' total r (t ∷ ts)) 0) way) in
       let tell = R.all-tell c seg loop i k j edge registers fields loads s apart unlike_outer unlike_inner two type_is depth_is out Gave giving it w key es f.1 q in
       let none = none-hoisted v u (view s w) es refl tell in
@@ -211,15 +245,15 @@ module _ (c : Layout) (seg : Segment) (loop : Loop) (i k j edge registers fields
       subst (λ way'. Ended (reduce_lines (receiver_site c seg n i loads) first way' key total r (t ∷ ts) (map (term v key) es)) rest w end end.fault) (sym way)
       (subst (λ node. Ended (Send first node (map (term v key) es) ∷ []) rest w end end.fault) (sym (through none_of))
       (subst (λ z. Ended (Send first (M.Live (v.place key at) (v.scalar x)) (map (term v key) es) ∷ []) rest w z z.fault) (sym same)
-      (send-by c v loop s run Shows Gave kind all (λ ss. are_sent_slots out ss ≡ true) (λ it' w' q'. q'.0.fine) (λ it' w' f' q'. gave-failed it' w' f' q'.1) (λ k' to' terms' ls u'. refl) (λ it' w' a' msg o'. sends it' w' a' msg)
-      first total r x t ts (M.Live (v.place key at) (v.scalar x)) (map (term v key) es) it w rest u at q e.0 (λ z. sent-slots out c (n ∷ (i ∷ [])) found r (t ∷ ts) es z goes o) place.0 place.1
+      (send-by c v loop s run Shows Gave kind all (λ a'. is_sent out a' ≡ true) (λ it' w' q'. q'.0.fine) (λ it' w' f' q'. gave-failed it' w' f' q'.1) (λ k' to' terms' ls u'. refl) (λ it' w' a' msg o'. sends it' w' a' msg)
+      first total r x t ts (M.Live (v.place key at) (v.scalar x)) (map (term v key) es) it w rest u at q e.0 (λ z ys. sent-slots out c (n ∷ (i ∷ [])) found total.key.statement r (t ∷ ts) es z goes o) place.0 place.1
       (let z : first + 0 ≡ kind + place.0 = place.2 in omega (arith, z))
       at_node (λ z h. node-inside loop.graph (it.store.scalar x) z in_graph h) to (evaluated_all es u).rest (long-values u (t ∷ ts) es f.0) (values-all v u (view s w) es tell)))) where
         through : is_in (n ∷ i ∷ []) x ≡ false → target_node (receiver_site c seg n i loads) key (T.Property x p at ∷ ts) ≡ M.Live (v.place key at) (v.scalar x)
         through h = ap (λ b. if b then v.scalar x else M.Live (v.place key at) (v.scalar x)) h
 
   -- the site of a receiver that may send
-  pub sending-holds : Holds (receiver_site c seg n i loads) loop m s run Shows Gave found sets_nothing (receiver_sends c n i out found) Ready
+  pub sending-holds : Holds (receiver_site c seg n i loads) loop m s run Shows Gave found sets_nothing (sender_gives c n i found) Ready
   sending-holds =
       let types = parts-are c table around result loop m in
       record {
@@ -233,17 +267,20 @@ module _ (c : Layout) (seg : Segment) (loop : Loop) (i k j edge registers fields
         tells = R.tells c seg loop i k j edge registers fields loads s apart unlike_outer unlike_inner two type_is depth_is out Gave giving;
         local = R.local c seg loop i k j edge registers fields loads s apart unlike_outer unlike_inner two type_is depth_is out Gave giving;
         property = λ key x p at e it w rest o f q. absurd (both_ways false refl o);
-        placed_first = λ first a b it h. (types.first a b it h.0, spares-first c registers (body_positions c.declarations a) (body_positions c.declarations b) h.1, λ at x e. h.2 at x (get-left (aways c.declarations i a) (aways c.declarations i b) at x e));
-        placed_second = λ first a b it h fine. (types.second a b it h.0, spares-second c registers (body_positions c.declarations a) (body_positions c.declarations b) h.1, λ at x e. behind first a b h.2 at x e);
-        placed_yes = λ first key e a b it h. (types.yes key e a b it h.0, spares-first c registers (body_positions c.declarations a) (body_positions c.declarations b) h.1, λ at x e'. h.2 at x (get-left (aways c.declarations i a) (aways c.declarations i b) at x e'));
-        placed_no = λ first key e a b it h. (types.no key e a b it h.0, spares-second c registers (body_positions c.declarations a) (body_positions c.declarations b) h.1, λ at x e'. behind first a b h.2 at x e');
+        placed_first = λ first a b it h. (types.first a b it h.0, spares-first c registers (body_positions c.declarations a) (body_positions c.declarations b) h.1, λ at x e. h.2 at x (get-left (aways c.declarations i a) (aways c.declarations i b) at x e), (told a b h.3).0);
+        placed_second = λ first a b it h fine. (types.second a b it h.0, spares-second c registers (body_positions c.declarations a) (body_positions c.declarations b) h.1, λ at x e. behind first a b h.2 at x e, (told a b h.3).1);
+        placed_yes = λ first key e a b it h. (types.yes key e a b it h.0, spares-first c registers (body_positions c.declarations a) (body_positions c.declarations b) h.1, λ at x e'. h.2 at x (get-left (aways c.declarations i a) (aways c.declarations i b) at x e'), (told a b h.3).0);
+        placed_no = λ first key e a b it h. (types.no key e a b it h.0, spares-second c registers (body_positions c.declarations a) (body_positions c.declarations b) h.1, λ at x e'. behind first a b h.2 at x e', (told a b h.3).1);
         reduce = λ first key total r ts es it w rest o h q.
-            or-cases (list_all (is_taken_here out) ts && inner_gives c i found r ts es) (list_all (is_sent_target out) ts && sends_through c (n ∷ (i ∷ [])) found r ts es) o
+            or-cases (inner_gives c i found r ts es) (sends_through c (n ∷ (i ∷ [])) found r ts es) o
             (λ z.
-            let y = both-true (list_all (is_taken_here out) ts) (inner_gives c i found r ts es) z in
-            R.message-case c seg loop i k j edge registers fields loads s apart unlike_outer unlike_inner two type_is depth_is out Gave giving table around result first key total r ts es it w rest y.1 y.0 ((λ a. h.0), h.1) q)
-            (λ z. let y = both-true (list_all (is_sent_target out) ts) (sends_through c (n ∷ (i ∷ [])) found r ts es) z in send-case first key total r ts es it w rest y.0 y.1 h q);
+            R.message-case c seg loop i k j edge registers fields loads s apart unlike_outer unlike_inner two type_is depth_is out Gave giving table around result first key total r ts es it w rest z
+            (told-here out c loop i found total.key.statement r ts es depth_is z h.3) ((λ a. h.0), h.1) q)
+            (λ z. send-case first key total r ts es it w rest z h q);
       } where
+        told : (a b : Stmt) → tells_sent c.declarations i out a && tells_sent c.declarations i out b ≡ true → (tells_sent c.declarations i out a ≡ true) × (tells_sent c.declarations i out b ≡ true)
+        told a b h = both-true (tells_sent c.declarations i out a) (tells_sent c.declarations i out b) h
+
         behind : (first : ℕ) (a b : Stmt) → ((at : ℕ) (x : Away) → slice_get (aways c.declarations i a ++ aways c.declarations i b) at ≡ Some x → (l : ℕ) × (slice_get all l ≡ Some x) × (first + at ≡ kind + l))
             → (at : ℕ) (x : Away) → slice_get (aways c.declarations i b) at ≡ Some x → (l : ℕ) × (slice_get all l ≡ Some x) × ((first + length (aways c.declarations i a)) + at ≡ kind + l)
         behind first a b h at x e =
@@ -251,7 +288,7 @@ module _ (c : Layout) (seg : Segment) (loop : Loop) (i k j edge registers fields
             let z : first + (length (aways c.declarations i a) + at) ≡ kind + t.0 = t.2 in (t.0, t.1, (omega (arith, z)))
 
 -- a handler's run
-module _ (c : Layout) (seg : Segment) (registers : List VType) (fields : ℕ) (loop : Loop) (i : ℕ) (loads : List Load) (out : List ℕ) (kind : ℕ) (key : Key) (test : Expr) (body : Stmt)
+module _ (c : Layout) (seg : Segment) (registers : List VType) (fields : ℕ) (loop : Loop) (i : ℕ) (loads : List Load) (out : List (ℕ × ℕ)) (kind : ℕ) (key : Key) (test : Expr) (body : Stmt)
     (s : VertexContext) (fs : List Value) (k edge : ℕ) (r : Store) (table : TypeTable) (around : List ℕ) (result : Option VType)
     (able : IsSendingMessageLoop c registers fields loop i loads out test body)
     (typed : AreTyped c table around result loop body (begun (write r (slots.Scalar i) (At (Some s.node)))))
@@ -293,9 +330,9 @@ module _ (c : Layout) (seg : Segment) (registers : List VType) (fields : ℕ) (l
   pub sending-run : RunSends c w_env kind away_all loop.graph out end (lines_after s lines 0 first_state)
   sending-run =
       ends-as end.fault refl
-      (filtered-ends (receiver_site c seg loop.outer i loads) loop (AtEdge edge) s (lines_after s) ShowsHere GaveHere (receiver_finds c loop.outer i loads) sets_nothing (receiver_sends c loop.outer i out (receiver_finds c loop.outer i loads))
+      (filtered-ends (receiver_site c seg loop.outer i loads) loop (AtEdge edge) s (lines_after s) ShowsHere GaveHere (receiver_finds c loop.outer i loads) sets_nothing (sender_gives c loop.outer i (receiver_finds c loop.outer i loads))
       (sending-holds c seg loop i k s.node edge (length registers) fields loads s able.apart able.outer able.inner able.two able.types able.depths out kind away_all table around result limit)
-      key test body kind able.found able.fits start (typed, able.spares, λ at a e. (at, e, refl)) first_state [] begins-here)
+      key test body kind able.found able.fits start (typed, able.spares, (λ at a e. (at, e, refl)), able.told) first_state [] begins-here)
 
 pub sending-handlers : SendingHandlersAreTurns
 sending-handlers c seg registers fields loop i loads out kind key test body s fs k edge r table around result able typed limit graph shows =

@@ -51,7 +51,7 @@ use Rattle.gm_lowering.specs.Showing.{answer_of, Tells}
 use Rattle.gm_lowering.specs.Sites.{are_of_scalars, finds, finds_scalar, finds_node, same_length, is_local, slot_at, given, phase_value, IsInGraph, HoldLocals, HoldProperties, IsApart}
 use Rattle.gm_lowering.specs.OwnLoops.{is_declared, puts_to_scalars, folds_to, HasSpares}
 use Rattle.gm_lowering.specs.MessageLoops.{has_load, receiver_finds, sets_nothing, receiver_gives, handler_lines, IsMessageLoop, load_value, Carries, is_to_scalars, is_to_nodes, ReceiverGave, MessageShows, RunEnds, HandlersAreTurns, is_inner_local, picks_inside, inner_gives, is_inner_target, tuples_inside}
-use Rattle.gm_lowering.specs.ReceiverSends.{is_taken_here, are_sent_slots, is_sent}
+use Rattle.gm_lowering.specs.ReceiverSends.{is_part, is_taken_here, are_sent_slots, is_sent}
 use Rattle.gm_lowering.proofs.Bodies.{Ends as Ending, Holds}
 use Rattle.gm_lowering.proofs.Givens.{AllTell, are_scalars, values-all, none-hoisted, terms-of, slots-of, assigned-is, put-ends, node_slots, are_kept, node-numbers, node-slots, folds-way, node-in}
 use Rattle.gm_lowering.proofs.Own.{after-set, live-same, phase-term, global-has_value, global-no_register}
@@ -87,10 +87,10 @@ module _ (c : Layout) (v : Env) (loop : Loop) (m : Mode) (s : VertexContext) (ru
     (fine : (it : Iteration) (w : VertexState) → Shows it w → it.fault ≡ None)
     (gave_failed : (it : Iteration) (w : VertexState) (f : Fault) → Shows it w → Gave (failed it f) w)
     (at_node : (it : Iteration) (w : VertexState) (k : Key) → Shows it w → node_in loop.graph (it.store.scalar i) ≡ Some j)
-    (out : List ℕ)
+    (out : List (ℕ × ℕ))
     (folds : (it : Iteration) (w : VertexState) (a : Contribution) → are_of_scalars a.slots ≡ false → is_sent out a ≡ false → Shows it w → Shows (gave_outermost it a) (record w { folds = w.folds ++ given c v a ∷ [] })) where
   fold-by : (total : TotalKey) (r : Reduce) (t : Target) (ts : List Target) (terms : List Term) (answer : Result (List Value) Fault) (it : Iteration) (w : VertexState) (rest : List Line) → Shows it w
-      → are_kept c i (t ∷ ts) ≡ true → list_all (is_taken_here out) (t ∷ ts) ≡ true → same_length (t ∷ ts) terms ≡ true
+      → are_kept c i (t ∷ ts) ≡ true → list_all (is_taken_here out total.key.statement) (t ∷ ts) ≡ true → same_length (t ∷ ts) terms ≡ true
       → values (view s w) terms ≡ answer_of v answer
       → let out = with_ok it (then_with answer (λ xs. Ok (node_slots j (t ∷ ts), xs))) (λ p. gave_outermost it (contribution total r p)) in
       Ending v run Shows Gave (Fold r (v.place total.key total.place) (image_targets c (t ∷ ts) terms) ∷ []) rest w out out.fault
@@ -118,8 +118,8 @@ module _ (c : Layout) (v : Env) (loop : Loop) (m : Mode) (s : VertexContext) (ru
         not-scalars (T.Property x p at) ts h = refl
         not-scalars (T.Scalar x at) ts h = absurd (both_ways false refl h)
 
-        not-sent : (t : Target) (ts : List Target) → are_kept c i (t ∷ ts) ≡ true → list_all (is_taken_here out) (t ∷ ts) ≡ true → are_sent_slots out (node_slots j (t ∷ ts)) ≡ false
-        not-sent (T.Property x p at) ts h k = not-true (is_in out p) (both-true (not (is_in out p)) (list_all (is_taken_here out) ts) k).0
+        not-sent : (t : Target) (ts : List Target) → are_kept c i (t ∷ ts) ≡ true → list_all (is_taken_here out total.key.statement) (t ∷ ts) ≡ true → are_sent_slots out total.key.statement (node_slots j (t ∷ ts)) ≡ false
+        not-sent (T.Property x p at) ts h k = not-true (is_part out total.key.statement p) (both-true (not (is_part out total.key.statement p)) (list_all (is_taken_here out total.key.statement) ts) k).0
         not-sent (T.Scalar x at) ts h k = absurd (both_ways false refl h)
   fold-by total r t ts terms (Err f) it w rest q o h n e =
       let place = v.place total.key total.place in
@@ -134,7 +134,7 @@ module _ (c : Layout) (v : Env) (loop : Loop) (m : Mode) (s : VertexContext) (ru
 
   -- a reduction to properties of the node is what its fold gives
   pub fold-ends : (k : Key) (total : TotalKey) (r : Reduce) (t : Target) (ts : List Target) (es : List Expr) (it : Iteration) (w : VertexState) (rest : List Line) → Shows it w
-      → are_kept c i (t ∷ ts) ≡ true → list_all (is_taken_here out) (t ∷ ts) ≡ true → same_length (t ∷ ts) es ≡ true
+      → are_kept c i (t ∷ ts) ≡ true → list_all (is_taken_here out total.key.statement) (t ∷ ts) ≡ true → same_length (t ∷ ts) es ≡ true
       → AllTell v (view_in loop m it k) (view s w) es
       → let out = does (S.Combine k total r (t ∷ ts) es) m loop it in
       Ending v run Shows Gave (Fold r (v.place total.key total.place) (image_targets c (t ∷ ts) (map (term v k) es)) ∷ []) rest w out out.fault
@@ -171,7 +171,7 @@ pub record ReceiverShows (c : Layout) (loop : Loop) (i k j edge registers fields
   pub field_count : length w.fields ≡ fields
 
 -- what is asked of what a vertex has given for a turn: what both gave tells it; and contributions to scalars are put, and those to the node's own properties folded
-pub record Giving (c : Layout) (v : Env) (out : List ℕ) (Gave : Iteration → VertexState → Type 0) : Type 0 where
+pub record Giving (c : Layout) (v : Env) (out : List (ℕ × ℕ)) (Gave : Iteration → VertexState → Type 0) : Type 0 where
   pub stays : (it new : Iteration) (w u : VertexState) → new.with_inner ≡ it.with_inner → new.with_outermost ≡ it.with_outermost → new.deferred ≡ it.deferred
       → u.puts ≡ w.puts → u.folds ≡ w.folds → u.messages ≡ w.messages → Gave it w → Gave new u
   pub folds : (it : Iteration) (w : VertexState) (a : Contribution) → are_of_scalars a.slots ≡ false → is_sent out a ≡ false → Gave it w → Gave (gave_outermost it a) (record w { folds = w.folds ++ given c v a ∷ [] })
@@ -231,10 +231,10 @@ receiver-giving c v = record {
 }
 
 -- nothing is sent
-nothing-sent : (ts : List Target) → list_all (is_taken_here []) ts ≡ true
-nothing-sent [] = refl
-nothing-sent (T.Scalar x at ∷ ts) = nothing-sent ts
-nothing-sent (T.Property x p at ∷ ts) = nothing-sent ts
+nothing-sent : (k : ℕ) (ts : List Target) → list_all (is_taken_here [] k) ts ≡ true
+nothing-sent k [] = refl
+nothing-sent k (T.Scalar x at ∷ ts) = nothing-sent k ts
+nothing-sent k (T.Property x p at ∷ ts) = nothing-sent k ts
 
 module _ (c : Layout) (seg : Segment) (loop : Loop) (i k j edge registers fields : ℕ) (loads : List Load) (s : VertexContext)
     (apart : IsApart c registers fields)
@@ -243,7 +243,7 @@ module _ (c : Layout) (seg : Segment) (loop : Loop) (i k j edge registers fields
     (two : nat_eq i loop.outer ≡ false)
     (type_is : (x : ℕ) → loop.vtype x ≡ (variable_at c.declarations x).vtype)
     (depth_is : (x : ℕ) → loop.depth x ≡ (variable_at c.declarations x).depth)
-    (out : List ℕ) (Gave : Iteration → VertexState → Type 0) (giving : Giving c (receiver_env c seg loop.outer i loads) out Gave) where
+    (out : List (ℕ × ℕ)) (Gave : Iteration → VertexState → Type 0) (giving : Giving c (receiver_env c seg loop.outer i loads) out Gave) where
   abbrev n : ℕ
   n = loop.outer
 
@@ -502,7 +502,7 @@ module _ (c : Layout) (seg : Segment) (loop : Loop) (i k j edge registers fields
       (put-ends c v loop m s run Shows Gave depth_is (λ r' place targets ls u. refl) (λ a u b. b.0.fine) (λ a u f b. gave-failed a u f b.1) puts
       key total r t ts es it w rest q x.0 y.0 (all-tell it w key es y.1 q))
 
-  fold-case : (kind : ℕ) (key : Key) (total : TotalKey) (r : Reduce) (ts : List Target) (es : List Expr) (it : Iteration) (w : VertexState) (rest : List Line) → folds_to c i found r ts es ≡ true → list_all (is_taken_here out) ts ≡ true → Shows it w
+  fold-case : (kind : ℕ) (key : Key) (total : TotalKey) (r : Reduce) (ts : List Target) (es : List Expr) (it : Iteration) (w : VertexState) (rest : List Line) → folds_to c i found r ts es ≡ true → list_all (is_taken_here out total.key.statement) ts ≡ true → Shows it w
       → let out = does (S.Combine key total r ts es) m loop it in
       Ended (reduce_lines (receiver_site c seg n i loads) kind (way_of c.declarations i ts) key total r ts (map (term v key) es)) rest w out out.fault
   fold-case kind key total r [] es it w rest o h q = absurd (both_ways false refl o)
@@ -515,7 +515,7 @@ module _ (c : Layout) (seg : Segment) (loop : Loop) (i k j edge registers fields
       (λ a u key' b. ap (node_in loop.graph) b.0.at_node ∙ node-in loop.graph j b.0.inside) out folds
       key total r t ts es it w rest q x.0 h y.0 (all-tell it w key es y.1 q))
 
-  reduce : (kind : ℕ) (key : Key) (total : TotalKey) (r : Reduce) (ts : List Target) (es : List Expr) (it : Iteration) (w : VertexState) (rest : List Line) → receiver_gives c i found r ts es ≡ true → list_all (is_taken_here out) ts ≡ true → Shows it w
+  reduce : (kind : ℕ) (key : Key) (total : TotalKey) (r : Reduce) (ts : List Target) (es : List Expr) (it : Iteration) (w : VertexState) (rest : List Line) → receiver_gives c i found r ts es ≡ true → list_all (is_taken_here out total.key.statement) ts ≡ true → Shows it w
       → let out = does (S.Combine key total r ts es) m loop it in
       Ended (reduce_lines (receiver_site c seg n i loads) kind (way_of c.declarations i ts) key total r ts (map (term v key) es)) rest w out out.fault
   reduce kind key total r ts es it w rest o h q = by (puts_to_scalars c found r ts es) refl where
@@ -647,7 +647,7 @@ module _ (c : Layout) (seg : Segment) (loop : Loop) (i k j edge registers fields
         (held-typed c table around result loop m key total r t u ts es it k x.some ready.0) (new-typed c table around result loop m key total r t u ts es it k x.some ready.0))
 
     pub message-case : (kind : ℕ) (key : Key) (total : TotalKey) (r : Reduce) (ts : List Target) (es : List Expr) (it : Iteration) (w : VertexState) (rest : List Line)
-        → inner_gives c i found r ts es ≡ true → list_all (is_taken_here out) ts ≡ true → Ready kind (S.Combine key total r ts es) it → Shows it w
+        → inner_gives c i found r ts es ≡ true → list_all (is_taken_here out total.key.statement) ts ≡ true → Ready kind (S.Combine key total r ts es) it → Shows it w
         → let out = does (S.Combine key total r ts es) m loop it in
         Ended (reduce_lines (receiver_site c seg n i loads) kind (way_of c.declarations i ts) key total r ts (map (term v key) es)) rest w out out.fault
     message-case kind key total r ts es it w rest o taken typed q = by (receiver_gives c i found r ts es) refl where
@@ -660,7 +660,7 @@ module _ (c : Layout) (seg : Segment) (loop : Loop) (i k j edge registers fields
           (λ h. pick-case kind key total r ts es it w rest h typed.0 q) (λ h. tuple-case kind key total r ts es it w rest h typed q)
 
     -- a receiver's site holds
-    pub receiver-holds : ((ts : List Target) → list_all (is_taken_here out) ts ≡ true) → Holds (receiver_site c seg n i loads) loop m s run Shows Gave found sets_nothing (inner_gives c i found) Ready
+    pub receiver-holds : ((k : ℕ) (ts : List Target) → list_all (is_taken_here out k) ts ≡ true) → Holds (receiver_site c seg n i loads) loop m s run Shows Gave found sets_nothing (inner_gives c i found) Ready
     receiver-holds nothing =
         let types = parts-typed c table around result loop m in
         record {
@@ -678,7 +678,7 @@ module _ (c : Layout) (seg : Segment) (loop : Loop) (i k j edge registers fields
           placed_second = λ kind a b it h e. (types.second a b it h.0, spares-second c registers (body_positions c.declarations a) (body_positions c.declarations b) h.1);
           placed_yes = λ kind k e a b it h. (types.yes k e a b it h.0, spares-first c registers (body_positions c.declarations a) (body_positions c.declarations b) h.1);
           placed_no = λ kind k e a b it h. (types.no k e a b it h.0, spares-second c registers (body_positions c.declarations a) (body_positions c.declarations b) h.1);
-          reduce = λ kind key total r ts es it w rest o h q. message-case kind key total r ts es it w rest o (nothing ts) h q;
+          reduce = λ kind key total r ts es it w rest o h q. message-case kind key total r ts es it w rest o (nothing total.key.statement ts) h q;
         }
 
 -- where a handler begins

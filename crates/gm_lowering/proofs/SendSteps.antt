@@ -44,7 +44,7 @@ use Rattle.gm_lowering.specs.Showing.{fault_of}
 use Rattle.gm_lowering.specs.Sites.{slot_at, given, phase_value, are_of_scalars, IsApart}
 use Rattle.gm_lowering.specs.Phases.{GlobalsApart, Shown, GivesApart, given_in, OthersKept, Leaves, StepIs}
 use Rattle.gm_lowering.specs.Settles.{HasSpot, fault_or_none, AreHeld, AreGiven, SettlesAlike, spot_of_fault, HaveRoom}
-use Rattle.gm_lowering.specs.SenderSteps.{AreSent}
+use Rattle.gm_lowering.specs.Sent.{AreSent}
 use Rattle.gm_lowering.specs.OwnSends.{OwnSends}
 use Rattle.gm_lowering.specs.SenderSupersteps.{with_scalars}
 use Rattle.gm_lowering.specs.Plans.{Away}
@@ -59,7 +59,7 @@ use Rattle.gm_lowering.proofs.Settles.{least-none, total-spot, reductions-settle
 use Rattle.gm_lowering.proofs.Spots.{Has}
 use Rattle.gm_lowering.proofs.Supersteps.{not-here, least-parts, least-two}
 use Rattle.gm_lowering.proofs.Regions.{in-parts, value-filtered, fault-filtered, least-members, in-front, in-back}
-use Rattle.gm_lowering.proofs.SenderSteps.{sent-both}
+use Rattle.gm_lowering.proofs.Sent.{sent-both}
 use Rattle.gm_lowering.proofs.TakingSteps.{taking-blocks}
 
 filter-both : {A : Type 0} (t : A → Bool) (xs ys : List A) → filter t (xs ++ ys) ≡ filter t xs ++ filter t ys

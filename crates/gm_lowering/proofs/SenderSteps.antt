@@ -1,5 +1,5 @@
--- The step of a vertex whose each sends along its edges.
-use Rattle.std.proofs.Common.{◌≡◌, ◌<◌, ◌⊎◌, inl, inr, ℕ, suc, Bool, true, false, Option, Some, None, Result, Ok, Err, List, [], ◌∷◌, ◌++◌, length, map, refl, ap, ◌∙◌, sym, subst, append_assoc, ⊎_elim, cond}
+-- The step of a vertex whose each sends, along its edges or through node variables.
+use Rattle.std.proofs.Common.{◌≡◌, ◌<◌, ◌≤◌, ◌⊎◌, inl, inr, ℕ, suc, Bool, true, false, Option, Some, None, Result, Ok, Err, List, [], ◌∷◌, ◌++◌, length, map, refl, ap, ◌∙◌, sym, subst, append_assoc, ⊎_elim, cond}
 use Rattle.std.specs.Prelude.{◌&&◌, ◌||◌, nat_eq, nat_lt, if◌then◌else◌, take, filter}
 use Rattle.std.specs.List.{list_all}
 use Rattle.std.proofs.lemmas.Bool.{both_ways, ne_eqb, eq-eqb, eqb-true, eqb-false, ltb-true}
@@ -53,19 +53,20 @@ use Rattle.gm_lowering.specs.Plans.{loads_in, way_of, Away, aways}
 use Rattle.gm_lowering.specs.Bodies.{under, spots_of, reduce_spots, target_spots}
 use Rattle.gm_lowering.specs.Blocks.{direction_of, each_lines, own_site}
 use Rattle.gm_lowering.specs.Showing.{fault_of, answer_of}
-use Rattle.gm_lowering.specs.Sites.{given, finds, is_body, IsInGraph, HoldProperties, OwnGave, same_length}
-use Rattle.gm_lowering.specs.OwnLoops.{own_finds, own_sets, puts_to_scalars, own_gives, IsOwnLoop, NodeShows, folds_to}
-use Rattle.gm_lowering.specs.MessageLoops.{sets_nothing, receiver_gives, picks_inside, tuples_inside, inner_gives, TurnsTyped, is_to_scalars, is_to_nodes}
+use Rattle.gm_lowering.specs.Sites.{are_of_scalars, given, finds, is_body, IsInGraph, HoldProperties, OwnGave, same_length}
+use Rattle.gm_lowering.specs.OwnLoops.{own_finds, own_sets, puts_to_scalars, own_gives, IsOwnLoop, AreTyped, NodeShows, folds_to}
+use Rattle.gm_lowering.specs.MessageLoops.{sets_nothing, receiver_gives, picks_inside, tuples_inside, inner_gives, TurnsAreTyped, is_to_scalars, is_to_nodes}
 use Rattle.gm_lowering.specs.Phases.{EdgesShown}
 use Rattle.gm_lowering.specs.Receiving.{turn_of}
 use Rattle.gm_lowering.specs.TwoSupersteps.{IsInside, StepsWithin}
 use Rattle.gm_lowering.specs.Settles.{HasSpot, fault_or_none, spot_of_fault}
 use Rattle.gm_lowering.specs.HomeTurns.{is_at_edge, home_finds, home_lines, EdgeShows}
 use Rattle.gm_lowering.specs.HomeSteps.{home_block, each_spots, given_inside, HasEach}
-use Rattle.gm_lowering.specs.SenderTurns.{IsSenderLoop, AreCarried, SenderGave, SendingEnds}
-use Rattle.gm_lowering.specs.SenderSteps.{AreSent, SendsAs, SendingStepsAreIterations}
+use Rattle.gm_lowering.specs.SenderTurns.{IsSenderLoop, SenderGave, SendingEnds}
+use Rattle.gm_lowering.specs.Sent.{sends_through, AreSent, sender_gives}
+use Rattle.gm_lowering.specs.SenderSteps.{SendsAs, SendingStepsAreIterations}
 use Rattle.gm_lowering.proofs.Bodies.{value-of}
-use Rattle.gm_lowering.proofs.FoldFacts.{body-weaker, fold-left, IsReceived, put-received, fold-gives}
+use Rattle.gm_lowering.proofs.FoldFacts.{body-weaker, fold-left, IsReceived, fold-gives}
 use Rattle.gm_lowering.proofs.Orders.{lesser-lower}
 use Rattle.gm_lowering.proofs.Own.{Shows, own-giving}
 use Rattle.gm_lowering.proofs.OwnGives.{own-holds}
@@ -73,11 +74,13 @@ use Rattle.gm_lowering.proofs.Supersteps.{least-parts}
 use Rattle.gm_lowering.proofs.OwnSteps.{body-alone, begins}
 use Rattle.gm_lowering.proofs.PutFacts.{put-left, IsPut, put-gives-at}
 use Rattle.gm_lowering.proofs.InnerPicks.{pick-left, pick-gives, keep-left, keep-gives}
-use Rattle.gm_lowering.proofs.Picks.{Typed, parts-typed}
-use Rattle.gm_lowering.proofs.Receiving.{or-cases, inner-weaker}
+use Rattle.gm_lowering.proofs.Picks.{parts-are}
+use Rattle.gm_lowering.proofs.Receiving.{or-cases}
 use Rattle.gm_lowering.proofs.Spots.{Has, HoldNodes, Left, Within, spot-left, has-right, reads, value-within, body-left, spot-right}
-use Rattle.gm_lowering.proofs.SenderTurns.{sends-way, sending-turns}
-use Rattle.gm_lowering.proofs.Givens.{are_kept, folds-way, node-in}
+use Rattle.gm_lowering.proofs.Sent.{sends-way, sent-both}
+use Rattle.gm_lowering.proofs.Sendings.{off-both, sent-of-nodes, sender-weaker, send-left, send-gives}
+use Rattle.gm_lowering.proofs.SenderTurns.{sending-turns}
+use Rattle.gm_lowering.proofs.Givens.{are_kept, node_slots, folds-way, node-in}
 use Rattle.gm_lowering.proofs.Kept.{Gives, body-gives}
 use Rattle.gm_lowering.proofs.Settles.{least-is}
 use Rattle.gm_lowering.proofs.Regions.{in-parts}
@@ -98,19 +101,6 @@ filter-both t (x ∷ xs) ys = by (t x) (filter-both t xs ys) where
 take-all : {A : Type 0} (xs : List A) → take (length xs) xs ≡ xs
 take-all [] = refl
 take-all (x ∷ xs) = ap (λ l. x ∷ l) (take-all xs)
-
--- what is carried to a node is sent in the graph
-sent-of : (kind : ℕ) (as' : List Away) (g : NumberedGraph) (j : ℕ) (xs : List Contribution) (ms : List Message) → j < node_count g → AreCarried kind as' j xs ms → AreSent kind as' g xs ms
-sent-of kind as' g j [] [] lt h = tt
-sent-of kind as' g j [] (m ∷ ms) lt h = absurd h
-sent-of kind as' g j (x ∷ xs) [] lt h = absurd h
-sent-of kind as' g j (x ∷ xs) (m ∷ ms) lt h = (h.0, subst (λ z. z < node_count g) (sym h.1) lt, sent-of kind as' g j xs ms lt h.2)
-
-pub sent-both : (kind : ℕ) (as' : List Away) (g : NumberedGraph) (xs ys : List Contribution) (ms ns : List Message) → AreSent kind as' g xs ms → AreSent kind as' g ys ns → AreSent kind as' g (xs ++ ys) (ms ++ ns)
-sent-both kind as' g [] ys [] ns h k = k
-sent-both kind as' g [] ys (m ∷ ms) ns h k = absurd h
-sent-both kind as' g (x ∷ xs) ys [] ns h k = absurd h
-sent-both kind as' g (x ∷ xs) ys (m ∷ ms) ns h k = (h.0, h.1, sent-both kind as' g xs ys ms ns h.2 k)
 
 -- more spots
 more-spots : (o : Option Fault) (xs ys : List Spot) → ((z : Spot) → HasSpot z xs → HasSpot z ys) → Has o xs → Has o ys
@@ -133,7 +123,8 @@ module _ (c : Layout) (p : image.Program) (fields base : ℕ) (all : List Spot) 
     (globals fs : List Value) (k : ℕ) (r : Store) (table : TypeTable) (around : List ℕ) (result : Option VType)
     (outer : HasEach c loop mask h)
     (able : IsSenderLoop c p.registers fields loop h.iterator test body)
-    (typed : TurnsTyped c table around result loop h.iterator body r)
+    (typed : TurnsAreTyped c table around result loop h.iterator body r)
+    (limit : table.limit ≤ node_count loop.graph)
     (incl : (f : Spot) → HasSpot f (each_spots c loop.outer h.iterator key test body) → HasSpot f all)
     (shows : NodeShows c loop.graph p.registers fields globals fs k r)
     (edges : EdgesShown c loop.graph r)
@@ -200,16 +191,16 @@ module _ (c : Layout) (p : image.Program) (fields base : ℕ) (all : List Spot) 
   abbrev one : Step → VertexState → After
   one e w = lines_after (record s { near = e }) lines 0 w
 
-  one-ends : (e : Step) → IsInside g e → (w : VertexState) → length w.registers ≡ length p.registers → w.fields ≡ fs → SendingEnds c v kind sends e.node w (turn e) (one e w) (turn e).fault
-  one-ends e lt w count same = sending-turns c seg p.registers fields loop i kind key test body (record s { near = e }) w from table around result able (typed k e.node shows.inside lt.0) (edge-shows e lt w count same)
+  one-ends : (e : Step) → IsInside g e → (w : VertexState) → length w.registers ≡ length p.registers → w.fields ≡ fs → SendingEnds c v kind sends g w (turn e) (one e w) (turn e).fault
+  one-ends e lt w count same = sending-turns c seg p.registers fields loop i kind key test body (record s { near = e }) w from table around result able (typed k e.node shows.inside lt.0) limit (edge-shows e lt w count same)
 
-  fault-part : (j : ℕ) (it : Iteration) (w : VertexState) (a : After) (o : Option Fault) → SendingEnds c v kind sends j w it a o → a.fault ≡ fault_or_none v o
-  fault-part j it w a None e = e.0
-  fault-part j it w a (Some f) e = e.0
+  fault-part : (it : Iteration) (w : VertexState) (a : After) (o : Option Fault) → SendingEnds c v kind sends g w it a o → a.fault ≡ fault_or_none v o
+  fault-part it w a None e = e.0
+  fault-part it w a (Some f) e = e.0
 
-  gave-part : (j : ℕ) (it : Iteration) (w : VertexState) (a : After) (o : Option Fault) → SendingEnds c v kind sends j w it a o → SenderGave c v kind sends j w it a.state
-  gave-part j it w a None e = e.1
-  gave-part j it w a (Some f) e = e.1
+  gave-part : (it : Iteration) (w : VertexState) (a : After) (o : Option Fault) → SendingEnds c v kind sends g w it a o → SenderGave c v kind sends g w it a.state
+  gave-part it w a None e = e.1
+  gave-part it w a (Some f) e = e.1
 
   turns-sent : (es : List Step) → ((e : Step) → IsIn e es → IsInside g e) → (w : VertexState) (f : Option M.Fault) → length w.registers ≡ length p.registers → w.fields ≡ fs
       → TurnsSent c v kind sends g (map turn es) w f (turns_after s lines es w f)
@@ -217,11 +208,11 @@ module _ (c : Layout) (p : image.Program) (fields base : ℕ) (all : List Spot) 
   turns-sent (e ∷ es) lt w f count same =
       let inside = lt e (inl refl) in
       let ending = one-ends e inside w count same in
-      let gave = gave-part e.node (turn e) w (one e w) (turn e).fault ending in
+      let gave = gave-part (turn e) w (one e w) (turn e).fault ending in
       let rest = turns-sent es (λ x q. lt x (inr q)) (one e w).state (lesser f (one e w).fault) (gave.count ∙ count) (gave.fields ∙ same) in
       let more = joined (map (λ t. t.with_outermost) (map turn es)) in
       record {
-        fault = rest.fault ∙ ap (λ o. least_from (lesser f o) (map (fault_or_none v) (map (λ t. t.fault) (map turn es)))) (fault-part e.node (turn e) w (one e w) (turn e).fault ending);
+        fault = rest.fault ∙ ap (λ o. least_from (lesser f o) (map (fault_or_none v) (map (λ t. t.fault) (map turn es)))) (fault-part (turn e) w (one e w) (turn e).fault ending);
         puts =
             rest.puts ∙ ap (λ l. l ++ map (given c v) (filter is_to_scalars more)) gave.puts
             ∙ append_assoc w.puts (map (given c v) (filter is_to_scalars (turn e).with_outermost)) (map (given c v) (filter is_to_scalars more))
@@ -230,7 +221,7 @@ module _ (c : Layout) (p : image.Program) (fields base : ℕ) (all : List Spot) 
         sent = gave.sent ++ rest.sent;
         messages = rest.messages ∙ ap (λ l. l ++ rest.sent) gave.messages ∙ append_assoc w.messages gave.sent rest.sent;
         carried = subst (λ l. AreSent kind sends g l (gave.sent ++ rest.sent)) (sym (filter-both is_to_nodes (turn e).with_outermost more))
-            (sent-both kind sends g (filter is_to_nodes (turn e).with_outermost) (filter is_to_nodes more) gave.sent rest.sent (sent-of kind sends g e.node (filter is_to_nodes (turn e).with_outermost) gave.sent inside.0 gave.carried) rest.carried);
+            (sent-both kind sends g (filter is_to_nodes (turn e).with_outermost) (filter is_to_nodes more) gave.sent rest.sent gave.carried rest.carried);
         fields = rest.fields ∙ gave.fields;
         inner = ap (λ l. l ++ given_inside (map turn es)) gave.inner ∙ rest.inner;
         deferred = ap (λ l. l ++ joined (map (λ t. t.deferred) (map turn es))) gave.deferred ∙ rest.deferred;
@@ -262,8 +253,27 @@ module _ (c : Layout) (p : image.Program) (fields base : ℕ) (all : List Spot) 
   loosen : (e : Expr) → home_finds c n i e ≡ true → loose e ≡ true
   loosen e o = (both-true (loose e) (list_all is_at_edge (loads_in i e)) o).0
 
-  fits : is_body c loose sets_nothing (inner_gives c i loose) body ≡ true
-  fits = body-weaker c (home_finds c n i) loose sets_nothing (inner_gives c i (home_finds c n i)) (inner_gives c i loose) loosen (λ r' ts es o. inner-weaker c i (home_finds c n i) loose r' ts es loosen o) body able.fits
+  abbrev through : Reduce → List Target → List Expr → Bool
+  through = sends_through c (n ∷ (i ∷ [])) loose
+
+  fits : is_body c loose sets_nothing (sender_gives c n i loose) body ≡ true
+  fits =
+      body-weaker c (home_finds c n i) loose sets_nothing (sender_gives c n i (home_finds c n i)) (sender_gives c n i loose) loosen
+      (λ r' ts es o. sender-weaker c n i (home_finds c n i) loose r' ts es loosen o)
+      body able.fits
+
+  off : (x : ℕ) → is_in its x ≡ false → (nat_eq x n ≡ false) × (nat_eq x n ≡ false)
+  off x o = let t = off-both x n i o in (t.1, t.1)
+
+  -- what turns give to scalars is put
+  abbrev Good : Contribution → Type 0
+  Good y = is_to_scalars y ≡ true → IsPut c all y
+
+  put-good : (y : Contribution) → IsPut c all y → Good y
+  put-good y w o = w
+
+  received-good : (j : ℕ) (y : Contribution) → IsReceived c j all y → Good y
+  received-good j y w o = record { here_all = w.scalars o; not_empty = w.not_empty; spotted = w.spotted }
 
   in-two : (x : ℕ) → is_in its x ≡ true → (x ≡ n) ⊎ (x ≡ i)
   in-two x o = by (nat_eq x n) (nat_eq x i) refl refl o where
@@ -283,7 +293,7 @@ module _ (c : Layout) (p : image.Program) (fields base : ℕ) (all : List Spot) 
     start = begun (write from (slots.Scalar i) (At (Some e.node)))
 
     abbrev Ready : Stmt → Iteration → Type 0
-    Ready = Typed c table around result loop
+    Ready = AreTyped c table around result loop
 
     typed-start : Ready body start
     typed-start = typed k e.node shows.inside lt.0
@@ -342,21 +352,24 @@ module _ (c : Layout) (p : image.Program) (fields base : ℕ) (all : List Spot) 
           l.1,
         ))
 
-    reductions-left : (j : Key) (total : TotalKey) (r' : Reduce) (ts : List Target) (es : List Expr) (it : Iteration) → inner_gives c i loose r' ts es ≡ true → Ready (P.Combine j total r' ts es) it → it.fault ≡ None → HoldNodes g its home it
+    reductions-left : (j : Key) (total : TotalKey) (r' : Reduce) (ts : List Target) (es : List Expr) (it : Iteration) → sender_gives c n i loose r' ts es ≡ true → Ready (P.Combine j total r' ts es) it → it.fault ≡ None → HoldNodes g its home it
         → Left c its true loop m home (does (P.Combine j total r' ts es) m loop it) (spots_in_all es j ++ reduce_spots false its (way_of c.declarations n ts) j total ts)
     reductions-left j total r' ts es it o y f q =
-        or-cases (receiver_gives c i loose r' ts es) (picks_inside c loose r' ts es || tuples_inside c loose r' ts es) o (λ z. ended-left j total r' ts es it z f q) (λ p'.
+        or-cases (inner_gives c i loose r' ts es) (through r' ts es) o
+        (λ x.
+        or-cases (receiver_gives c i loose r' ts es) (picks_inside c loose r' ts es || tuples_inside c loose r' ts es) x (λ z. ended-left j total r' ts es it z f q) (λ p'.
         or-cases (picks_inside c loose r' ts es) (tuples_inside c loose r' ts es) p'
-        (λ z. pick-left c its n loop e.edge home able.depths no_locals table around result j total r' ts es it z y f q)
-        (λ z. keep-left c its n loop e.edge home able.depths no_locals table around result in-n j total r' ts es it z y f q))
+        (λ z. pick-left c its n loop e.edge home able.depths no_locals table around result j total r' ts es it z (λ a. y) f q)
+        (λ z. keep-left c its n loop e.edge home able.depths no_locals table around result in-n j total r' ts es it z (λ a. y) f q)))
+        (λ x. send-left c its true false n loop m home off j total r' ts es it x f q)
 
-    left-body : (st : Stmt) → is_body c loose sets_nothing (inner_gives c i loose) st ≡ true → (it : Iteration) → Ready st it → it.fault ≡ None → HoldNodes g its home it
+    left-body : (st : Stmt) → is_body c loose sets_nothing (sender_gives c n i loose) st ≡ true → (it : Iteration) → Ready st it → it.fault ≡ None → HoldNodes g its home it
         → Left c its true loop m home (does st m loop it) (spots_of c n its false st)
     left-body st o it y f q =
-        body-left c its true loop m home n false sets_nothing (inner_gives c i loose) Ready (parts-typed c table around result loop m) no_locals (λ y' z o'. absurd (both_ways false refl o'))
+        body-left c its true loop m home n false sets_nothing (sender_gives c n i loose) Ready (parts-are c table around result loop m) no_locals (λ y' z o'. absurd (both_ways false refl o'))
         (λ j' total r' ts es it' o' y' f' q'. reductions-left j' total r' ts es it' o' y' f' q') st o it y f q
 
-    -- what is given is received at the neighbour, or goes to scalars
+    -- what is given at the neighbour has its total there
     total-in : (j : Key) (total : TotalKey) (t : Target) (ts : List Target) → are_kept c i (t ∷ ts) ≡ true → ((f : Spot) → HasSpot f (reduce_spots false its (way_of c.declarations n (t ∷ ts)) j total (t ∷ ts)) → HasSpot f all)
         → (f : Spot) → HasSpot f (reduce_spots false its (way_of c.declarations i (t ∷ ts)) j total (t ∷ ts)) → HasSpot f all
     total-in j total t ts x incl' f q =
@@ -365,39 +378,42 @@ module _ (c : Layout) (p : image.Program) (fields base : ℕ) (all : List Spot) 
 
     ended-give : (j : Key) (total : TotalKey) (r' : Reduce) (ts : List Target) (es : List Expr) (it : Iteration) → receiver_gives c i loose r' ts es ≡ true → HoldNodes g its home it
         → ((f : Spot) → HasSpot f (reduce_spots false its (way_of c.declarations n ts) j total ts) → HasSpot f all)
-        → Gives (IsReceived c e.node all) it → Gives (IsReceived c e.node all) (does (P.Combine j total r' ts es) m loop it)
+        → Gives Good it → Gives Good (does (P.Combine j total r' ts es) m loop it)
     ended-give j total r' [] es it o q f a = absurd (both_ways false refl o)
     ended-give j total r' (t ∷ ts) es it o q f a =
         or-cases (puts_to_scalars c loose r' (t ∷ ts) es) (folds_to c i loose r' (t ∷ ts) es) o
-        (λ z. put-gives-at c its true false n loop m home able.depths all (IsReceived c e.node all) (put-received c e.node all) j total r' (t ∷ ts) es it z q f a)
-        (λ z. fold-gives c its true i e.node loop m home able.two all (IsReceived c e.node all) (λ y w. w) j total r' (t ∷ ts) es it z q (at-j it q) (total-in j total t ts (both-true (are_kept c i (t ∷ ts)) (same_length (t ∷ ts) es && list_all loose es) z).0 f) a)
+        (λ z. put-gives-at c its true false n loop m home able.depths all Good put-good j total r' (t ∷ ts) es it z q f a)
+        (λ z. fold-gives c its true i e.node loop m home able.two all Good (received-good e.node) j total r' (t ∷ ts) es it z q (at-j it q) (total-in j total t ts (both-true (are_kept c i (t ∷ ts)) (same_length (t ∷ ts) es && list_all loose es) z).0 f) a)
 
-    reductions-give : (j : Key) (total : TotalKey) (r' : Reduce) (ts : List Target) (es : List Expr) (it : Iteration) → inner_gives c i loose r' ts es ≡ true → Ready (P.Combine j total r' ts es) it → HoldNodes g its home it
+    reductions-give : (j : Key) (total : TotalKey) (r' : Reduce) (ts : List Target) (es : List Expr) (it : Iteration) → sender_gives c n i loose r' ts es ≡ true → Ready (P.Combine j total r' ts es) it → HoldNodes g its home it
         → ((f : Spot) → HasSpot f (reduce_spots false its (way_of c.declarations n ts) j total ts) → HasSpot f all)
-        → Gives (IsReceived c e.node all) it → Gives (IsReceived c e.node all) (does (P.Combine j total r' ts es) m loop it)
+        → Gives Good it → Gives Good (does (P.Combine j total r' ts es) m loop it)
     reductions-give j total r' ts es it o y q f a =
-        or-cases (receiver_gives c i loose r' ts es) (picks_inside c loose r' ts es || tuples_inside c loose r' ts es) o (λ z. ended-give j total r' ts es it z q f a) (λ p'.
+        or-cases (inner_gives c i loose r' ts es) (through r' ts es) o
+        (λ x.
+        or-cases (receiver_gives c i loose r' ts es) (picks_inside c loose r' ts es || tuples_inside c loose r' ts es) x (λ z. ended-give j total r' ts es it z q f a) (λ p'.
         or-cases (picks_inside c loose r' ts es) (tuples_inside c loose r' ts es) p'
-        (λ z. pick-gives c its n loop e.edge home able.depths no_locals table around result (IsReceived c e.node all) j total r' ts es it z y q a)
-        (λ z. keep-gives c its n loop e.edge home able.depths no_locals table around result in-n (IsReceived c e.node all) j total r' ts es it z y q a))
+        (λ z. pick-gives c its n loop e.edge home able.depths no_locals table around result Good j total r' ts es it z (λ d. y) q a)
+        (λ z. keep-gives c its n loop e.edge home able.depths no_locals table around result in-n Good j total r' ts es it z (λ d. y) q a)))
+        (λ x. send-gives c its true false n loop m home off Good j total r' ts es it x q (λ y' ys d. absurd (both_ways (are_of_scalars (node_slots y' ts)) (sent-of-nodes c its loose r' ts es y' x) d)) a)
 
-    give-body : (it : Iteration) → Ready body it → it.fault ≡ None → HoldNodes g its home it → Gives (IsReceived c e.node all) it → Gives (IsReceived c e.node all) (does body m loop it)
+    give-body : (it : Iteration) → Ready body it → it.fault ≡ None → HoldNodes g its home it → Gives Good it → Gives Good (does body m loop it)
     give-body it y f q a =
-        body-gives c n its false loop m loose sets_nothing (inner_gives c i loose) (IsReceived c e.node all) all (HoldNodes g its home) Ready (parts-typed c table around result loop m)
+        body-gives c n its false loop m loose sets_nothing (sender_gives c n i loose) Good all (HoldNodes g its home) Ready (parts-are c table around result loop m)
         (λ st o it' y' f' q'. (left-body st o it' y' f' q').1)
         (λ j total r' ts es it' o y' q' f' a'. reductions-give j total r' ts es it' o y' q' f' a')
         body fits (λ f' z. incl f' (spot-right f' (spots_in test key) body_spots z)) it y f q a
 
-    turn-gives : Gives (IsReceived c e.node all) (turn e)
+    turn-gives : Gives Good (turn e)
     turn-gives = by (value test (view_in loop m start key)) where
-      nothing : Gives (IsReceived c e.node all) start
+      nothing : Gives Good start
       nothing = record { outermost = λ y z. absurd z; inner = λ y z. absurd z }
 
-      way : (b : Bool) → Gives (IsReceived c e.node all) (one_way b (does body m loop) as_it_is start)
+      way : (b : Bool) → Gives Good (one_way b (does body m loop) as_it_is start)
       way true = give-body start typed-start refl holds nothing
       way false = nothing
 
-      by : (a : Result Value Fault) → Gives (IsReceived c e.node all) (with_ok start a (λ z. one_way (is_true z) (does body m loop) as_it_is start))
+      by : (a : Result Value Fault) → Gives Good (with_ok start a (λ z. one_way (is_true z) (does body m loop) as_it_is start))
       by (Ok z) = way (is_true z)
       by (Err f) = record { outermost = λ y z. absurd z; inner = λ y z. absurd z }
 
@@ -427,7 +443,7 @@ module _ (c : Layout) (p : image.Program) (fields base : ℕ) (all : List Spot) 
   put-in [] lt y o z = absurd z
   put-in (e ∷ es) lt y o z =
       ⊎_elim
-      (λ (w : IsIn y (turn e).with_outermost). let t = (turn-gives e (lt e (inl refl))).outermost y w in record { here_all = t.scalars o; not_empty = t.not_empty; spotted = t.spotted })
+      (λ (w : IsIn y (turn e).with_outermost). (turn-gives e (lt e (inl refl))).outermost y w o)
       (λ (w : IsIn y (joined (map (λ t. t.with_outermost) (map turn es)))). put-in es (λ a b. lt a (inr b)) y o w)
       (in-parts y (turn e).with_outermost (joined (map (λ t. t.with_outermost) (map turn es))) z)
 
@@ -602,5 +618,5 @@ module _ (c : Layout) (p : image.Program) (fields base : ℕ) (all : List Spot) 
     by (Err f) w = (masks (spot_of_fault f) w, λ y o z. absurd z)
 
 pub sending-steps : SendingStepsAreIterations
-sending-steps c p fields base all loop kind mask_key mask key place h test body globals fs k r table around result outer able typed incl shows edges within =
-    sending-step c p fields base all loop kind mask_key mask key place h test body globals fs k r table around result outer able typed incl shows edges within
+sending-steps c p fields base all loop kind mask_key mask key place h test body globals fs k r table around result outer able typed limit incl shows edges within =
+    sending-step c p fields base all loop kind mask_key mask key place h test body globals fs k r table around result outer able typed limit incl shows edges within

@@ -49,14 +49,15 @@ use Rattle.gm_lowering.specs.Sites.{slot_at, given, phase_value, are_of_scalars}
 use Rattle.gm_lowering.specs.OwnLoops.{NodeShows}
 use Rattle.gm_lowering.specs.Phases.{GlobalsApart, Shown, GivesApart, given_in, NodesInGraph, EdgesShown, Leaves, StepIs}
 use Rattle.gm_lowering.specs.Settles.{HasSpot, fault_or_none, AreHeld, AreGiven, SettlesAlike, spot_of_fault, HaveRoom}
-use Rattle.gm_lowering.specs.SenderSteps.{AreSent, SendsAs}
+use Rattle.gm_lowering.specs.Sent.{AreSent}
+use Rattle.gm_lowering.specs.SenderSteps.{SendsAs}
 use Rattle.gm_lowering.specs.SenderTurns.{IsSenderLoop}
 use Rattle.gm_lowering.specs.SenderSupersteps.{Sends, SendingSuperstepsSend, with_scalars}
 use Rattle.gm_lowering.specs.HomeSteps.{home_block, each_spots, HasEach}
 use Rattle.gm_lowering.specs.HomeLoops.{home_spots}
 use Rattle.gm_lowering.specs.TwoSupersteps.{StepsWithin}
 use Rattle.gm_lowering.specs.Plans.{Away, aways}
-use Rattle.gm_lowering.specs.MessageLoops.{is_to_scalars, is_to_nodes, TurnsTyped}
+use Rattle.gm_lowering.specs.MessageLoops.{is_to_scalars, is_to_nodes, TurnsAreTyped}
 use Rattle.gm_lowering.specs.SenderLoops.{TotalsLast, TwoStepsAre, SendingLoopsAreTwoSupersteps}
 use Rattle.gm_lowering.specs.TakingSteps.{taking_block, Carried, IsTaken, contributions_of}
 use Rattle.gm_lowering.specs.Takings.{slots_at}
@@ -67,7 +68,8 @@ use Rattle.gm_lowering.proofs.Settles.{total-spot, reductions-settle, somes-in, 
 use Rattle.gm_lowering.proofs.Spots.{Has, spot-left, spot-right}
 use Rattle.gm_lowering.proofs.Supersteps.{not-here, least-parts, least-two}
 use Rattle.gm_lowering.proofs.Regions.{in-parts, value-filtered, fault-filtered, least-members, in-front, in-back}
-use Rattle.gm_lowering.proofs.SenderSteps.{sent-both, sending-steps, iteration-spotted}
+use Rattle.gm_lowering.proofs.Sent.{sent-both}
+use Rattle.gm_lowering.proofs.SenderSteps.{sending-steps, iteration-spotted}
 use Rattle.gm_lowering.proofs.TakingSteps.{taking-blocks}
 use Rattle.gm_base.specs.declared.places.Place.{Place}
 
@@ -86,7 +88,8 @@ module _ (c : Layout) (p : image.Program) (fields base q kind : ℕ) (loop : Loo
     (table : TypeTable) (around : List ℕ) (result : Option VType)
     (outer : HasEach c loop mask h)
     (able : IsSenderLoop c p.registers fields loop h.iterator test body)
-    (typed : TurnsTyped c table around result loop h.iterator body r)
+    (typed : TurnsAreTyped c table around result loop h.iterator body r)
+    (limit : table.limit ≤ node_count loop.graph)
     (gs : GlobalsApart c (length globals))
     (fit : HaveRoom base (home_spots c loop.outer h.iterator mask_key mask key test body) (length p.places))
     (block : block_at p q ≡ home_block c (segment base (home_spots c loop.outer h.iterator mask_key mask key test body)) loop.outer kind mask_key mask h key test body)
@@ -144,10 +147,10 @@ module _ (c : Layout) (p : image.Program) (fields base q kind : ℕ) (loop : Loo
   masks f i = spot-left f (spots_in mask mask_key) (each_spots c n h.iterator key test body) i
 
   sends-at : (k : ℕ) → k < node_count g → SendsAs c v kind sends g (fields_at k) r (it k) (one_step (k, fields_at k))
-  sends-at k lt = sending-steps c p fields base all loop kind mask_key mask key place h test body globals (fields_at k) k r table around result outer able typed incl (node-shows k lt) edges within
+  sends-at k lt = sending-steps c p fields base all loop kind mask_key mask key place h test body globals (fields_at k) k r table around result outer able typed limit incl (node-shows k lt) edges within
 
   spotted-at : (k : ℕ) → k < node_count g → Has (it k).fault all × ((y : Contribution) → is_to_scalars y ≡ true → IsIn y (it k).with_outermost → IsPut c all y)
-  spotted-at k lt = iteration-spotted c p fields base all loop kind mask_key mask key place h test body globals (fields_at k) k r table around result outer able typed incl (node-shows k lt) edges within masks
+  spotted-at k lt = iteration-spotted c p fields base all loop kind mask_key mask key place h test body globals (fields_at k) k r table around result outer able typed limit incl (node-shows k lt) edges within masks
 
   -- all nodes from one on
   abbrev AllSend : ℕ → List (List Value) → Type 0
@@ -587,9 +590,9 @@ module _ (c : Layout) (p : image.Program) (fields base q kind : ℕ) (loop : Loo
         lead (Some y) o = ap (lesser_of (Some x)) o ∙ ap Some (last x y (least-is firsts x e).is_in (least-is seconds y o).is_in)
 
 pub sending-supersteps : SendingSuperstepsSend
-sending-supersteps c p fields base q kind loop mask_key mask key place h test body globals s r table around result outer able typed gs fit block shown edges in_graph within apart =
-    sends-all c p fields base q kind loop mask_key mask key place h test body globals s r table around result outer able typed gs fit block shown edges in_graph within apart
+sending-supersteps c p fields base q kind loop mask_key mask key place h test body globals s r table around result outer able typed limit gs fit block shown edges in_graph within apart =
+    sends-all c p fields base q kind loop mask_key mask key place h test body globals s r table around result outer able typed limit gs fit block shown edges in_graph within apart
 
 pub sending-loops : SendingLoopsAreTwoSupersteps
-sending-loops c p fields base q q2 kind loop mask_key mask key place h test body globals s r table around result outer able typed gs fit block shown edges in_graph within apart block2 takes last =
-    two-steps c p fields base q kind loop mask_key mask key place h test body globals s r table around result outer able typed gs fit block shown edges in_graph within apart q2 block2 takes last
+sending-loops c p fields base q q2 kind loop mask_key mask key place h test body globals s r table around result outer able typed limit gs fit block shown edges in_graph within apart block2 takes last =
+    two-steps c p fields base q kind loop mask_key mask key place h test body globals s r table around result outer able typed limit gs fit block shown edges in_graph within apart q2 block2 takes last

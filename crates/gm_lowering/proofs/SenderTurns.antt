@@ -1,24 +1,29 @@
--- The lines of an each that sends along its edge.
-use Rattle.std.proofs.Common.{◌≡◌, ◌⊎◌, inr, ℕ, zero, suc, Bool, true, false, cond, Option, Some, None, Result, Ok, Err, List, [], ◌∷◌, ◌++◌, length, map, refl, ap, ◌∙◌, sym, subst, append_assoc, arith}
-use Rattle.std.specs.Prelude.{◌+◌, if◌then◌else◌, ◌&&◌, ◌||◌, not, nat_eq, slice_set, slice_get, filter}
+-- The lines of an each that sends, along its edge or through node variables.
+use Rattle.std.proofs.Common.{◌≡◌, ◌<◌, ◌≤◌, ◌⊎◌, inr, ℕ, Bool, true, false, Option, Some, None, Result, Ok, List, [], ◌∷◌, ◌++◌, length, map, refl, ap, ◌∙◌, sym, subst, append_assoc, arith}
+use Rattle.std.specs.Prelude.{◌+◌, if◌then◌else◌, ◌&&◌, ◌||◌, not, nat_eq, nat_lt, slice_set, slice_get, filter}
 use Rattle.std.specs.List.{list_all, list_any}
 use Rattle.std.proofs.lemmas.List.{append-nil}
-use Rattle.std.proofs.lemmas.Bool.{both_ways, eqb-true}
+use Rattle.std.proofs.lemmas.Bool.{both_ways, eqb-true, eq-eqb, not-true, ltb-true}
 use Rattle.gm_value.specs.declared.values.VType.{VType}
 use Rattle.gm_value.specs.declared.values.Value.{Value}
 use Rattle.gm_value.specs.declared.values.Value.TheVariants.{At}
 use Rattle.gm_value.specs.declared.reductions.Reduce.{Reduce}
+use Rattle.gm_base.specs.declared.places.Place.{Place}
+use Rattle.gm_model.specs.Graphs.{node_count}
 use Rattle.gm_ast.specs.declared.tree.Key.{Key}
 use Rattle.gm_ast.specs.declared.tree.Target.{Target}
 use Rattle.gm_ast.specs.declared.tree.Target.TheVariants as T
 use Rattle.gm_ast.specs.declared.tree.TotalKey.{TotalKey}
+use Rattle.gm_ast.specs.declared.tree.Sort.TheVariants as Sorts
+use Rattle.gm_ast.specs.Names.{is}
+use Rattle.gm_ast.specs.Ways.{is_in}
 use Rattle.gm_ast.specs.Program as S
 use Rattle.gm_ast.specs.Program.{Expr, Stmt}
 use Rattle.gm_forms.proofs.Named.{both-true}
 use Rattle.gm_semantics.specs.declared.faults.Fault.{Fault}
-use Rattle.gm_semantics.specs.declared.slots.Slot.TheVariants.{Scalar, Node}
+use Rattle.gm_semantics.specs.declared.slots.Slot.TheVariants.{Scalar}
 use Rattle.gm_semantics.specs.Contributions.{Contribution}
-use Rattle.gm_semantics.specs.Expressions.{View, evaluated, evaluated_all}
+use Rattle.gm_semantics.specs.Expressions.{View, evaluated_all, node_held}
 use Rattle.gm_semantics.specs.Faults.{then_with}
 use Rattle.gm_semantics.specs.Iterations.{Loop, Mode, AtEdge, WithInner, WithOutermost, Iteration, ends_of_all, begun, view_in, failed, with_ok, contribution, gave_outermost, reduced, wrote, turn_at, does}
 use Rattle.gm_semantics.specs.Levels.{node_in}
@@ -28,38 +33,36 @@ use Rattle.gm_typed_stores.specs.Tells.{TypeTable}
 use Rattle.gm_image.specs.Program.{Line, Send}
 use Rattle.gm_image.specs.Term as M
 use Rattle.gm_image.specs.Term.{Term}
-use Rattle.gm_machine.specs.Expressions.{values}
-use Rattle.gm_machine.specs.Vertex.{Message, VertexContext, VertexState, After, view, line_ends, leaves, goes_on, lines_after}
-use Rattle.gm_lowering.specs.Layouts.{Layout, is_register}
+use Rattle.gm_machine.specs.Expressions.{value as term_value, values, live}
+use Rattle.gm_machine.specs.Faults.{then_go}
+use Rattle.gm_machine.specs.Vertex.{Message, VertexContext, VertexState, After, view, lines_after}
+use Rattle.gm_lowering.specs.Layouts.{Layout, is_global, is_register, has_value}
 use Rattle.gm_lowering.specs.Places.{Segment}
 use Rattle.gm_lowering.specs.Terms.{Env, term, own_env, each_env}
-use Rattle.gm_lowering.specs.Plans.{Away, Folds, Sends, Picks, away_by, aways, way_of, is_property_of, is_property_off}
+use Rattle.gm_lowering.specs.Plans.{SenderItself, loads_in, Away, away_by, aways, way_of}
 use Rattle.gm_lowering.specs.Bodies.{reduce_lines, target_node}
-use Rattle.gm_lowering.specs.Blocks.{each_site}
+use Rattle.gm_lowering.specs.Blocks.{names_scalar, each_site}
 use Rattle.gm_lowering.specs.Showing.{answer_of, Tells}
-use Rattle.gm_lowering.specs.Sites.{are_of_scalars, same_length, is_local, given, IsApart, HoldLocals, HoldProperties}
-use Rattle.gm_lowering.specs.OwnLoops.{is_declared, puts_to_scalars, folds_to, PicksTyped}
-use Rattle.gm_lowering.specs.MessageLoops.{sets_nothing, receiver_gives, is_to_scalars, is_to_nodes}
-use Rattle.gm_lowering.specs.HomeTurns.{home_finds, home_lines, HomeGave, EdgeShows}
-use Rattle.gm_lowering.specs.Takings.{slots_at}
+use Rattle.gm_lowering.specs.Sites.{are_of_scalars, same_length, is_body, is_local, given, IsInGraph, IsApart, HoldLocals, HoldProperties}
+use Rattle.gm_lowering.specs.OwnLoops.{is_declared, puts_to_scalars, folds_to, AreTyped}
+use Rattle.gm_lowering.specs.MessageLoops.{sets_nothing, receiver_gives, picks_inside, tuples_inside, is_to_scalars, is_to_nodes}
+use Rattle.gm_lowering.specs.HomeTurns.{is_at_edge, home_finds, home_lines, HomeGave, EdgeShows}
 use Rattle.gm_lowering.specs.TakingSteps.{Carried}
-use Rattle.gm_lowering.specs.SenderTurns.{IsSenderLoop, AreCarried, SenderGave, SendingEnds, SendingLinesAreTurns}
+use Rattle.gm_lowering.specs.Sent.{may_hold_node, sends_through, AreSent, sender_gives}
+use Rattle.gm_lowering.specs.SenderTurns.{IsSenderLoop, SenderGave, SendingEnds, SendingLinesAreTurns}
 use Rattle.gm_lowering.proofs.Bodies.{Ends as Ending, Holds}
-use Rattle.gm_lowering.proofs.FirstUses.{SameGiven}
+use Rattle.gm_lowering.proofs.FirstUses.{SameGiven, or-left}
+use Rattle.gm_lowering.proofs.FoldFacts.{body-weaker}
 use Rattle.gm_lowering.proofs.Givens.{AllTell, are_scalars, scalars-end, values-all, none-hoisted, assigned-is, put-ends, node_slots, are_kept, node-slots, node-in}
 use Rattle.gm_lowering.proofs.HomeTurns.{IsEachLoop, TurnAs, turn-ends}
 use Rattle.gm_lowering.proofs.Homes.{HomeShows, home-holds}
+use Rattle.gm_lowering.proofs.Own.{live-same}
+use Rattle.gm_lowering.proofs.Picks.{parts-are}
 use Rattle.gm_lowering.proofs.PutFacts.{puts-way}
 use Rattle.gm_lowering.proofs.Receivers.{nodes-end}
 use Rattle.gm_lowering.proofs.Receiving.{or-cases}
-
--- reductions to properties of the neighbour are sent
-pub sends-way : (c : Layout) (n i : ℕ) (t : Target) (ts : List Target) → nat_eq i n ≡ false → are_kept c i (t ∷ ts) ≡ true → way_of c.declarations n (t ∷ ts) ≡ Sends
-sends-way c n i (T.Scalar x at) ts e h = absurd (both_ways false refl h)
-sends-way c n i (T.Property x p at) ts e h =
-    let q = both-true (nat_eq x i && c.is_kept p) (are_kept c i ts) h in
-    let off : nat_eq x n ≡ false = ap (λ z. nat_eq z n) (eqb-true x i (both-true (nat_eq x i) (c.is_kept p) q.0).0) ∙ e in
-    ap (λ b. if b && list_all (is_property_of n) ts then Folds else (if not b || list_any (is_property_off n) ts then Sends else Picks)) off
+use Rattle.gm_lowering.proofs.Sent.{sends-way, LongAs, long-values, filter-last, get-left, get-right, sent-both}
+use Rattle.gm_lowering.proofs.Sendings.{node-inside, scalar-inside, held-value, off-both, out_of, does-send, send-by}
 
 -- to the neighbour
 to-neighbour : (c : Layout) (seg : Segment) (n i : ℕ) (key : Key) (t : Target) (ts : List Target) → nat_eq i n ≡ false → are_kept c i (t ∷ ts) ≡ true → target_node (each_site c seg n i) key (t ∷ ts) ≡ M.Neighbour
@@ -71,51 +74,6 @@ to-neighbour c seg n i key (T.Property x p at) ts e h =
     ap (λ b. if b || (nat_eq x i || false) then (each_env c seg n i).scalar x else M.Live ((each_env c seg n i).place key at) ((each_env c seg n i).scalar x)) off
     ∙ ap (λ b. if b || false then (each_env c seg n i).scalar x else M.Live ((each_env c seg n i).place key at) ((each_env c seg n i).scalar x)) here
     ∙ ap (λ b. if b then M.Neighbour else (own_env c seg n).scalar x) here
-
-pub same-slots : (j : ℕ) (ts : List Target) → node_slots j ts ≡ slots_at j ts
-same-slots j [] = refl
-same-slots j (T.Scalar x at ∷ ts) = same-slots j ts
-same-slots j (T.Property x p at ∷ ts) = ap (λ l. Node p j ∷ l) (same-slots j ts)
-
--- as many values as expressions
-abbrev pub LongAs : {A : Type 0} → List A → Result (List Value) Fault → Type 0
-LongAs ts (Ok xs) = same_length ts xs ≡ true
-LongAs ts (Err f) = Unit {0}
-
-pub long-values : {A : Type 0} (w : View) (ts : List A) (es : List Expr) → same_length ts es ≡ true → LongAs ts (evaluated_all es w).rest
-long-values w [] [] h = refl
-long-values w [] (e ∷ es) h = absurd (both_ways false refl h)
-long-values w (t ∷ ts) [] h = absurd (both_ways false refl h)
-long-values w (t ∷ ts) (e ∷ es) h = first (evaluated e w).rest (long-values w ts es h) where
-  more : (x : Value) (r : Result (List Value) Fault) → LongAs ts r → LongAs (t ∷ ts) (then_with r (λ xs. Ok (x ∷ xs)))
-  more x (Ok xs) o = o
-  more x (Err f) o = tt
-
-  first : (r : Result Value Fault) → LongAs ts (evaluated_all es w).rest → LongAs (t ∷ ts) (then_with r (λ x. then_with (evaluated_all es w).rest (λ xs. Ok (x ∷ xs))))
-  first (Ok x) o = more x (evaluated_all es w).rest o
-  first (Err f) o = tt
-
-pub filter-last : (p : Contribution → Bool) (xs : List Contribution) (a : Contribution) (b : Bool) → p a ≡ b → filter p (xs ++ a ∷ []) ≡ filter p xs ++ cond b (a ∷ []) []
-filter-last p [] a b e = ap (λ z. cond z (a ∷ []) []) e
-filter-last p (x ∷ xs) a b e = by (p x) (filter-last p xs a b e) where
-  by : (z : Bool) → filter p (xs ++ a ∷ []) ≡ filter p xs ++ cond b (a ∷ []) [] → cond z (x ∷ filter p (xs ++ a ∷ [])) (filter p (xs ++ a ∷ [])) ≡ cond z (x ∷ filter p xs) (filter p xs) ++ cond b (a ∷ []) []
-  by true h = ap (λ l. x ∷ l) h
-  by false h = h
-
-carried-more : (kind : ℕ) (as' : List Away) (j : ℕ) (xs : List Contribution) (ms : List Message) (a : Contribution) (m : Message) → AreCarried kind as' j xs ms → Carried kind as' a m → m.to ≡ j → AreCarried kind as' j (xs ++ a ∷ []) (ms ++ m ∷ [])
-carried-more kind as' j [] [] a m h o e = (o, e, tt)
-carried-more kind as' j [] (n ∷ ms) a m h o e = absurd h
-carried-more kind as' j (x ∷ xs) [] a m h o e = absurd h
-carried-more kind as' j (x ∷ xs) (n ∷ ms) a m h o e = (h.0, h.1, carried-more kind as' j xs ms a m h.2 o e)
-
-pub get-left : {A : Type 0} (xs ys : List A) (i : ℕ) (x : A) → slice_get xs i ≡ Some x → slice_get (xs ++ ys) i ≡ Some x
-get-left [] ys i x e = cc
-get-left (z ∷ xs) ys zero x e = e
-get-left (z ∷ xs) ys (suc i) x e = get-left xs ys i x e
-
-pub get-right : {A : Type 0} (xs ys : List A) (i : ℕ) (x : A) → slice_get ys i ≡ Some x → slice_get (xs ++ ys) (length xs + i) ≡ Some x
-get-right [] ys i x e = ap (slice_get ys) (let z : 0 + i ≡ i = omega arith in z) ∙ e
-get-right (y ∷ xs) ys i x e = ap (slice_get (y ∷ (xs ++ ys))) (let z : suc (length xs) + i ≡ suc (length xs + i) = omega arith in z) ∙ get-right xs ys i x e
 
 module _ (c : Layout) (seg : Segment) (loop : Loop) (i k j edge registers fields kind : ℕ) (all : List Away) (s : VertexContext) (before : VertexState)
     (apart : IsApart c registers fields)
@@ -137,7 +95,7 @@ module _ (c : Layout) (seg : Segment) (loop : Loop) (i k j edge registers fields
   found = home_finds c n i
 
   abbrev Gave : Iteration → VertexState → Type 0
-  Gave it w = SenderGave c v kind all j before it w
+  Gave it w = SenderGave c v kind all loop.graph before it w
 
   abbrev Here : Iteration → VertexState → Type 0
   Here it w = HomeShows c loop i k j edge registers fields s it w
@@ -256,7 +214,7 @@ module _ (c : Layout) (seg : Segment) (loop : Loop) (i k j edge registers fields
       folds = q.1.folds;
       sent = q.1.sent;
       messages = q.1.messages;
-      carried = subst (λ l. AreCarried kind all j l q.1.sent) (sym (filter-last is_to_nodes it.with_outermost a false (not-nodes a o) ∙ append-nil (filter is_to_nodes it.with_outermost))) q.1.carried;
+      carried = subst (λ l. AreSent kind all loop.graph l q.1.sent) (sym (filter-last is_to_nodes it.with_outermost a false (not-nodes a o) ∙ append-nil (filter is_to_nodes it.with_outermost))) q.1.carried;
       fields = q.1.fields;
       count = q.1.count;
       inner = q.1.inner;
@@ -264,17 +222,17 @@ module _ (c : Layout) (seg : Segment) (loop : Loop) (i k j edge registers fields
     },
   )
 
-  sends : (it : Iteration) (w : VertexState) (a : Contribution) (msg : Message) → are_of_scalars a.slots ≡ false → Carried kind all a msg → msg.to ≡ j → Shows it w
+  sends : (it : Iteration) (w : VertexState) (a : Contribution) (msg : Message) → are_of_scalars a.slots ≡ false → Carried kind all a msg → msg.to < node_count loop.graph → Shows it w
       → Shows (gave_outermost it a) (record w { messages = w.messages ++ msg ∷ [] })
-  sends it w a msg o carry e q = (
+  sends it w a msg o carry lt q = (
     here-given it w a (record w { messages = w.messages ++ msg ∷ [] }) refl refl q.0,
     record {
       puts = q.1.puts ∙ ap (λ l. before.puts ++ map (given c v) l) (sym (filter-last is_to_scalars it.with_outermost a false o ∙ append-nil (filter is_to_scalars it.with_outermost)));
       folds = q.1.folds;
       sent = q.1.sent ++ msg ∷ [];
       messages = ap (λ l. l ++ msg ∷ []) q.1.messages ∙ append_assoc before.messages q.1.sent (msg ∷ []);
-      carried = subst (λ l. AreCarried kind all j l (q.1.sent ++ msg ∷ [])) (sym (filter-last is_to_nodes it.with_outermost a true (ap not o)))
-          (carried-more kind all j (filter is_to_nodes it.with_outermost) q.1.sent a msg q.1.carried carry e);
+      carried = subst (λ l. AreSent kind all loop.graph l (q.1.sent ++ msg ∷ [])) (sym (filter-last is_to_nodes it.with_outermost a true (ap not o)))
+          (sent-both kind all loop.graph (filter is_to_nodes it.with_outermost) (a ∷ []) q.1.sent (msg ∷ []) q.1.carried (carry, lt, tt));
       fields = q.1.fields;
       count = q.1.count;
       inner = q.1.inner;
@@ -298,37 +256,18 @@ module _ (c : Layout) (seg : Segment) (loop : Loop) (i k j edge registers fields
       (put-ends c v loop m s run Shows Gave depth_is (λ r' place targets ls u. refl) (λ a u b. b.0.fine) (λ a u f b. gave-failed a u f b.1) puts
       key total r t ts es it w rest q x.0 y.0 (all-tell it w key es y.1 q))
 
-  -- a send line gives its values in a message to the neighbour
-  send-by : (first : ℕ) (key : Key) (total : TotalKey) (r : Reduce) (t : Target) (ts : List Target) (terms : List Term) (answer : Result (List Value) Fault) (it : Iteration) (w : VertexState) (rest : List Line) → Shows it w
-      → are_kept c i (t ∷ ts) ≡ true → LongAs (t ∷ ts) answer → (l : ℕ) → slice_get all l ≡ Some (record { total = total; reduce = r; targets = t ∷ ts }) → first ≡ kind + l
-      → values (view s w) terms ≡ answer_of v answer
-      → let out = with_ok it (then_with answer (λ xs. Ok (node_slots j (t ∷ ts), xs))) (λ p. gave_outermost it (contribution total r p)) in
-      Ended (Send first M.Neighbour terms ∷ []) rest w out out.fault
-  send-by first key total r t ts terms (Ok xs) it w rest q o long l at place e =
-      let a = contribution total r (node_slots j (t ∷ ts), xs) in
-      let msg : Message = record { to = s.near.node; kind = first; values = xs } in
-      subst (Ended (Send first M.Neighbour terms ∷ []) rest w (gave_outermost it a)) (sym q.0.fine) (
-        record w { messages = w.messages ++ msg ∷ [] },
-        sends it w a msg (not-scalars t ts o)
-            (record {
-              index = l;
-              away = record { total = total; reduce = r; targets = t ∷ ts };
-              found = at;
-              of_kind = place;
-              made = ap (λ ss. contribution total r (ss, xs)) (same-slots j (t ∷ ts) ∙ ap (λ z. slots_at z (t ∷ ts)) (sym q.0.near));
-              long = long;
-            })
-            q.0.near q,
-        ap (λ u. goes_on (line_ends w u (λ vs. leaves (record w { messages = w.messages ++ record { to = s.near.node; kind = first; values = vs } ∷ [] }))) (λ k' u'. run rest k' u')) e,
-      ) where
-        not-scalars : (t : Target) (ts : List Target) → are_kept c i (t ∷ ts) ≡ true → are_of_scalars (node_slots j (t ∷ ts)) ≡ false
-        not-scalars (T.Property x p at) ts h = refl
-        not-scalars (T.Scalar x at) ts h = absurd (both_ways false refl h)
-  send-by first key total r t ts terms (Err f) it w rest q o long l at place e = (
-    w,
-    gave-failed it w f q.1,
-    ap (λ u. goes_on (line_ends w u (λ vs. leaves (record w { messages = w.messages ++ record { to = s.near.node; kind = first; values = vs } ∷ [] }))) (λ k' u'. run rest k' u')) e,
-  )
+  -- a send line gives its values in a message to a node
+  abbrev Sends : Type 0
+  Sends =
+      (first : ℕ) (total : TotalKey) (r : Reduce) (x : ℕ) (t : Target) (ts : List Target) (to : Term) (terms : List Term) (it : Iteration) (w : VertexState) (rest : List Line) (u : View) (at : Place)
+      → Shows it w → are_kept c x (t ∷ ts) ≡ true → ((y : ℕ) (ys : List Value) → Unit {0}) → (l : ℕ) → slice_get all l ≡ Some (record { total = total; reduce = r; targets = t ∷ ts }) → first ≡ kind + l
+      → (o : Option ℕ) → ((y : ℕ) → o ≡ Some y → y < node_count loop.graph) → term_value (view s w) to ≡ answer_of v (then_with (node_held u at o) (λ y. Ok (At (Some y))))
+      → (answer : Result (List Value) Fault) → LongAs (t ∷ ts) answer → values (view s w) terms ≡ answer_of v answer
+      → let out = out_of total r (t ∷ ts) it u o at answer in Ended (Send first to terms ∷ []) rest w out out.fault
+
+  sent : Sends
+  sent =
+      send-by c v loop s run Shows Gave kind all (λ a. Unit {0}) (λ it w q. q.0.fine) (λ it w f q. gave-failed it w f q.1) (λ first to terms ls w. refl) (λ it w a msg o z. sends it w a msg o)
 
   send-case : (first : ℕ) (key : Key) (total : TotalKey) (r : Reduce) (ts : List Target) (es : List Expr) (it : Iteration) (w : VertexState) (rest : List Line) → folds_to c i found r ts es ≡ true → Placed first (S.Combine key total r ts es) → Shows it w
       → let out = does (S.Combine key total r ts es) m loop it in
@@ -349,9 +288,66 @@ module _ (c : Layout) (seg : Segment) (loop : Loop) (i k j edge registers fields
       subst (λ way'. Ended (reduce_lines (each_site c seg n i) first way' key total r (t ∷ ts) (map (term v key) es)) rest w out out.fault) (sym way)
       (subst (λ node. Ended (Send first node (map (term v key) es) ∷ []) rest w out out.fault) (sym (to-neighbour c seg n i key t ts two x.0))
       (subst (λ z. Ended (Send first M.Neighbour (map (term v key) es) ∷ []) rest w z z.fault) (sym same)
-      (send-by first key total r t ts (map (term v key) es) (evaluated_all es u).rest it w rest q x.0 (long-values u (t ∷ ts) es y.0) place.0 place.1 (let z : first + 0 ≡ kind + place.0 = place.2 in omega (arith, z)) (values-all v u (view s w) es tell))))
+      (sent first total r i t ts M.Neighbour (map (term v key) es) it w rest u total.place q x.0 (λ y' ys. tt) place.0 place.1 (let z : first + 0 ≡ kind + place.0 = place.2 in omega (arith, z))
+      (Some j) (λ y' e. subst (λ z. z < node_count loop.graph) (number e) q.0.near_inside) (ap (λ z. Ok (At (Some z))) q.0.near)
+      (evaluated_all es u).rest (long-values u (t ∷ ts) es y.0) (values-all v u (view s w) es tell)))) where
+        number : {y : ℕ} → Some j ≡ Some y → j ≡ y
+        number e = ap value_of e where
+          value_of : Option ℕ → ℕ
+          value_of (Some z) = z
+          value_of None = 0
 
-  pub sender-holds : Holds (each_site c seg n i) loop m s run (λ it w. HomeShows c loop i k j edge registers fields s it w × SenderGave c v kind all j before it w) (λ it w. SenderGave c v kind all j before it w) found sets_nothing (receiver_gives c i found) (λ first st it. Placed first st)
+  -- a variable that may hold a node is told
+  held-found : (x : ℕ) (at : Place) → nat_lt x (length c.declarations) ≡ true → has_value (variable_at c.declarations x) ≡ true → nat_eq x i ≡ false → found (S.Var x at) ≡ true
+  held-found x at lt has off =
+      ap (λ b. b && list_all is_at_edge (loads_in i (S.Var x at))) (known (is_in (n ∷ (i ∷ [])) x)) ∙ ap (λ b. list_all is_at_edge (if b then SenderItself ∷ [] else [])) off where
+        known : (b : Bool) → b || (nat_lt x (length c.declarations) && has_value (variable_at c.declarations x)) ≡ true
+        known true = refl
+        known false = ap (λ b. b && has_value (variable_at c.declarations x)) lt ∙ has
+
+  -- a reduction through a node variable is sent to its node, or faults where there is none. A local holds what it holds in a turn that has types
+  through-case : (table : TypeTable) (around : List ℕ) (result : Option VType) → table.limit ≤ node_count loop.graph
+      → (first : ℕ) (key : Key) (total : TotalKey) (r : Reduce) (ts : List Target) (es : List Expr) (it : Iteration) (w : VertexState) (rest : List Line) (turn : Iteration)
+      → sends_through c (n ∷ (i ∷ [])) found r ts es ≡ true → Placed first (S.Combine key total r ts es) → AreTyped c table around result loop (S.Combine key total r ts es) turn
+      → ((x : ℕ) → list_any (names_scalar x) ts ≡ true → it.store.scalar x ≡ turn.store.scalar x) → Shows it w
+      → let out = does (S.Combine key total r ts es) m loop it in
+      Ended (reduce_lines (each_site c seg n i) first (way_of c.declarations n ts) key total r ts (map (term v key) es)) rest w out out.fault
+  through-case table around result limit first key total r [] es it w rest turn o here typed same q = absurd (both_ways false refl o)
+  through-case table around result limit first key total r (T.Scalar x at ∷ ts) es it w rest turn o here typed same q = absurd (both_ways false refl o)
+  through-case table around result limit first key total r (T.Property x p at ∷ ts) es it w rest turn o here typed same q =
+      let t = T.Property x p at in
+      let values' = same_length (t ∷ ts) es && list_all found es in
+      let a = both-true (not (is_in (n ∷ (i ∷ [])) x)) (may_hold_node c x && (are_kept c x (t ∷ ts) && values')) o in
+      let none_in = not-true (is_in (n ∷ (i ∷ [])) x) a.0 in
+      let off = off-both x n i none_in in
+      let b = both-true (may_hold_node c x) (are_kept c x (t ∷ ts) && values') a.1 in
+      let holds = is Sorts.Scalar (variable_at c.declarations x) || is_global (variable_at c.declarations x) in
+      let d = both-true (nat_lt x (length c.declarations)) holds b.0 in
+      let e = both-true (are_kept c x (t ∷ ts)) values' b.1 in
+      let f = both-true (same_length (t ∷ ts) es) (list_all found es) e.1 in
+      let u = view_in loop m it key in
+      let st = S.Combine key total r (t ∷ ts) es in
+      let out = does st m loop it in
+      let way = sends-way c n x t ts off.1 e.0 in
+      let place = here 0 (record { total = total; reduce = r; targets = t ∷ ts }) (ap (λ w'. slice_get (away_by w' total r (t ∷ ts)) 0) way) in
+      let tell = all-tell it w key es f.1 q in
+      let at_node = node_in loop.graph (it.store.scalar x) in
+      let in_graph : IsInGraph loop.graph (it.store.scalar x) =
+      or-cases (is Sorts.Scalar (variable_at c.declarations x)) (is_global (variable_at c.declarations x)) d.1
+      (λ h. subst (IsInGraph loop.graph) (sym (same x (or-left (list_any (names_scalar x) ts) (eq-eqb x x refl)))) (scalar-inside c table around result loop st turn x limit typed h))
+      (λ h. q.0.in_graph x off.1 off.0 (ltb-true x (length c.declarations) d.0) h) in
+      let told = tells it w key (S.Var x at) (held-found x at d.0 (held-value (variable_at c.declarations x) d.1) off.0) q in
+      let to : term_value (view s w) (M.Live (v.place key at) (v.scalar x)) ≡ answer_of v (then_with (node_held u at at_node) (λ y. Ok (At (Some y)))) =
+      ap (λ z. then_go z (live (v.place key at))) told ∙ live-same v u at (it.store.scalar x) in_graph in
+      let meant : out ≡ out_of total r (t ∷ ts) it u at_node at (evaluated_all es u).rest =
+      does-send c loop m key total r x p at ts es it off.1 e.0 (none-hoisted v u (view s w) es refl tell) in
+      subst (λ way'. Ended (reduce_lines (each_site c seg n i) first way' key total r (t ∷ ts) (map (term v key) es)) rest w out out.fault) (sym way)
+      (subst (λ node. Ended (Send first node (map (term v key) es) ∷ []) rest w out out.fault) (sym (ap (λ b'. if b' then v.scalar x else M.Live (v.place key at) (v.scalar x)) none_in))
+      (subst (λ z. Ended (Send first (M.Live (v.place key at) (v.scalar x)) (map (term v key) es) ∷ []) rest w z z.fault) (sym meant)
+      (sent first total r x t ts (M.Live (v.place key at) (v.scalar x)) (map (term v key) es) it w rest u at q e.0 (λ y ys. tt) place.0 place.1 (let z : first + 0 ≡ kind + place.0 = place.2 in omega (arith, z))
+      at_node (λ y h. node-inside loop.graph (it.store.scalar x) y in_graph h) to (evaluated_all es u).rest (long-values u (t ∷ ts) es f.0) (values-all v u (view s w) es tell))))
+
+  pub sender-holds : Holds (each_site c seg n i) loop m s run (λ it w. HomeShows c loop i k j edge registers fields s it w × SenderGave c v kind all loop.graph before it w) (λ it w. SenderGave c v kind all loop.graph before it w) found sets_nothing (receiver_gives c i found) (λ first st it. Placed first st)
   sender-holds = record {
     type_is = type_is;
     skipped = λ l ls a w. refl;
@@ -380,7 +376,8 @@ module _ (c : Layout) (seg : Segment) (loop : Loop) (i k j edge registers fields
 -- the turn
 module _ (c : Layout) (seg : Segment) (registers : List VType) (fields : ℕ) (loop : Loop) (i : ℕ) (kind : ℕ) (key : Key) (test : Expr) (body : Stmt) (s : VertexContext) (w : VertexState) (r : Store)
     (able : IsSenderLoop c registers fields loop i test body) (shows : EdgeShows c loop registers fields s w r)
-    (table : TypeTable) (around : List ℕ) (result : Option VType) (typed : PicksTyped c table around result loop body (begun (write r (Scalar i) (At (Some s.near.node))))) where
+    (table : TypeTable) (around : List ℕ) (result : Option VType) (typed : AreTyped c table around result loop body (begun (write r (Scalar i) (At (Some s.near.node)))))
+    (limit : table.limit ≤ node_count loop.graph) where
   abbrev at_sender : Env
   at_sender = each_env c seg loop.outer i
 
@@ -391,13 +388,15 @@ module _ (c : Layout) (seg : Segment) (registers : List VType) (fields : ℕ) (l
   sent_here = aways c.declarations loop.outer body
 
   abbrev GaveHere : Iteration → VertexState → Type 0
-  GaveHere it u = SenderGave c at_sender kind sent_here s.near.node w it u
+  GaveHere it u = SenderGave c at_sender kind sent_here loop.graph w it u
 
   is-each : IsEachLoop c registers fields loop i test
   is-each = record { apart = able.apart; outer = able.outer; inner = able.inner; two = able.two; types = able.types; depths = able.depths; firsts = able.firsts; plain = able.plain; found = able.found }
 
-  late-sender : (r' : Reduce) (ts : List Target) (es : List Expr) → receiver_gives c i finds_here r' ts es ≡ true
-      → ((ends_of_all (AtEdge s.near.edge) loop ts ≡ WithInner) ⊎ (ends_of_all (AtEdge s.near.edge) loop ts ≡ WithOutermost)) × (list_all finds_here es ≡ true)
+  abbrev Ending_so : List Target → Type 0
+  Ending_so ts = (ends_of_all (AtEdge s.near.edge) loop ts ≡ WithInner) ⊎ (ends_of_all (AtEdge s.near.edge) loop ts ≡ WithOutermost)
+
+  late-sender : (r' : Reduce) (ts : List Target) (es : List Expr) → receiver_gives c i finds_here r' ts es ≡ true → Ending_so ts × (list_all finds_here es ≡ true)
   late-sender r' [] es o = absurd (both_ways false refl o)
   late-sender r' (t ∷ ts) es o =
       or-cases (puts_to_scalars c finds_here r' (t ∷ ts) es) (folds_to c i finds_here r' (t ∷ ts) es) o
@@ -409,13 +408,44 @@ module _ (c : Layout) (seg : Segment) (registers : List VType) (fields : ℕ) (l
       let x = both-true (are_kept c i (t ∷ ts)) (same_length (t ∷ ts) es && list_all finds_here es) h in
       (inr (nodes-end c loop (AtEdge s.near.edge) i t ts able.two x.0), (both-true (same_length (t ∷ ts) es) (list_all finds_here es) x.1).1))
 
+  abbrev through : Reduce → List Target → List Expr → Bool
+  through = sends_through c (loop.outer ∷ (i ∷ [])) finds_here
+
+  late-through : (r' : Reduce) (ts : List Target) (es : List Expr) → through r' ts es ≡ true → Ending_so ts × (list_all finds_here es ≡ true)
+  late-through r' [] es o = absurd (both_ways false refl o)
+  late-through r' (T.Scalar x at ∷ ts) es o = absurd (both_ways false refl o)
+  late-through r' (T.Property x p at ∷ ts) es o =
+      let all' = T.Property x p at ∷ ts in
+      let values' = same_length all' es && list_all finds_here es in
+      let a = both-true (not (is_in (loop.outer ∷ (i ∷ [])) x)) (may_hold_node c x && (are_kept c x all' && values')) o in
+      let b = both-true (may_hold_node c x) (are_kept c x all' && values') a.1 in
+      let d = both-true (are_kept c x all') values' b.1 in (
+        inr (nodes-end c loop (AtEdge s.near.edge) x (T.Property x p at) ts (off-both x loop.outer i (not-true (is_in (loop.outer ∷ (i ∷ [])) x) a.0)).1 d.0),
+        (both-true (same_length all' es) (list_all finds_here es) d.1).1,
+      )
+
+  -- what the body may, in the order in which it is told
+  turned : (a b d : Bool) → (a || b) || d ≡ true → (d || a) || b ≡ true
+  turned true b true h = refl
+  turned true b false h = refl
+  turned false true true h = refl
+  turned false true false h = refl
+  turned false false true h = refl
+  turned false false false h = h
+
+  fits-so : is_body c finds_here sets_nothing (λ r' ts es. (through r' ts es || receiver_gives c i finds_here r' ts es) || (picks_inside c finds_here r' ts es || tuples_inside c finds_here r' ts es)) body ≡ true
+  fits-so =
+      body-weaker c finds_here finds_here sets_nothing (sender_gives c loop.outer i finds_here)
+      (λ r' ts es. (through r' ts es || receiver_gives c i finds_here r' ts es) || (picks_inside c finds_here r' ts es || tuples_inside c finds_here r' ts es)) (λ e o. o)
+      (λ r' ts es o. turned (receiver_gives c i finds_here r' ts es) (picks_inside c finds_here r' ts es || tuples_inside c finds_here r' ts es) (through r' ts es) o) body able.fits
+
   none-given : (it : Iteration) → it.with_inner ≡ [] → it.with_outermost ≡ [] → it.deferred ≡ [] → GaveHere it w
   none-given it e f g = record {
     puts = sym (append-nil w.puts) ∙ ap (λ l. w.puts ++ map (given c at_sender) (filter is_to_scalars l)) (sym f);
     folds = refl;
     sent = [];
     messages = sym (append-nil w.messages);
-    carried = subst (λ l. AreCarried kind sent_here s.near.node (filter is_to_nodes l) []) (sym f) tt;
+    carried = subst (λ l. AreSent kind sent_here loop.graph (filter is_to_nodes l) []) (sym f) tt;
     fields = refl;
     count = refl;
     inner = e;
@@ -428,7 +458,7 @@ module _ (c : Layout) (seg : Segment) (registers : List VType) (fields : ℕ) (l
     folds = g.folds;
     sent = g.sent;
     messages = g.messages;
-    carried = subst (λ l. AreCarried kind sent_here s.near.node (filter is_to_nodes l) g.sent) same.outermost g.carried;
+    carried = subst (λ l. AreSent kind sent_here loop.graph (filter is_to_nodes l) g.sent) same.outermost g.carried;
     fields = g.fields;
     count = g.count;
     inner = sym same.inner ∙ g.inner;
@@ -442,17 +472,20 @@ module _ (c : Layout) (seg : Segment) (registers : List VType) (fields : ℕ) (l
   abbrev sender_out : Iteration
   sender_out = turn_at loop (AtEdge s.near.edge) key test (does body (AtEdge s.near.edge) loop) i s.near.node r
 
-  by-fault : (it : Iteration) (a : After) (f : Option Fault) → TurnAs at_sender GaveHere it a f → SendingEnds c at_sender kind sent_here s.near.node w it a f
+  by-fault : (it : Iteration) (a : After) (f : Option Fault) → TurnAs at_sender GaveHere it a f → SendingEnds c at_sender kind sent_here loop.graph w it a f
   by-fault it a None e = e
   by-fault it a (Some f) e = e
 
-  pub sending-turn : SendingEnds c at_sender kind sent_here s.near.node w sender_out (lines_after s (home_lines c seg loop.outer i kind key test body) 0 w) sender_out.fault
+  pub sending-turn : SendingEnds c at_sender kind sent_here loop.graph w sender_out (lines_after s (home_lines c seg loop.outer i kind key test body) 0 w) sender_out.fault
   sending-turn =
       by-fault sender_out (lines_after s (home_lines c seg loop.outer i kind key test body) 0 w) sender_out.fault
-      (turn-ends c seg registers fields loop i kind key test body s w r is-each shows (receiver_gives c i finds_here) late-sender GaveHere gave-registers
+      (turn-ends c seg registers fields loop i kind key test body s w r is-each shows through (receiver_gives c i finds_here) (λ r' ts es o. or-cases (through r' ts es) (receiver_gives c i finds_here r' ts es) o (λ z. late-through r' ts es z) (λ z. late-sender r' ts es z)) GaveHere gave-registers
       (Placed c seg loop i s.node s.near.node s.near.edge (length registers) fields kind sent_here s w able.apart able.outer able.inner able.two able.types able.depths) (λ at a e. (at, e, refl))
       (sender-holds c seg loop i s.node s.near.node s.near.edge (length registers) fields kind sent_here s w able.apart able.outer able.inner able.two able.types able.depths)
-      none-given gave-moved table around result able.fits typed able.spares)
+      none-given gave-moved table around result (AreTyped c table around result loop) (parts-are c table around result loop (AtEdge s.near.edge)) (λ st it t. (λ o. t))
+      (through-case c seg loop i s.node s.near.node s.near.edge (length registers) fields kind sent_here s w able.apart able.outer able.inner able.two able.types able.depths table around result limit)
+      fits-so typed able.spares)
 
 pub sending-turns : SendingLinesAreTurns
-sending-turns c seg registers fields loop i kind key test body s w r table around result able typed shows = sending-turn c seg registers fields loop i kind key test body s w r able shows table around result typed
+sending-turns c seg registers fields loop i kind key test body s w r table around result able typed limit shows =
+    sending-turn c seg registers fields loop i kind key test body s w r able shows table around result typed limit

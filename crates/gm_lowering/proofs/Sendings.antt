@@ -23,7 +23,6 @@ use Rattle.gm_ast.specs.Program.{Expr, Stmt}
 use Rattle.gm_ast.specs.Ways.{is_in}
 use Rattle.gm_forms.proofs.Named.{both-true}
 use Rattle.gm_semantics.specs.declared.faults.Fault.{Fault}
-use Rattle.gm_semantics.specs.declared.slots.Slot.{Slot}
 use Rattle.gm_semantics.specs.declared.slots.Slot.TheVariants.{Node}
 use Rattle.gm_semantics.specs.Contributions.{Contribution}
 use Rattle.gm_semantics.specs.Expressions.{View, AllEvaluated, evaluated_all, node_held, fault_at}
@@ -48,12 +47,14 @@ use Rattle.gm_lowering.specs.Sites.{are_of_scalars, finds, same_length, IsInGrap
 use Rattle.gm_lowering.specs.OwnLoops.{AreTyped}
 use Rattle.gm_lowering.specs.Settles.{HasSpot, spot_of_fault}
 use Rattle.gm_lowering.specs.TakingSteps.{Carried}
-use Rattle.gm_lowering.specs.OwnSends.{may_hold_node, sends_through}
+use Rattle.gm_lowering.specs.MessageLoops.{inner_gives}
+use Rattle.gm_lowering.specs.Sent.{may_hold_node, sends_through, sender_gives}
 use Rattle.gm_lowering.proofs.Bodies.{Ends as Ending}
 use Rattle.gm_lowering.proofs.Givens.{node_slots, are_kept, node-slots, node-in, assigned-is}
 use Rattle.gm_lowering.proofs.Kept.{Gives}
 use Rattle.gm_lowering.proofs.Receivers.{nodes-end}
-use Rattle.gm_lowering.proofs.SenderTurns.{sends-way, same-slots, LongAs}
+use Rattle.gm_lowering.proofs.Receiving.{all-weaker, and-last, or-cases, inner-weaker}
+use Rattle.gm_lowering.proofs.Sent.{sends-way, same-slots, LongAs}
 use Rattle.gm_lowering.proofs.Spots.{Has, HoldNodes, Left, Within, spot-left, spot-right, all-read, all-within, all-hoist_nothing}
 
 -- a node of the graph
@@ -131,19 +132,19 @@ does-send c loop m k total r x p at ts es it off kept none =
     ∙ ap (λ z. with_ok it z (λ y. gave_outermost it (contribution total r y))) (assigned-through c u x p at ts (evaluated_all es u) (node_in loop.graph (it.store.scalar x)) kept none refl)
 
 -- a line that sends gives its values
-module _ (c : Layout) (v : Env) (loop : Loop) (s : VertexContext) (run : List Line → ℕ → VertexState → After) (Shows Gave : Iteration → VertexState → Type 0) (kind : ℕ) (all : List Away) (Here : List Slot → Type 0)
+module _ (c : Layout) (v : Env) (loop : Loop) (s : VertexContext) (run : List Line → ℕ → VertexState → After) (Shows Gave : Iteration → VertexState → Type 0) (kind : ℕ) (all : List Away) (Here : Contribution → Type 0)
     (fine : (it : Iteration) (w : VertexState) → Shows it w → it.fault ≡ None)
     (gave_failed : (it : Iteration) (w : VertexState) (f : Fault) → Shows it w → Gave (failed it f) w)
     (send_runs : (first : ℕ) (to : Term) (terms : List Term) (ls : List Line) (w : VertexState)
     → run (Send first to terms ∷ ls) 0 w ≡ goes_on (line_ends w (term_value (view s w) to) (λ z. line_ends w (values (view s w) terms) (λ vs. leaves (record w { messages = w.messages ++ messages_to z first vs })))) (λ k u. run ls k u))
-    (sends : (it : Iteration) (w : VertexState) (a : Contribution) (msg : Message) → are_of_scalars a.slots ≡ false → Here a.slots → Carried kind all a msg → msg.to < node_count loop.graph → Shows it w
+    (sends : (it : Iteration) (w : VertexState) (a : Contribution) (msg : Message) → are_of_scalars a.slots ≡ false → Here a → Carried kind all a msg → msg.to < node_count loop.graph → Shows it w
     → Shows (gave_outermost it a) (record w { messages = w.messages ++ msg ∷ [] })) where
   abbrev Ended : List Line → List Line → VertexState → Iteration → Option Fault → Type 0
   Ended = Ending v run Shows Gave
 
   -- a send line gives its values in a message to the node, or faults where there is none
   pub send-by : (first : ℕ) (total : TotalKey) (r : Reduce) (x : ℕ) (t : Target) (ts : List Target) (to : Term) (terms : List Term) (it : Iteration) (w : VertexState) (rest : List Line) (u : View) (at : Place)
-      → Shows it w → are_kept c x (t ∷ ts) ≡ true → ((j : ℕ) → Here (node_slots j (t ∷ ts))) → (l : ℕ) → slice_get all l ≡ Some (record { total = total; reduce = r; targets = t ∷ ts }) → first ≡ kind + l
+      → Shows it w → are_kept c x (t ∷ ts) ≡ true → ((j : ℕ) (ys : List Value) → Here (contribution total r (node_slots j (t ∷ ts), ys))) → (l : ℕ) → slice_get all l ≡ Some (record { total = total; reduce = r; targets = t ∷ ts }) → first ≡ kind + l
       → (o : Option ℕ) → ((j : ℕ) → o ≡ Some j → j < node_count loop.graph) → term_value (view s w) to ≡ answer_of v (then_with (node_held u at o) (λ j. Ok (At (Some j))))
       → (answer : Result (List Value) Fault) → LongAs (t ∷ ts) answer → values (view s w) terms ≡ answer_of v answer
       → let out = out_of total r (t ∷ ts) it u o at answer in Ended (Send first to terms ∷ []) rest w out out.fault
@@ -165,7 +166,7 @@ module _ (c : Layout) (v : Env) (loop : Loop) (s : VertexContext) (run : List Li
       let msg : Message = record { to = j; kind = first; values = xs } in
       subst (Ended (Send first to terms ∷ []) rest w (gave_outermost it a)) (sym (fine it w q)) (
         record w { messages = w.messages ++ msg ∷ [] },
-        sends it w a msg (not-scalars t ts kept) (there j)
+        sends it w a msg (not-scalars t ts kept) (there j xs)
             (record {
               index = l;
               away = record { total = total; reduce = r; targets = t ∷ ts };
@@ -188,6 +189,24 @@ pub sent-of-nodes : (c : Layout) (its : List ℕ) (found : Expr → Bool) (r : R
 sent-of-nodes c its found r [] es j o = absurd (both_ways false refl o)
 sent-of-nodes c its found r (T.Scalar x at ∷ ts) es j o = absurd (both_ways false refl o)
 sent-of-nodes c its found r (T.Property x p at ∷ ts) es j o = refl
+
+-- a weaker test of what is sent
+sends-weaker : (c : Layout) (its : List ℕ) (found other : Expr → Bool) (r : Reduce) (ts : List Target) (es : List Expr) → ((e : Expr) → found e ≡ true → other e ≡ true) → sends_through c its found r ts es ≡ true → sends_through c its other r ts es ≡ true
+sends-weaker c its found other r [] es f o = absurd (both_ways false refl o)
+sends-weaker c its found other r (T.Scalar x at ∷ ts) es f o = absurd (both_ways false refl o)
+sends-weaker c its found other r (T.Property x p at ∷ ts) es f o =
+    let all = T.Property x p at ∷ ts in
+    and-last (not (is_in its x)) (may_hold_node c x) (are_kept c x all && (same_length all es && list_all found es)) (are_kept c x all && (same_length all es && list_all other es)) o
+    (λ k. and-last (are_kept c x all) (same_length all es) (list_all found es) (list_all other es) k (λ z. all-weaker found other es f z))
+
+pub sender-weaker : (c : Layout) (n i : ℕ) (found other : Expr → Bool) (r : Reduce) (ts : List Target) (es : List Expr) → ((e : Expr) → found e ≡ true → other e ≡ true) → sender_gives c n i found r ts es ≡ true → sender_gives c n i other r ts es ≡ true
+sender-weaker c n i found other r ts es f o =
+    or-cases (inner_gives c i found r ts es) (sends_through c (n ∷ (i ∷ [])) found r ts es) o
+    (λ z. ap (λ b. b || sends_through c (n ∷ (i ∷ [])) other r ts es) (inner-weaker c i found other r ts es f z))
+    (λ z. or-right (inner_gives c i other r ts es) (sends-weaker c (n ∷ (i ∷ [])) found other r ts es f z)) where
+      or-right : {y : Bool} (b : Bool) → y ≡ true → b || y ≡ true
+      or-right true k = refl
+      or-right false k = k
 
 -- what such a reduction leaves, and what it gives, among some iterators
 module _ (c : Layout) (its : List ℕ) (edge at_once : Bool) (n : ℕ) (loop : Loop) (m : Mode) (home : ℕ → ℕ)

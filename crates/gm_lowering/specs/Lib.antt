@@ -25,6 +25,7 @@ pub mod HomeLoops
 pub mod Takings
 pub mod Made
 pub mod TakingSteps
+pub mod Sent
 pub mod SenderTurns
 pub mod SenderSteps
 pub mod OwnSends
@@ -32,4 +33,5 @@ pub mod SenderSupersteps
 pub mod SenderLoops
 pub mod OwnSendLoops
 pub mod ReceiverSends
+pub mod SentBehind
 pub mod ReceiverSendLoops

@@ -28,7 +28,7 @@ use Rattle.gm_lowering.specs.Bodies.{under, lines_of}
 use Rattle.gm_lowering.specs.Blocks.{load_index, receiver_env, receiver_site}
 use Rattle.gm_lowering.specs.Showing.{fault_of}
 use Rattle.gm_lowering.specs.Sites.{are_of_scalars, finds, is_body, given, phase_value, IsInGraph, HoldLocals, HoldProperties, IsApart, is_local, same_length}
-use Rattle.gm_lowering.specs.OwnLoops.{puts_to_scalars, folds_to, PicksTyped, HasSpares}
+use Rattle.gm_lowering.specs.OwnLoops.{puts_to_scalars, folds_to, AreTyped, PicksTyped, HasSpares}
 use Rattle.gm_forms.specs.Typing.{keeps_tuples}
 use Rattle.gm_semantics.specs.declared.slots.Slot.TheVariants.{Scalar}
 use Rattle.gm_typed_stores.specs.Tells.{TypeTable}
@@ -79,6 +79,12 @@ abbrev pub TurnsTyped : Layout → TypeTable → List ℕ → Option VType → L
 TurnsTyped c table its result loop i body r =
     (k j : ℕ) → k < node_count loop.graph → j < node_count loop.graph
     → PicksTyped c table its result loop body (begun (write (write r (Scalar loop.outer) (At (Some k))) (Scalar i) (At (Some j))))
+
+-- an inner body has types in each turn of its loop, whatever it does
+abbrev pub TurnsAreTyped : Layout → TypeTable → List ℕ → Option VType → Loop → ℕ → Stmt → Store → Type 0
+TurnsAreTyped c table its result loop i body r =
+    (k j : ℕ) → k < node_count loop.graph → j < node_count loop.graph
+    → AreTyped c table its result loop body (begun (write (write r (Scalar loop.outer) (At (Some k))) (Scalar i) (At (Some j))))
 
 -- the lines of the handler of a message loop
 abbrev pub handler_lines : Layout → Segment → ℕ → ℕ → List Load → ℕ → Key → Expr → Stmt → List Line

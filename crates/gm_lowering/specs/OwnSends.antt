@@ -1,17 +1,12 @@
 -- Own loops whose bodies send through node variables: the step of a vertex is the loop's iteration, up to what is sent.
-use Rattle.std.specs.Prelude.{◌≡◌, ◌≤◌, ℕ, nat_lt, Bool, true, false, not, ◌&&◌, ◌||◌, Option, Some, None, List, [], ◌∷◌, length, map, filter}
-use Rattle.std.specs.List.{list_all}
+use Rattle.std.specs.Prelude.{◌≡◌, ◌≤◌, ℕ, Bool, true, false, ◌||◌, Option, Some, None, List, [], ◌∷◌, length, map, filter}
 use Rattle.gm_value.specs.declared.values.VType.{VType}
 use Rattle.gm_value.specs.declared.values.Value.{Value}
 use Rattle.gm_value.specs.declared.values.Value.TheVariants.{At}
 use Rattle.gm_value.specs.declared.reductions.Reduce.{Reduce}
 use Rattle.gm_model.specs.Graphs.{NumberedGraph, node_count}
 use Rattle.gm_ast.specs.declared.tree.Key.{Key}
-use Rattle.gm_ast.specs.declared.tree.Sort.TheVariants as Sorts
 use Rattle.gm_ast.specs.declared.tree.Target.{Target}
-use Rattle.gm_ast.specs.declared.tree.Target.TheVariants as T
-use Rattle.gm_ast.specs.Names.{is}
-use Rattle.gm_ast.specs.Ways.{is_in}
 use Rattle.gm_ast.specs.Program.{Expr, Stmt}
 use Rattle.gm_semantics.specs.declared.slots.Slot.TheVariants.{Scalar}
 use Rattle.gm_semantics.specs.Iterations.{Loop, Iteration, begun}
@@ -22,26 +17,15 @@ use Rattle.gm_typed_stores.specs.Tells.{TypeTable}
 use Rattle.gm_image.specs.Program.{Program}
 use Rattle.gm_machine.specs.Machine.{context_at}
 use Rattle.gm_machine.specs.Vertex.{VertexState, After, vertex_after}
-use Rattle.gm_lowering.specs.Layouts.{Layout, is_global, is_register, body_positions}
+use Rattle.gm_lowering.specs.Layouts.{Layout, is_register, body_positions}
 use Rattle.gm_lowering.specs.Places.{Segment}
 use Rattle.gm_lowering.specs.Terms.{Env, own_env}
 use Rattle.gm_lowering.specs.Plans.{Away, aways}
-use Rattle.gm_lowering.specs.Sites.{same_length, is_body, given, HoldProperties, IsApart}
-use Rattle.gm_lowering.specs.OwnLoops.{own_finds, own_sets, own_gives, own_block, is_kept_property, fold_spots, HaveIndices, HasSpares, AreTyped, NodeShows}
+use Rattle.gm_lowering.specs.Sites.{is_body, given, HoldProperties, IsApart}
+use Rattle.gm_lowering.specs.OwnLoops.{own_finds, own_sets, own_gives, own_block, fold_spots, HaveIndices, HasSpares, AreTyped, NodeShows}
 use Rattle.gm_lowering.specs.MessageLoops.{is_to_scalars, is_to_nodes}
 use Rattle.gm_lowering.specs.Settles.{fault_or_none}
-use Rattle.gm_lowering.specs.SenderSteps.{AreSent}
-
--- whether a variable is declared as a scalar, of the procedure or of a loop, or as an iterator, such as that of a For around
-abbrev pub may_hold_node : Layout → ℕ → Bool
-may_hold_node c x = nat_lt x (length c.declarations) && (is Sorts.Scalar (variable_at c.declarations x) || is_global (variable_at c.declarations x))
-
--- a reduction through a node variable that is none of some iterators, one for all its targets, which have fields
-abbrev pub sends_through : Layout → List ℕ → (Expr → Bool) → Reduce → List Target → List Expr → Bool
-sends_through c its found r (T.Property x p at ∷ ts) es =
-    let all = T.Property x p at ∷ ts in
-    not (is_in its x) && (may_hold_node c x && (list_all (is_kept_property c x) all && (same_length all es && list_all found es)))
-sends_through c its found r _ es = false
+use Rattle.gm_lowering.specs.Sent.{sends_through, AreSent}
 
 -- an own body reduces as one that sends nothing, or sends
 abbrev pub sending_gives : Layout → ℕ → (Expr → Bool) → Reduce → List Target → List Expr → Bool

@@ -9,7 +9,7 @@ use Rattle.gm_ast.specs.declared.tree.Head.{Head}
 use Rattle.gm_ast.specs.declared.tree.Key.{Key}
 use Rattle.gm_ast.specs.Program.{Expr, Stmt, Foreach}
 use Rattle.gm_semantics.specs.declared.faults.Fault.{Fault}
-use Rattle.gm_semantics.specs.Contributions.{Contribution, total_faults}
+use Rattle.gm_semantics.specs.Contributions.{Contribution, settled_store, total_faults}
 use Rattle.gm_semantics.specs.Faults.{lower, somes}
 use Rattle.gm_semantics.specs.Iterations.{Loop}
 use Rattle.gm_semantics.specs.Levels.{nodes}
@@ -30,12 +30,15 @@ use Rattle.gm_lowering.specs.Settles.{HaveRoom}
 use Rattle.gm_lowering.specs.TwoSupersteps.{StepsWithin, HasSender}
 use Rattle.gm_lowering.specs.TakingSteps.{taking_block, IsTaken}
 use Rattle.gm_lowering.specs.SenderLoops.{TwoStepsAre}
-use Rattle.gm_lowering.specs.ReceiverSends.{is_sent, is_received, IsSendingMessageLoop, TurnsAreTyped}
+use Rattle.gm_lowering.specs.MessageLoops.{TurnsAreTyped}
+use Rattle.gm_lowering.specs.ReceiverSends.{is_sent, is_received, IsSendingMessageLoop}
+use Rattle.gm_lowering.specs.SentBehind.{SentBehind}
 
--- what the totals of what is sent may fault with comes behind all other faults of a loop
-abbrev pub SentLast : List ℕ → List Fault → Store → List Contribution → Type 0
+-- what the totals of what is sent may fault with, onto what the rest left, comes behind all other faults of a loop
+abbrev pub SentLast : List (ℕ × ℕ) → List Fault → Store → List Contribution → Type 0
 SentLast out faults r given =
-    (f x : Fault) → IsIn f (faults ++ total_faults r (filter (is_received out) given)) → IsIn x (total_faults r (filter (is_sent out) given)) → lower f x ≡ f
+    let kept = filter (is_received out) given in
+    (f x : Fault) → IsIn f (faults ++ total_faults r kept) → IsIn x (total_faults (settled_store r kept) (filter (is_sent out) given)) → lower f x ≡ f
 
 -- three supersteps end as a parallel loop does: the first one has no fault and leaves the globals, and the other two end so
 abbrev pub ThreeStepsAre : Layout → Env → List Spot → List VType → ℕ → NumberedGraph → List Value → Result Store Fault → Stepped → Stepped → Stepped → Type 0
@@ -45,7 +48,7 @@ ThreeStepsAre c v spots registers fields g globals result first second third =
 -- the three supersteps of a message loop whose receivers send are the loop, where the totals of what is sent come behind all its other faults
 abbrev pub SendingMessageLoopsAreThreeSupersteps : Type 0
 SendingMessageLoopsAreThreeSupersteps =
-    (c : Layout) (p : Program) (fields base q q2 q3 kind : ℕ) (all : List Spot) (loop : Loop) (mask_key : Key) (mask : Expr) (key : Key) (place : Place) (h : Head) (test : Expr) (body : Stmt) (loads : List Load) (out : List ℕ)
+    (c : Layout) (p : Program) (fields base q q2 q3 kind : ℕ) (all : List Spot) (loop : Loop) (mask_key : Key) (mask : Expr) (key : Key) (place : Place) (h : Head) (test : Expr) (body : Stmt) (loads : List Load) (out : List (ℕ × ℕ))
     (globals : List Value) (s : Nodes) (r : Store) (table : TypeTable) (around : List ℕ) (result : Option VType)
     → let inner = Foreach key place h test body in
     let seg = segment base all in
@@ -69,5 +72,6 @@ SendingMessageLoopsAreThreeSupersteps =
     → NodesInGraph c loop.graph r
     → StepsWithin loop.graph h.domain
     → GivesApart (given_in loop mask_key mask inner r)
+    → SentBehind out (given_in loop mask_key mask inner r)
     → SentLast out (somes (map (λ it. it.fault) (map (iteration loop mask_key mask inner r) (nodes loop.graph)))) r (given_in loop mask_key mask inner r)
     → ThreeStepsAre c (receiver_env c seg loop.outer h.iterator loads) all p.registers fields loop.graph globals (parallel loop mask_key mask inner (nodes loop.graph) r) first second third

@@ -1,10 +1,10 @@
--- Two supersteps are a loop that sends along its edges.
-use Rattle.std.specs.Prelude.{◌≡◌, ◌⊎◌, ℕ, Option, Some, None, Result, Err, List, ◌++◌, length, map, filter}
+-- Two supersteps are a loop whose eaches send, along its edges or through node variables.
+use Rattle.std.specs.Prelude.{◌≡◌, ◌⊎◌, ◌≤◌, ℕ, Option, Some, None, Result, Err, List, ◌++◌, length, map, filter}
 use Rattle.gm_base.specs.declared.places.Place.{Place}
 use Rattle.gm_value.specs.declared.values.VType.{VType}
 use Rattle.gm_value.specs.declared.values.Value.{Value}
 use Rattle.gm_value.specs.Bag.{IsIn}
-use Rattle.gm_model.specs.Graphs.{NumberedGraph}
+use Rattle.gm_model.specs.Graphs.{NumberedGraph, node_count}
 use Rattle.gm_ast.specs.declared.tree.Head.{Head}
 use Rattle.gm_ast.specs.declared.tree.Key.{Key}
 use Rattle.gm_ast.specs.Program.{Expr, Stmt, Foreach}
@@ -23,7 +23,7 @@ use Rattle.gm_lowering.specs.Places.{Spot, segment}
 use Rattle.gm_lowering.specs.Terms.{Env, own_env}
 use Rattle.gm_lowering.specs.Plans.{Away, aways}
 use Rattle.gm_lowering.specs.Showing.{fault_of}
-use Rattle.gm_lowering.specs.MessageLoops.{is_to_scalars, is_to_nodes, TurnsTyped}
+use Rattle.gm_lowering.specs.MessageLoops.{is_to_scalars, is_to_nodes, TurnsAreTyped}
 use Rattle.gm_lowering.specs.Phases.{GlobalsApart, NodesInGraph, EdgesShown, Shown, StepIs, GivesApart, given_in}
 use Rattle.gm_lowering.specs.TwoSupersteps.{StepsWithin}
 use Rattle.gm_lowering.specs.Settles.{HasSpot, HaveRoom, spot_of_fault}
@@ -43,7 +43,7 @@ TwoStepsAre c v spots registers fields g globals result first second =
     ((first.fault ≡ None) × StepIs c v spots registers fields g globals result second)
     ⊎ ((f : Fault) × (result ≡ Err f) × (first.fault ≡ Some (fault_of v f)) × HasSpot (spot_of_fault f) spots)
 
--- the two supersteps of a loop that sends along its edges are the loop, where what it picks has types
+-- the two supersteps of a loop whose eaches send are the loop, where body and store have types whose nodes are those of the graph
 abbrev pub SendingLoopsAreTwoSupersteps : Type 0
 SendingLoopsAreTwoSupersteps =
     (c : Layout) (p : Program) (fields base q q2 kind : ℕ) (loop : Loop) (mask_key : Key) (mask : Expr) (key : Key) (place : Place) (h : Head) (test : Expr) (body : Stmt)
@@ -55,7 +55,8 @@ SendingLoopsAreTwoSupersteps =
     let its = map (iteration loop mask_key mask inner r) (nodes loop.graph) in
     HasEach c loop mask h
     → IsSenderLoop c p.registers fields loop h.iterator test body
-    → TurnsTyped c table around result loop h.iterator body r
+    → TurnsAreTyped c table around result loop h.iterator body r
+    → table.limit ≤ node_count loop.graph
     → GlobalsApart c (length globals)
     → HaveRoom base all (length p.places)
     → block_at p q ≡ home_block c seg loop.outer kind mask_key mask h key test body

@@ -1,5 +1,5 @@
--- The step of a vertex whose each sends along its edges is the loop's iteration at its node, up to what is sent.
-use Rattle.std.specs.Prelude.{◌≡◌, ◌<◌, ℕ, Option, List, [], ◌∷◌, map, filter}
+-- The step of a vertex whose each sends, along its edges or through node variables, is the loop's iteration at its node, up to what is sent.
+use Rattle.std.specs.Prelude.{◌≡◌, ◌≤◌, ℕ, Option, List, [], map, filter}
 use Rattle.gm_base.specs.declared.places.Place.{Place}
 use Rattle.gm_value.specs.declared.values.VType.{VType}
 use Rattle.gm_value.specs.declared.values.Value.{Value}
@@ -7,33 +7,26 @@ use Rattle.gm_model.specs.Graphs.{NumberedGraph, node_count}
 use Rattle.gm_ast.specs.declared.tree.Head.{Head}
 use Rattle.gm_ast.specs.declared.tree.Key.{Key}
 use Rattle.gm_ast.specs.Program.{Expr, Stmt, Foreach}
-use Rattle.gm_semantics.specs.Contributions.{Contribution}
 use Rattle.gm_semantics.specs.Iterations.{Loop, Iteration}
 use Rattle.gm_semantics.specs.Loops.{iteration}
 use Rattle.gm_semantics.specs.Stores.{Store}
 use Rattle.gm_typed_stores.specs.Tells.{TypeTable}
 use Rattle.gm_image.specs.Program.{Program}
 use Rattle.gm_machine.specs.Machine.{context_at}
-use Rattle.gm_machine.specs.Vertex.{Message, After, vertex_after}
+use Rattle.gm_machine.specs.Vertex.{After, vertex_after}
 use Rattle.gm_lowering.specs.Layouts.{Layout}
 use Rattle.gm_lowering.specs.Places.{Spot, segment}
 use Rattle.gm_lowering.specs.Terms.{Env, own_env}
 use Rattle.gm_lowering.specs.Plans.{Away, aways}
 use Rattle.gm_lowering.specs.Sites.{given}
 use Rattle.gm_lowering.specs.OwnLoops.{NodeShows}
-use Rattle.gm_lowering.specs.MessageLoops.{is_to_scalars, is_to_nodes, TurnsTyped}
+use Rattle.gm_lowering.specs.MessageLoops.{is_to_scalars, is_to_nodes, TurnsAreTyped}
 use Rattle.gm_lowering.specs.Phases.{EdgesShown}
 use Rattle.gm_lowering.specs.TwoSupersteps.{StepsWithin}
 use Rattle.gm_lowering.specs.Settles.{HasSpot, fault_or_none}
 use Rattle.gm_lowering.specs.HomeSteps.{home_block, each_spots, HasEach}
-use Rattle.gm_lowering.specs.TakingSteps.{Carried}
+use Rattle.gm_lowering.specs.Sent.{AreSent}
 use Rattle.gm_lowering.specs.SenderTurns.{IsSenderLoop}
-
--- contributions are carried by messages to nodes of a graph, one each, in order
-abbrev pub AreSent : ℕ → List Away → NumberedGraph → List Contribution → List Message → Type 0
-AreSent kind as' g [] [] = Unit {0}
-AreSent kind as' g (x ∷ xs) (m ∷ ms) = Carried kind as' x m × (m.to < node_count g) × AreSent kind as' g xs ms
-AreSent kind as' g _ _ = ⊥
 
 -- a vertex does what an iteration does: it has the iteration's fault, puts what goes to scalars, and sends the rest, also before a fault. Its fields are as they were, and the iteration changes no property and defers nothing
 pub record SendsAs (c : Layout) (v : Env) (kind : ℕ) (as' : List Away) (g : NumberedGraph) (fields : List Value) (r : Store) (it : Iteration) (a : After) : Type 0 where
@@ -44,14 +37,15 @@ pub record SendsAs (c : Layout) (v : Env) (kind : ℕ) (as' : List Away) (g : Nu
   pub node : (p k : ℕ) → it.store.node p k ≡ r.node p k
   pub deferred : it.deferred ≡ []
 
--- the step of each vertex with the block of a loop that sends along its edges is the loop's iteration there, where what it picks has types
+-- the step of each vertex with the block of a loop whose eaches send is the loop's iteration there, where body and store have types whose nodes are those of the graph
 abbrev pub SendingStepsAreIterations : Type 0
 SendingStepsAreIterations =
     (c : Layout) (p : Program) (fields base : ℕ) (all : List Spot) (loop : Loop) (kind : ℕ) (mask_key : Key) (mask : Expr) (key : Key) (place : Place) (h : Head) (test : Expr) (body : Stmt)
     (globals values : List Value) (k : ℕ) (r : Store) (table : TypeTable) (its : List ℕ) (result : Option VType)
     → HasEach c loop mask h
     → IsSenderLoop c p.registers fields loop h.iterator test body
-    → TurnsTyped c table its result loop h.iterator body r
+    → TurnsAreTyped c table its result loop h.iterator body r
+    → table.limit ≤ node_count loop.graph
     → ((f : Spot) → HasSpot f (each_spots c loop.outer h.iterator key test body) → HasSpot f all)
     → NodeShows c loop.graph p.registers fields globals values k r
     → EdgesShown c loop.graph r

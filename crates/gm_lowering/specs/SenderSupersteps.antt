@@ -1,10 +1,10 @@
--- The first superstep of a loop that sends along its edges: it puts what goes to scalars, and sends the rest.
-use Rattle.std.specs.Prelude.{◌≡◌, ℕ, Option, List, [], ◌++◌, length, map, filter}
+-- The first superstep of a loop whose eaches send, along its edges or through node variables: it puts what goes to scalars, and sends the rest.
+use Rattle.std.specs.Prelude.{◌≡◌, ◌≤◌, ℕ, Option, List, [], ◌++◌, length, map, filter}
 use Rattle.gm_base.specs.declared.places.Place.{Place}
 use Rattle.gm_value.specs.declared.values.VType.{VType}
 use Rattle.gm_value.specs.declared.values.Value.{Value}
 use Rattle.gm_value.specs.Bag.{IsIn}
-use Rattle.gm_model.specs.Graphs.{NumberedGraph}
+use Rattle.gm_model.specs.Graphs.{NumberedGraph, node_count}
 use Rattle.gm_ast.specs.declared.tree.Head.{Head}
 use Rattle.gm_ast.specs.declared.tree.Key.{Key}
 use Rattle.gm_ast.specs.Program.{Expr, Stmt, Foreach}
@@ -23,14 +23,14 @@ use Rattle.gm_lowering.specs.Layouts.{Layout}
 use Rattle.gm_lowering.specs.Places.{Spot, segment}
 use Rattle.gm_lowering.specs.Terms.{Env, own_env}
 use Rattle.gm_lowering.specs.Plans.{Away, aways}
-use Rattle.gm_lowering.specs.MessageLoops.{is_to_scalars, is_to_nodes, TurnsTyped}
+use Rattle.gm_lowering.specs.MessageLoops.{is_to_scalars, is_to_nodes, TurnsAreTyped}
 use Rattle.gm_lowering.specs.Phases.{GlobalsApart, NodesInGraph, EdgesShown, Shown, OthersKept, GivesApart, given_in}
 use Rattle.gm_lowering.specs.TwoSupersteps.{StepsWithin}
 use Rattle.gm_lowering.specs.Settles.{HasSpot, HaveRoom, spot_of_fault, fault_or_none}
 use Rattle.gm_lowering.specs.HomeSteps.{home_block, HasEach}
 use Rattle.gm_lowering.specs.HomeLoops.{home_spots}
 use Rattle.gm_lowering.specs.SenderTurns.{IsSenderLoop}
-use Rattle.gm_lowering.specs.SenderSteps.{AreSent}
+use Rattle.gm_lowering.specs.Sent.{AreSent}
 
 -- the store whose scalars have taken some contributions
 abbrev pub with_scalars : Store → List Contribution → Store
@@ -45,7 +45,7 @@ pub record Sends (c : Layout) (v : Env) (kind : ℕ) (as' : List Away) (spots : 
   pub others : OthersKept c globals t.globals
   pub count : length t.globals ≡ length globals
 
--- the first superstep of a loop that sends along its edges, where what it picks has types
+-- the first superstep of a loop whose eaches send, where body and store have types whose nodes are those of the graph
 abbrev pub SendingSuperstepsSend : Type 0
 SendingSuperstepsSend =
     (c : Layout) (p : Program) (fields base q kind : ℕ) (loop : Loop) (mask_key : Key) (mask : Expr) (key : Key) (place : Place) (h : Head) (test : Expr) (body : Stmt)
@@ -55,7 +55,8 @@ SendingSuperstepsSend =
     let seg = segment base all in
     HasEach c loop mask h
     → IsSenderLoop c p.registers fields loop h.iterator test body
-    → TurnsTyped c table its result loop h.iterator body r
+    → TurnsAreTyped c table its result loop h.iterator body r
+    → table.limit ≤ node_count loop.graph
     → GlobalsApart c (length globals)
     → HaveRoom base all (length p.places)
     → block_at p q ≡ home_block c seg loop.outer kind mask_key mask h key test body

@@ -18,6 +18,7 @@ ghost use Rattle.gm_lowering.specs.SenderSteps.{SendingStepsAreIterations};
 ghost use Rattle.gm_lowering.specs.SenderSupersteps.{SendingSuperstepsSend};
 ghost use Rattle.gm_lowering.specs.SenderTurns.{SendingLinesAreTurns};
 ghost use Rattle.gm_lowering.specs.Sends.{SendBlocksSend};
+ghost use Rattle.gm_lowering.specs.SentBehind.{LoopsSendBehind};
 ghost use Rattle.gm_lowering.specs.Settles.{ReductionsSettle};
 ghost use Rattle.gm_lowering.specs.Shapes.{LayoutsAreApart, MessageLoopsHaveTwoBlocks, OwnLoopsHaveOneBlock};
 ghost use Rattle.gm_lowering.specs.Showing.{LiveHasItsValue, TermsHaveValues};
@@ -159,10 +160,12 @@ pub fn taking_handlers_take()
 
 /// What a loop gives when it ends is apart where the reductions of its body go together: contributions to one slot are by one
 /// reduction to one target, and those of one statement to one target are of one total. So is what the turns of an inner loop
-/// give at each node.
+/// give at each node. And what receivers send to a property is by later statements than what they reduce to it themselves,
+/// where all that is sent to the property is by later statements than each other reduction to it.
 pub fn bodies_give_apart()
     ensures loops { LoopsGiveApart }
     ensures turns { TurnsGiveApart }
+    ensures behind { LoopsSendBehind }
 {}
 
 /// One superstep of all vertices with a taking block takes what messages carry for reductions: it has the least fault of the
@@ -172,29 +175,30 @@ pub fn taking_blocks_take()
     ensures { TakingBlocksTake }
 {}
 
-/// The lines of an each that reduces to properties of the neighbour are the inner loop's turn at the edge, whatever the turns
-/// before left in the registers: they have the turn's fault; and what they put to scalars and send to the neighbour is what the
-/// turn gives, also before a fault, each message by the kind of its reduction. The fields stay as they were. The body may keep
-/// the better of two values or tuples in its locals, as that of a home loop.
+/// The lines of an each that reduces to properties of the neighbour, or through node variables, are the inner loop's turn at the
+/// edge, whatever the turns before left in the registers: they have the turn's fault; and what they put to scalars and send to
+/// nodes is what the turn gives, also before a fault, each message by the kind of its reduction. The fields stay as they were.
+/// The body may keep the better of two values or tuples in its locals, as that of a home loop. It and the store have the types of
+/// the declarations, and their nodes are the graph's.
 pub fn sending_lines_are_turns()
     ensures { SendingLinesAreTurns }
 {}
 
-/// The step of a vertex with the block of a loop that sends along its edges is the loop's iteration at its node: it has the
-/// iteration's fault, the least of the mask's and the turns'; it puts what the turns give to scalars of the procedure, and sends
-/// what they give to properties of the neighbours, also before a fault. Its fields stay as they were.
+/// The step of a vertex with the block of a loop whose eachs send, along the edges or through node variables, is the loop's
+/// iteration at its node: it has the iteration's fault, the least of the mask's and the turns'; it puts what the turns give to
+/// scalars of the procedure, and sends what they give to properties of nodes, also before a fault. Its fields stay as they were.
 pub fn sending_steps_are_iterations()
     ensures { SendingStepsAreIterations }
 {}
 
-/// The first superstep of all vertices of a loop that sends along its edges puts what goes to scalars of the procedure, and
+/// The first superstep of all vertices of a loop whose eachs send so puts what goes to scalars of the procedure, and
 /// sends the rest: its fault is the least of the iterations' and of the totals of what is put; globals and nodes show what
 /// these leave; messages carry the other contributions, one each; and the other globals keep their values.
 pub fn sending_supersteps_send()
     ensures { SendingSuperstepsSend }
 {}
 
-/// The two supersteps of a loop that sends along its edges are the loop, where the totals of what is sent come behind all its
+/// The two supersteps of a loop whose eachs send so are the loop, where the totals of what is sent come behind all its
 /// other faults: the first has the loop's fault, at the index of its place; or it has none, and the second has the loop's, or
 /// globals and nodes show the store that the loop leaves, no message waits, and the other globals keep their values.
 pub fn sending_loops_are_two_supersteps()
@@ -232,11 +236,11 @@ pub fn sending_receivers_are_turns()
     ensures { SendingReceiversAreTurns }
 {}
 
-/// The three supersteps of a message loop whose receivers send through node variables are the loop, where the totals of what is
-/// sent come behind all its other faults: the first has no fault and leaves the globals; the second has the loop's fault, at the
-/// index of its place; or it has none, and the third has the loop's, or globals and nodes show the store that the loop leaves, no
-/// message waits, and the other globals keep their values. The body and the store have the types of the declarations, and their
-/// nodes are the graph's.
+/// The three supersteps of a message loop whose receivers send through node variables are the loop, where what is sent to a
+/// target is by later statements than what is taken there, and the totals of what is sent come behind all its other faults: the
+/// first has no fault and leaves the globals; the second has the loop's fault, at the index of its place; or it has none, and the
+/// third has the loop's, or globals and nodes show the store that the loop leaves, no message waits, and the other globals keep
+/// their values. The body and the store have the types of the declarations, and their nodes are the graph's.
 pub fn sending_message_loops_are_three_supersteps()
     ensures { SendingMessageLoopsAreThreeSupersteps }
 {}

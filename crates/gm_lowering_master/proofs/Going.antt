@@ -30,6 +30,7 @@ use Rattle.gm_semantics.specs.Levels.{nodes, numbers_from}
 use Rattle.gm_semantics.specs.Loops.{iteration, is_elsewhere, pushes, own_left, parallel}
 use Rattle.gm_semantics.specs.Statements.{State, variable_at}
 use Rattle.gm_semantics.specs.Stores.{Store, write, overlaid}
+use Rattle.gm_semantics.proofs.ContributionLaws.{IsIn-filter}
 use Rattle.gm_image.specs.Program as image
 use Rattle.gm_image.specs.Program.{Block}
 use Rattle.gm_machine.specs.Machine.{Nodes, Stepped, block_at, place_at, superstep, step_ends}
@@ -42,17 +43,16 @@ use Rattle.gm_lowering.specs.Blocks.{Lowered, loop, own_loop, each_loop, message
 use Rattle.gm_lowering.specs.Showing.{fault_of}
 use Rattle.gm_lowering.specs.Sites.{is_body}
 use Rattle.gm_lowering.specs.OwnSends.{sending_gives, IsSendingOwnLoop}
-use Rattle.gm_lowering.specs.SenderSteps.{AreSent}
+use Rattle.gm_lowering.specs.Sent.{AreSent}
 use Rattle.gm_lowering.proofs.OwnSendLoops.{sending-own-loops, first-spotted, first-sent}
 use Rattle.gm_lowering.specs.OwnLoops.{AreTyped, IsOwnLoop, own_block, own_finds, own_sets, own_gives, puts_to_scalars, folds_at_once, are_any, is_kept_property, folds_to, keeps_at_once, PicksTyped}
 use Rattle.gm_lowering.specs.Phases.{GlobalsApart, EdgesShown, StepIs, own_spots, GivesApart, given_in}
 use Rattle.gm_lowering.specs.Settles.{HasSpot, HaveRoom, spot_of_fault}
 use Rattle.gm_lowering.specs.Shown.{ShowOne}
-use Rattle.gm_lowering.specs.MessageLoops.{is_to_scalars, is_to_nodes, IsMessageLoop, sets_nothing, receiver_finds, receiver_gives, is_inner_target, inner_gives, picks_inside, TurnsTyped, tuples_inside}
+use Rattle.gm_lowering.specs.MessageLoops.{is_to_scalars, is_to_nodes, IsMessageLoop, sets_nothing, receiver_finds, receiver_gives, is_inner_target, inner_gives, picks_inside, TurnsTyped, tuples_inside, TurnsAreTyped}
 use Rattle.gm_lowering.specs.Sends.{send_block}
 use Rattle.gm_lowering.specs.Receiving.{receive_block, inner_spots}
 use Rattle.gm_lowering.specs.TwoSupersteps.{IsInside, StepsWithin}
-use Rattle.gm_lowering.specs.ReceiverSends.{TurnsAreTyped}
 use Rattle.gm_lowering.specs.HomeTurns.{IsHomeLoop, home_finds}
 use Rattle.gm_lowering.specs.HomeSteps.{home_block, home_turns, given_inside, HasEach}
 use Rattle.gm_lowering.specs.HomeLoops.{home_spots}
@@ -75,8 +75,7 @@ use Rattle.gm_lowering_master.specs.Follows.{IsFault, StepsAre, IsPoint, LoopGoe
 use Rattle.gm_lowering_master.specs.Going.{phase_loop, GiveApart, OwnLoopsGo, IsOwnSending, OwnSendingLoopsGo, IsMessage, MessageLoopsGo, IsHome, HomeLoopsGo, IsSending, SendingLoopsGo, HasBodySpares}
 use Rattle.gm_lowering_master.proofs.Indices.{place-found}
 use Rattle.gm_lowering_master.proofs.Ranks.{get-within}
-use Rattle.gm_lowering_master.proofs.OwnLast.{own-totals-last}
-use Rattle.gm_lowering_master.proofs.SentLast.{totals-last}
+use Rattle.gm_lowering_master.proofs.OwnLast.{own-totals-last, received-behind}
 use Rattle.gm_lowering_master.proofs.Standing.{get-is-index_or}
 use Rattle.gm_lowering.proofs.OwnFolds.{fold-way}
 use Rattle.gm_lowering.proofs.OwnFacts.{keep-way}
@@ -596,15 +595,15 @@ module _ (s : Setting) (at : L.At) (k : Key) (place : Place) (outer : Head) (mas
       let first = superstep s.image g at.block globals held in
       let second = superstep s.image g (suc at.block) first.globals first.nodes in
       let each : HasEach c' loops mask h = record { neighbours = m.nested.neighbours; owner = m.nested.owner; found = m.masked } in
-      let typed = typed-turns s is' its k place outer mask j inner_place h test body state point in
+      let typed = are-typed-turns s is' its k place outer mask j inner_place h test body state point in
       let room = have-room s.image.places at.place spots places in
       let begins = get-is-index_or s.image.blocks at.block block _ blocks.0 in
       let sends =
       sending-supersteps c' s.image (length s.image.fields) at.place at.block at.kind loops k mask j inner_place h test body globals held state.store s.table (h.iterator ∷ (outer.iterator ∷ its)) s.result
-      each able typed (globals-apart s is' globals between.count) room begins between.shown between.edges point.in_graph (steps-inside g h.domain is'.graph) (apart its state point) in
+      each able typed is'.limit (globals-apart s is' globals between.count) room begins between.shown between.edges point.in_graph (steps-inside g h.domain is'.graph) (apart its state point) in
       let law =
       sending-loops c' s.image (length s.image.fields) at.place at.block (suc at.block) at.kind loops k mask j inner_place h test body globals held state.store s.table (h.iterator ∷ (outer.iterator ∷ its)) s.result
-      each able typed (globals-apart s is' globals between.count) room begins between.shown between.edges point.in_graph (steps-inside g h.domain is'.graph) (apart its state point)
+      each able typed is'.limit (globals-apart s is' globals between.count) room begins between.shown between.edges point.in_graph (steps-inside g h.domain is'.graph) (apart its state point)
       (get-is-index_or s.image.blocks (suc at.block) takes _ blocks.1.0) m.taken (last its state globals held point sends) in
       ⊎_elim
       (λ (o : (first.fault ≡ None) × StepIs c' (own_env c' seg n) spots s.image.registers (length s.image.fields) g globals (meant state) second).
@@ -674,15 +673,15 @@ pub sending-loops-go : SendingLoopsGo
 sending-loops-go s at k place outer mask j inner_place h test body is' m spares apart last =
     sending-goes s at k place outer mask j inner_place h test body is' m spares apart (λ its state globals held point sends. last its state point)
 
--- totals of what is sent come last where none of the loop's spots comes behind theirs
+-- and so where eaches send
 pub last-sending-loops-go : (s : Setting) (at : L.At) (k : Key) (place : Place) (outer : Head) (mask : Expr) (j : Key) (inner_place : Place) (h : Head) (test : Expr) (body : Stmt)
     → IsSetting s → IsSending s.frame.layout outer.iterator k mask j h test body → HasBodySpares s body → GiveApart s k place outer mask (S.Foreach j inner_place h test body)
-    → ((a : Away) → IsIn a (aways s.frame.layout.declarations outer.iterator body) → (z : Spot) → IsIn z (home_spots s.frame.layout outer.iterator h.iterator k mask j test body) → spot_lt (spot_of_total a.total) z ≡ false)
+    → ((a : Away) → IsIn a (aways s.frame.layout.declarations outer.iterator body) → can_overflow a.reduce ≡ true → (z : Spot) → IsIn z (home_spots s.frame.layout outer.iterator h.iterator k mask j test body) → spot_lt (spot_of_total a.total) z ≡ false)
     → LoopGoes s at k place outer mask (S.Foreach j inner_place h test body)
 last-sending-loops-go s at k place outer mask j inner_place h test body is' m spares apart ends =
     sending-goes s at k place outer mask j inner_place h test body is' m spares apart (λ its state globals held point sends.
-    totals-last at.kind (aways s.frame.layout.declarations outer.iterator body) s.run.graph (home_spots s.frame.layout outer.iterator h.iterator k mask j test body) state.store
-    (somes (map (λ it. it.fault) (map (iteration (phase_loop s outer.iterator (S.Foreach j inner_place h test body)) k mask (S.Foreach j inner_place h test body) state.store) (nodes s.run.graph))))
-    (given_in (phase_loop s outer.iterator (S.Foreach j inner_place h test body)) k mask (S.Foreach j inner_place h test body) state.store)
-    (superstep s.image s.run.graph at.block globals held).nodes.sent
-    m.shows sends.spotted sends.sent (λ a i. ((m.taken a i).spotted, ends a i)))
+    let given = given_in (phase_loop s outer.iterator (S.Foreach j inner_place h test body)) k mask (S.Foreach j inner_place h test body) state.store in
+    λ f x i l.
+    received-behind s is' its k place outer mask (S.Foreach j inner_place h test body) state point at.kind (aways s.frame.layout.declarations outer.iterator body) (home_spots s.frame.layout outer.iterator h.iterator k mask j test body)
+    m.shows (apart its state point) (λ a w. ((m.taken a w).spotted, ends a w)) f (filter is_to_nodes given) (superstep s.image s.run.graph at.block globals held).nodes.sent
+    (sends.spotted f i) sends.sent (λ y w. (IsIn-filter is_to_nodes y given w).0) x l)

@@ -15,7 +15,7 @@ use Rattle.gm_forms.specs.Cut.{can_overflow}
 use Rattle.gm_forms.specs.Typing.{type_at, has_type, is_typed_in}
 use Rattle.gm_forms.specs.Uses.{uses_in, uses_of, uses_of_head}
 use Rattle.gm_semantics.specs.declared.faults.Fault.{Fault}
-use Rattle.gm_semantics.specs.Contributions.{Contribution, total_faults}
+use Rattle.gm_semantics.specs.Contributions.{Contribution, total_faults, settled_store}
 use Rattle.gm_semantics.specs.Faults as F
 use Rattle.gm_semantics.specs.Faults.{lower, joined}
 use Rattle.gm_semantics.specs.Iterations.{Iteration, Outermost, does}
@@ -32,9 +32,10 @@ use Rattle.gm_lowering.specs.Phases.{GivesApart, given_in}
 use Rattle.gm_lowering.specs.Places.{Spot, spot_lt, spot_of_total}
 use Rattle.gm_lowering.specs.Plans.{Away}
 use Rattle.gm_lowering.specs.SenderLoops.{TotalsLast}
-use Rattle.gm_lowering.specs.SenderSteps.{AreSent}
+use Rattle.gm_lowering.specs.Sent.{AreSent}
 use Rattle.gm_lowering.specs.Settles.{HasSpot, spot_of_fault}
 use Rattle.gm_lowering.specs.Shown.{ShowOne}
+use Rattle.gm_typed_stores.proofs.Settling.{settled-values}
 use Rattle.gm_typed_stores.specs.Stores.{IsTypedStore, IsGraphBelow, IsTypedContribution, IsTypedIteration, IsTypedLoop}
 use Rattle.gm_typed_stores.specs.Tells.{TypeTable, takes_nodes, tells, tells_in}
 use Rattle.gm_typed_stores.specs.Values.{IsValue, Each}
@@ -139,7 +140,15 @@ module _ (s : Setting) (is' : IsSetting s) (its : List ℕ) (k : Key) (place : P
       part-behind (own_left state.store (nodes s.run.graph) turns) (left-typed s.table its h.iterator (nodes s.run.graph) turns state.store each-turn point.typed.store)
       (filter is_to_nodes given) ms (λ y l. (IsIn-filter is_to_nodes y given l).0) sent f (spotted f i) x j
 
-  -- what receivers send
+  -- what is sent when nothing is set before
   pub received-behind : (f : Fault) (cs : List Contribution) (ms : List Message) → HasSpot (spot_of_fault f) spots → AreSent kind sends s.run.graph cs ms → ((y : Contribution) → IsIn y cs → IsIn y given)
       → (x : Fault) → IsIn x (total_faults state.store cs) → lower f x ≡ f
   received-behind f cs ms has sent part x j = part-behind state.store point.typed.store cs ms part sent f has x j
+
+  -- and when a part of what is given was taken before
+  pub taken-behind : (f : Fault) (before cs : List Contribution) (ms : List Message) → HasSpot (spot_of_fault f) spots → AreSent kind sends s.run.graph cs ms → ((y : Contribution) → IsIn y before → IsIn y given)
+      → ((y : Contribution) → IsIn y cs → IsIn y given) → (x : Fault) → IsIn x (total_faults (settled_store state.store before) cs) → lower f x ≡ f
+  taken-behind f before cs ms has sent first part x j =
+      part-behind (settled_store state.store before)
+      (settled-values s.table its state.store before (each-of (IsTypedContribution s.table) before (λ y i. in-each (IsTypedContribution s.table) given y (given-typed s.table its h.iterator turns each-turn) (first y i))) point.typed.store)
+      cs ms part sent f has x j

@@ -29,7 +29,9 @@ use Rattle.gm_lowering.specs.Sites.{is_body, is_local, same_length}
 use Rattle.gm_lowering.specs.OwnLoops.{are_any, own_finds, own_sets, own_gives, is_kept_property, HasSpares}
 use Rattle.gm_lowering.specs.Phases.{own_spots}
 use Rattle.gm_lowering.specs.OwnSends.{sending_gives}
-use Rattle.gm_lowering.specs.ReceiverSends.{receiver_sends}
+use Rattle.gm_lowering.specs.Sent.{sender_gives}
+use Rattle.gm_lowering.specs.ReceiverSends.{tells_sent}
+use Rattle.gm_lowering.specs.SentBehind.{made_stands}
 use Rattle.gm_lowering.specs.MessageLoops.{receiver_finds, sets_nothing, inner_gives}
 use Rattle.gm_lowering.specs.Receiving.{inner_spots}
 use Rattle.gm_lowering.specs.TwoSupersteps.{is_readable}
@@ -40,15 +42,16 @@ use Rattle.gm_lowering.specs.Shown.{ShowOne}
 use Rattle.gm_lowering.specs.TakingSteps.{IsTaken}
 use Rattle.gm_lowering.specs.Lowered as L
 use Rattle.gm_lowering.specs.Lowered.{part, past, lines_on, places_on, deeper, test_lines}
-use Rattle.gm_lowering.specs.Made.{gives_apart}
+use Rattle.gm_lowering.specs.Made.{made, gives_apart}
 use Rattle.gm_lowering.proofs.Made.{loops-give-apart, turns-give-apart}
+use Rattle.gm_lowering.proofs.SentBehind.{loops-send-behind}
 use Rattle.gm_lowering.proofs.Orders.{lt-itself, lt-tie}
 use Rattle.gm_lowering.proofs.Receiving.{or-cases}
 use Rattle.gm_lowering_master.specs.Cells.{Setting, IsSetting, HasSpareGlobals}
 use Rattle.gm_lowering_master.specs.Follows.{tells, LoopGoes, LoopsGo}
 use Rattle.gm_lowering_master.specs.Going.{phase_loop, GiveApart, AreNested, HasBodySpares, HasPhaseSpares, is_phase_target, IsPick}
 use Rattle.gm_lowering_master.specs.Whole.{setting}
-use Rattle.gm_lowering_master.specs.Plain.{same_place, shows_with, all_show_one, is_neighbours, reads_no_local, own_goes, is_sent_well, is_sent_through, own_sending_goes, are_nested, message_goes, home_goes, is_same_spot, is_last_among, is_sent_last, sending_goes, sent_properties, receiver_sending_goes, loop_goes, pick_goes, is_plain, PlainLoopsGo, PlainProgramsRun}
+use Rattle.gm_lowering_master.specs.Plain.{same_place, shows_with, all_show_one, is_neighbours, reads_no_local, own_goes, is_sent_well, is_sent_through, own_sending_goes, are_nested, message_goes, home_goes, is_same_spot, sending_goes, sent_parts, receiver_sending_goes, loop_goes, pick_goes, is_plain, PlainLoopsGo, PlainProgramsRun}
 use Rattle.gm_lowering_master.proofs.Going.{own-loops-go, last-own-sending-loops-go, message-loops-go, home-loops-go, last-sending-loops-go}
 use Rattle.gm_lowering_master.proofs.ReceiverGoing.{last-receiver-sending-loops-go}
 use Rattle.gm_lowering_master.proofs.Inside.{runs-are-followed}
@@ -112,16 +115,6 @@ all-in p [] x h i = absurd i
 all-in p (y ∷ ys) x h i =
     let q = both-true (p y) (list_all p ys) h in
     ⊎_elim (λ (e : x ≡ y). ap p e ∙ q.0) (λ (k : IsIn x ys). all-in p ys x q.1 k) i
-
-sent-last : (c : Layout) (n : ℕ) (spots : List Spot) (a : Away) → is_sent_last c n spots a ≡ true
-    → IsTaken c spots a × ((z : Spot) → IsIn z spots → spot_lt (spot_of_total a.total) z ≡ false)
-sent-last c n spots a o =
-    let last = spot_of_total a.total in
-    let q = both-true (are_any a.targets) (list_all (is_kept_property c n) a.targets && is_last_among spots last) o in
-    let r = both-true (list_all (is_kept_property c n) a.targets) (is_last_among spots last) q.1 in
-    let t = both-true (list_any (is_same_spot last) spots) (list_all (λ z. not (spot_lt last z)) spots) r.1 in
-    let taken : IsTaken c spots a = record { owner = n; some = q.0; kept = r.0; spotted = spot-told last spots t.0 } in
-    (taken, λ z i. not-true (spot_lt last z) (all-in (λ z. not (spot_lt last z)) spots z t.1 i))
 
 -- one that is sent well
 sent-well : (c : Layout) (n : ℕ) (spots : List Spot) (a : Away) → is_sent_well c n spots a ≡ true
@@ -282,10 +275,10 @@ module _ (s : Setting) (is' : IsSetting s) where
     sending-goes : AreNested c n h → HasBodySpares s body → gives_apart c.declarations n inner ≡ true → sending_goes c n k mask j h test body ≡ true → LoopGoes s at k place outer mask inner
     sending-goes nested spares apart o =
         let found = home_finds c n h.iterator in
-        let fits = is_body c found sets_nothing (inner_gives c h.iterator found) body in
+        let fits = is_body c found sets_nothing (sender_gives c n h.iterator found) body in
         let spots = home_spots c n h.iterator k mask j test body in
         let sends = aways c.declarations n body in
-        let last = list_all (is_sent_last c h.iterator spots) sends in
+        let last = list_all (λ a. is_sent_through c spots a a.targets) sends in
         let a1 = both-true (is_here c.declarations n h test body) (own_finds c n mask && (reads_no_local c test && (found test && (fits && (all_show_one spots && (are_any sends && last)))))) o in
         let a2 = both-true (own_finds c n mask) (reads_no_local c test && (found test && (fits && (all_show_one spots && (are_any sends && last))))) a1.1 in
         let a3 = both-true (reads_no_local c test) (found test && (fits && (all_show_one spots && (are_any sends && last)))) a2.1 in
@@ -293,6 +286,7 @@ module _ (s : Setting) (is' : IsSetting s) where
         let a5 = both-true fits (all_show_one spots && (are_any sends && last)) a4.1 in
         let a6 = both-true (all_show_one spots) (are_any sends && last) a5.1 in
         let a7 = both-true (are_any sends) last a6.1 in
+        let each = λ (a : Away) (i : IsIn a sends). sent-through c spots a a.targets (all-in (λ a. is_sent_through c spots a a.targets) sends a a7.1 i) in
         last-sending-loops-go s at k place outer mask j inner_place h test body is'
         (record {
           nested = nested;
@@ -302,12 +296,12 @@ module _ (s : Setting) (is' : IsSetting s) where
           found = a4.0;
           fits = a5.0;
           sends = a7.0;
-          taken = λ a i. (sent-last c h.iterator spots a (all-in (is_sent_last c h.iterator spots) sends a a7.1 i)).0;
+          taken = λ a i. (each a i).0;
           shows = show-one spots a6.0;
         })
         spares
         (give-apart k place outer mask inner apart)
-        (λ a i z l. (sent-last c h.iterator spots a (all-in (is_sent_last c h.iterator spots) sends a a7.1 i)).1 z l)
+        (λ a i e z l. (each a i).1 e z l)
 
     receiver-sending-goes : AreNested c n h → HasBodySpares s body → gives_apart c.declarations n inner ≡ true → receiver_sending_goes c n k mask j h test body ≡ true → LoopGoes s at k place outer mask inner
     receiver-sending-goes nested spares apart o =
@@ -315,18 +309,22 @@ module _ (s : Setting) (is' : IsSetting s) where
         let found = receiver_finds c n h.iterator loads in
         let spots = spots_in mask k ++ inner_spots c n h.iterator j test body in
         let sends = aways c.declarations h.iterator body in
-        let out = sent_properties sends in
-        let fits = is_body c found sets_nothing (receiver_sends c n h.iterator out found) body in
+        let out = sent_parts sends in
+        let fits = is_body c found sets_nothing (sender_gives c n h.iterator found) body in
+        let told = tells_sent c.declarations h.iterator out body in
+        let behind = list_all (made_stands out) (made c.declarations n true body) in
         let last = list_all (λ a. is_sent_through c spots a a.targets) sends in
         let r1 = all_show_one spots && (are_any sends && last) in
-        let r2 = not (are_any (spots_in mask k)) && (list_all (is_readable c) loads && (found test && (fits && r1))) in
+        let r2 = not (are_any (spots_in mask k)) && (list_all (is_readable c) loads && (found test && (fits && (told && (behind && r1))))) in
         let a1 = both-true (not (is_here c.declarations n h test body)) (own_finds c n mask && r2) o in
         let a3 = both-true (own_finds c n mask) r2 a1.1 in
-        let a4 = both-true (not (are_any (spots_in mask k))) (list_all (is_readable c) loads && (found test && (fits && r1))) a3.1 in
-        let a5 = both-true (list_all (is_readable c) loads) (found test && (fits && r1)) a4.1 in
-        let a6 = both-true (found test) (fits && r1) a5.1 in
-        let a7 = both-true fits r1 a6.1 in
-        let a8 = both-true (all_show_one spots) (are_any sends && last) a7.1 in
+        let a4 = both-true (not (are_any (spots_in mask k))) (list_all (is_readable c) loads && (found test && (fits && (told && (behind && r1))))) a3.1 in
+        let a5 = both-true (list_all (is_readable c) loads) (found test && (fits && (told && (behind && r1)))) a4.1 in
+        let a6 = both-true (found test) (fits && (told && (behind && r1))) a5.1 in
+        let a7 = both-true fits (told && (behind && r1)) a6.1 in
+        let b1 = both-true told (behind && r1) a7.1 in
+        let b2 = both-true behind r1 b1.1 in
+        let a8 = both-true (all_show_one spots) (are_any sends && last) b2.1 in
         let a9 = both-true (are_any sends) last a8.1 in
         let each = λ (a : Away) (i : IsIn a sends). sent-through c spots a a.targets (all-in (λ a. is_sent_through c spots a a.targets) sends a a9.1 i) in
         last-receiver-sending-loops-go s at k place outer mask j inner_place h out test body is'
@@ -338,12 +336,14 @@ module _ (s : Setting) (is' : IsSetting s) where
           readable = a5.0;
           found = a6.0;
           fits = a7.0;
+          told = b1.0;
           sends = a9.0;
           taken = λ a i. (each a i).0;
           shows = show-one spots a8.0;
         })
         spares
         (give-apart k place outer mask inner apart)
+        (λ its state point. loops-send-behind c.declarations (phase_loop s n inner) k mask inner state.store out depth-is apart b2.0)
         (λ a i e z l. (each a i).1 e z l)
 
     inner-goes : HasBodySpares s body → loop_goes c n k mask inner ≡ true → LoopGoes s at k place outer mask inner

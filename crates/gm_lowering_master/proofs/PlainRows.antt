@@ -142,23 +142,43 @@ sum_behind = refl
 sum_behind_least : behind_by reduce.Min (Binary two.Add (at 1 5) (property 9 1) (int 1)) ≡ true
 sum_behind_least = refl
 
--- the filter of a loop that sends may fault, where its number is below that of the totals
-abbrev goes : ℕ → Bool
-goes k =
+-- the filter of a loop that sends along its edges may fault, where its number is below that of the totals of Sums and Products
+abbrev goes : ℕ → Reduce → Bool
+goes k r =
     let test = Binary two.Lt (at 7 45) (Binary two.Add (at 7 40) (variable 5) (int 1)) (int 9) in
-    loop_goes (layout hops) 6 (key 11) (property 6 3) (neighbours k 7 6 test (reduces 13 (at 7 60) reduce.Min (to_property 7 2) (variable 5) ∷ []))
+    loop_goes (layout hops) 6 (key 11) (property 6 3) (neighbours k 7 6 test (reduces 13 (at 7 60) r (to_property 7 2) (variable 5) ∷ []))
 
-filter_leads : goes 12 ≡ true
+filter_leads : goes 12 reduce.Sum ≡ true
 filter_leads = refl
 
-filter_follows : goes 14 ≡ false
+filter_follows : goes 14 reduce.Sum ≡ false
 filter_follows = refl
+
+filter_follows_least : goes 14 reduce.Min ≡ true
+filter_follows_least = refl
+
+-- what eachs send through node variables is plain
+abbrev eachs_by : List Stmt → Bool
+eachs_by rest = loop_goes (layout marks) 9 (key 4) always (Foreach (key 5) (at 1 3) (over 10 InNbrs 9) always (sequence (Declare (key 6) 17 (Some (property 9 7)) ∷ rest)))
+
+through_local : eachs_by (reduces 9 (at 1 8) reduce.Sum (to_property 17 4) (property 9 1) ∷ []) ≡ true
+through_local = refl
+
+-- but beside no property of the outer node, and where nothing that may fault comes behind the total of a Sum or a Product
+own_besides : eachs_by (reduces 7 (at 1 6) reduce.Sum (to_property 9 3) (property 9 1) ∷ reduces 9 (at 1 8) reduce.Sum (to_property 17 4) (property 9 1) ∷ []) ≡ false
+own_besides = refl
+
+scalar_behind : eachs_by (reduces 9 (at 1 8) reduce.Sum (to_property 17 4) (property 9 1) ∷ reduces 10 (at 1 9) reduce.Max (scalar 5) (property 9 1) ∷ []) ≡ false
+scalar_behind = refl
+
+scalar_behind_least : eachs_by (reduces 9 (at 1 8) reduce.Min (to_property 17 4) (property 9 1) ∷ reduces 10 (at 1 9) reduce.Max (scalar 5) (property 9 1) ∷ []) ≡ true
+scalar_behind_least = refl
 
 -- what the receivers of messages send through node variables is plain
 marks_facts : facts marks ≡ true ∷ true ∷ []
 marks_facts = refl
 
--- but to other properties than they reduce themselves, and where nothing that may fault comes behind the total of a Sum or a Product
+-- but behind what they reduce to the same properties themselves, and where nothing that may fault comes behind the total of a Sum or a Product
 abbrev marks_by : List Stmt → Bool
 marks_by rest = loop_goes (layout marks) 9 (key 4) always (Foreach (key 5) (at 1 3) (over 10 InNbrs 9) always (sequence (Declare (key 6) 17 (Some (property 10 7)) ∷ rest)))
 
@@ -168,8 +188,11 @@ sent_alone = refl
 other_properties : marks_by (reduces 7 (at 1 6) reduce.Sum (to_property 10 3) (property 9 1) ∷ reduces 9 (at 1 8) reduce.Sum (to_property 17 4) (property 9 1) ∷ []) ≡ true
 other_properties = refl
 
-one_property : marks_by (reduces 7 (at 1 6) reduce.Sum (to_property 10 4) (property 9 1) ∷ reduces 9 (at 1 8) reduce.Sum (to_property 17 4) (property 9 1) ∷ []) ≡ false
+one_property : marks_by (reduces 7 (at 1 6) reduce.Sum (to_property 10 4) (property 9 1) ∷ reduces 9 (at 1 8) reduce.Sum (to_property 17 4) (property 9 1) ∷ []) ≡ true
 one_property = refl
+
+one_property_before : marks_by (reduces 7 (at 1 6) reduce.Min (to_property 17 4) (property 9 1) ∷ reduces 9 (at 1 8) reduce.Min (to_property 10 4) (property 9 1) ∷ []) ≡ false
+one_property_before = refl
 
 total_behind : marks_by (reduces 9 (at 1 8) reduce.Sum (to_property 17 4) (property 9 1) ∷ reduces 10 (at 1 9) reduce.Sum (to_property 10 3) (property 9 1) ∷ []) ≡ false
 total_behind = refl

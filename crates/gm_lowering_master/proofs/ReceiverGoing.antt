@@ -39,13 +39,14 @@ use Rattle.gm_lowering_master.specs.Runs.{StandsAt}
 use Rattle.gm_lowering_master.specs.Cells.{Setting, IsSetting, Between}
 use Rattle.gm_forms.specs.Cut.{can_overflow}
 use Rattle.gm_lowering_master.specs.Follows.{StepsAre, LoopGoes}
-use Rattle.gm_lowering_master.specs.Going.{phase_loop, GiveApart, HasBodySpares, IsReceiverSending, ReceiversTotalsLast, ReceiverSendingLoopsGo}
+use Rattle.gm_lowering_master.specs.Going.{phase_loop, GiveApart, HasBodySpares, IsReceiverSending, ReceiversSendBehind, ReceiversTotalsLast, ReceiverSendingLoopsGo}
 use Rattle.gm_lowering_master.proofs.Going.{have-room, globals-apart, are-typed-turns, fault-shown, step-is, depth-is, type-is, edges-stay, rest_of, GoesAs, steps-inside}
-use Rattle.gm_lowering_master.proofs.OwnLast.{received-behind}
+use Rattle.gm_lowering_master.proofs.OwnLast.{taken-behind}
 use Rattle.gm_lowering_master.proofs.Standing.{get-is-index_or}
 
-module _ (s : Setting) (at : L.At) (k : Key) (place : Place) (outer : Head) (mask : Expr) (j : Key) (inner_place : Place) (h : Head) (out : List ℕ) (test : Expr) (body : Stmt) (is' : IsSetting s)
-    (m : IsReceiverSending s.frame.layout outer.iterator k mask j h out test body) (spares : HasBodySpares s body) (apart : GiveApart s k place outer mask (S.Foreach j inner_place h test body)) where
+module _ (s : Setting) (at : L.At) (k : Key) (place : Place) (outer : Head) (mask : Expr) (j : Key) (inner_place : Place) (h : Head) (out : List (ℕ × ℕ)) (test : Expr) (body : Stmt) (is' : IsSetting s)
+    (m : IsReceiverSending s.frame.layout outer.iterator k mask j h out test body) (spares : HasBodySpares s body) (apart : GiveApart s k place outer mask (S.Foreach j inner_place h test body))
+    (behind : ReceiversSendBehind s k place outer mask j inner_place h out test body) where
   abbrev c : Layout
   c = s.frame.layout
 
@@ -98,6 +99,7 @@ module _ (s : Setting) (at : L.At) (k : Key) (place : Place) (outer : Head) (mas
     depths = depth-is s is';
     found = m.found;
     fits = m.fits;
+    told = m.told;
     spares = spares;
   }
 
@@ -155,20 +157,21 @@ module _ (s : Setting) (at : L.At) (k : Key) (place : Place) (outer : Head) (mas
       (⊎_elim
       (λ (l : ReceiversTotalsLast s k place outer mask j inner_place h out test body).
       sending-message-loops c s.image (length s.image.fields) at.place at.block (suc at.block) (suc (suc at.block)) at.kind spots loops k mask j inner_place h test body loads out globals held state.store s.table around s.result
-      sender able typed is'.limit globals_are refl room one two three m.taken between.shown between.edges point.in_graph steps (apart its state point) (l its state point))
+      sender able typed is'.limit globals_are refl room one two three m.taken between.shown between.edges point.in_graph steps (apart its state point) (behind its state point) (l its state point))
       (λ (l : NoneBehind).
       message-loops-by-spots c s.image (length s.image.fields) at.place at.block (suc at.block) (suc (suc at.block)) at.kind spots loops k mask j inner_place h test body loads out globals held state.store s.table around s.result
-      sender able typed is'.limit globals_are refl room one two three m.taken between.shown between.edges point.in_graph steps (apart its state point)
-      (received-behind s is' its k place outer mask inner state point (suc at.kind) sends spots m.shows (apart its state point) (λ a w. ((m.taken a w).spotted, l a w))))
+      sender able typed is'.limit globals_are refl room one two three m.taken between.shown between.edges point.in_graph steps (apart its state point) (behind its state point)
+      (taken-behind s is' its k place outer mask inner state point (suc at.kind) sends spots m.shows (apart its state point) (λ a w. ((m.taken a w).spotted, l a w))))
       last))
 
 pub receiver-sending-loops-go : ReceiverSendingLoopsGo
-receiver-sending-loops-go s at k place outer mask j inner_place h out test body is' m spares apart last =
-    receiver-sending-goes s at k place outer mask j inner_place h out test body is' m spares apart (inl last)
+receiver-sending-loops-go s at k place outer mask j inner_place h out test body is' m spares apart behind last =
+    receiver-sending-goes s at k place outer mask j inner_place h out test body is' m spares apart behind (inl last)
 
-pub last-receiver-sending-loops-go : (s : Setting) (at : L.At) (k : Key) (place : Place) (outer : Head) (mask : Expr) (j : Key) (inner_place : Place) (h : Head) (out : List ℕ) (test : Expr) (body : Stmt)
+pub last-receiver-sending-loops-go : (s : Setting) (at : L.At) (k : Key) (place : Place) (outer : Head) (mask : Expr) (j : Key) (inner_place : Place) (h : Head) (out : List (ℕ × ℕ)) (test : Expr) (body : Stmt)
     → IsSetting s → IsReceiverSending s.frame.layout outer.iterator k mask j h out test body → HasBodySpares s body → GiveApart s k place outer mask (S.Foreach j inner_place h test body)
+    → ReceiversSendBehind s k place outer mask j inner_place h out test body
     → ((a : Away) → IsIn a (aways s.frame.layout.declarations h.iterator body) → can_overflow a.reduce ≡ true → (z : Spot) → IsIn z (spots_in mask k ++ inner_spots s.frame.layout outer.iterator h.iterator j test body) → spot_lt (spot_of_total a.total) z ≡ false)
     → LoopGoes s at k place outer mask (S.Foreach j inner_place h test body)
-last-receiver-sending-loops-go s at k place outer mask j inner_place h out test body is' m spares apart last =
-    receiver-sending-goes s at k place outer mask j inner_place h out test body is' m spares apart (inr last)
+last-receiver-sending-loops-go s at k place outer mask j inner_place h out test body is' m spares apart behind last =
+    receiver-sending-goes s at k place outer mask j inner_place h out test body is' m spares apart behind (inr last)

@@ -1,37 +1,28 @@
 -- Totals of what is sent come behind all other faults of a loop where none of its spots comes behind theirs.
-use Rattle.std.proofs.Common.{◌≡◌, ℕ, zero, suc, Bool, true, false, Option, Some, None, Result, Ok, Err, List, [], ◌∷◌, ◌++◌, map, refl, ap, ◌∙◌, sym, subst, arith, ⊎_elim, inl, inr}
-use Rattle.std.specs.Prelude.{filter, nat_eq, slice_get}
-use Rattle.std.proofs.lemmas.Bool.{both_ways}
+use Rattle.std.proofs.Common.{◌≡◌, ℕ, zero, suc, Bool, true, false, Some, List, [], ◌∷◌, map, refl, ap, ◌∙◌, sym, arith, ⊎_elim, inl, inr}
+use Rattle.std.specs.Prelude.{slice_get}
 use Rattle.std.proofs.lemmas.Bool.Decides.{nat_tests}
 use Rattle.gm_base.specs.declared.places.Place.{Place}
 use Rattle.gm_value.specs.declared.faults.FaultKind.{FaultKind}
 use Rattle.gm_value.specs.declared.faults.FaultKind.TheVariants.{DivideByZero, NilNode, Overflow}
-use Rattle.gm_value.specs.declared.values.Value.{Value}
 use Rattle.gm_value.specs.Bag.{IsIn}
 use Rattle.gm_value.specs.Faults.{fault_number}
-use Rattle.gm_value.specs.Taking.{of_rank}
 use Rattle.gm_model.specs.Graphs.{NumberedGraph}
 use Rattle.gm_ast.specs.declared.tree.TotalKey.{TotalKey}
 use Rattle.gm_ast.specs.Keys.{fault_lt}
 use Rattle.gm_semantics.specs.declared.faults.Fault.{Fault}
-use Rattle.gm_semantics.specs.declared.slots.Slot.{Slot}
-use Rattle.gm_semantics.specs.Contributions.{Contribution, statement_of, to_target, target_taken, target_fault, fault_in, total_faults}
+use Rattle.gm_semantics.specs.Contributions.{Contribution}
 use Rattle.gm_semantics.specs.Faults as F
 use Rattle.gm_semantics.specs.Faults.{lower, comes_before, rank_of}
-use Rattle.gm_semantics.specs.Stores.{Store, slots_eq}
-use Rattle.gm_semantics.proofs.ContributionLaws.{IsIn-filter}
 use Rattle.gm_semantics.proofs.LeastLaws.{lower-first}
 use Rattle.gm_forms.proofs.CutLaws.{fault-order}
 use Rattle.gm_machine.specs.Vertex.{Message}
 use Rattle.gm_lowering.specs.Places.{Spot, spot_lt, spot_of_total}
 use Rattle.gm_lowering.specs.Plans.{Away}
-use Rattle.gm_lowering.specs.MessageLoops.{is_to_scalars, is_to_nodes}
 use Rattle.gm_lowering.specs.Settles.{HasSpot, spot_of_fault}
-use Rattle.gm_lowering.specs.SenderLoops.{TotalsLast}
-use Rattle.gm_lowering.specs.SenderSteps.{AreSent}
+use Rattle.gm_lowering.specs.Sent.{AreSent}
 use Rattle.gm_lowering.specs.Shown.{ShowOne}
 use Rattle.gm_lowering.proofs.Orders.{lt-tie, tied-rank}
-use Rattle.gm_lowering.proofs.Settles.{somes-in, least-is}
 
 found-in : {A : Type 0} (xs : List A) (i : ℕ) (x : A) → slice_get xs i ≡ Some x → IsIn x xs
 found-in [] i x e = cc
@@ -47,22 +38,6 @@ spot-within z (s ∷ ss) h = ⊎_elim (λ (e : s ≡ z). inl (sym e)) (λ (j : H
 pub from-map : {A B : Type 0} (f : A → B) (xs : List A) (y : B) → IsIn y (map f xs) → (x : A) × IsIn x xs × (y ≡ f x)
 from-map f [] y i = absurd i
 from-map f (x ∷ xs) y i = ⊎_elim (λ (e : y ≡ f x). (x, inl refl, e)) (λ (j : IsIn y (map f xs)). let q = from-map f xs y j in (q.0, inr q.1, q.2)) i
-
--- a fault of totals is that of the total of a contribution
-total-of : (r : Store) (cs : List Contribution) (f : Fault) → IsIn f (total_faults r cs) → (y : Contribution) × IsIn y cs × (f ≡ F.total_fault y.total)
-total-of r cs f i =
-    let q = somes-in (λ (x : Contribution). target_fault r cs x.slots) cs f i in
-    by q.0.slots (target_taken r cs q.0.slots) q.2 where
-      by : (slots : List Slot) (q : Result (List Value) ℕ) → fault_in (to_target slots cs) q ≡ Some f → (y : Contribution) × IsIn y cs × (f ≡ F.total_fault y.total)
-      by slots (Ok vs) e = absurd (both_ways false refl (ap is_one e)) where
-        is_one : Option Fault → Bool
-        is_one None = false
-        is_one (Some z) = true
-      by slots (Err st) e =
-          let l = least-is (map (λ (y : Contribution). F.total_fault y.total) (of_rank statement_of st (to_target slots cs))) f e in
-          let q = from-map (λ (y : Contribution). F.total_fault y.total) (of_rank statement_of st (to_target slots cs)) f l.is_in in
-          let w = IsIn-filter (λ (y : Contribution). nat_eq (statement_of y) st) q.0 (to_target slots cs) q.1 in
-          (q.0, (IsIn-filter (λ (y : Contribution). slots_eq slots y.slots) q.0 cs w.0).0, q.2)
 
 -- what is sent is of one of the reductions
 pub sent-by : (kind : ℕ) (sends : List Away) (g : NumberedGraph) (cs : List Contribution) (ms : List Message) → AreSent kind sends g cs ms → (y : Contribution) → IsIn y cs
@@ -95,22 +70,3 @@ behind spots shows f t has own none = lower-first f (F.total_fault t) (by (fault
       let same : (spot_of_fault f).fault ≡ (spot_of_total t).fault = lt-tie (spot_of_fault f).fault (spot_of_total t).fault e (none (spot_of_fault f) (spot-within (spot_of_fault f) spots has)) in
       tied-rank f (F.total_fault t) same
       ∙ last-kind f.kind t.shown f.shown (shows (spot_of_fault f) (spot_of_total t) (spot-within (spot_of_fault f) spots has) (spot-within (spot_of_total t) spots own) same)
-
--- a fault that has a spot comes before those of the totals of what messages carry
-pub sent-behind : (kind : ℕ) (sends : List Away) (g : NumberedGraph) (spots : List Spot) (r : Store) (cs : List Contribution) (ms : List Message)
-    → ShowOne spots
-    → AreSent kind sends g cs ms
-    → ((a : Away) → IsIn a sends → HasSpot (spot_of_total a.total) spots × ((s : Spot) → IsIn s spots → spot_lt (spot_of_total a.total) s ≡ false))
-    → (f : Fault) → HasSpot (spot_of_fault f) spots → (x : Fault) → IsIn x (total_faults r cs) → lower f x ≡ f
-sent-behind kind sends g spots r cs ms shows sent ends f has x j =
-    let y = total-of r cs x j in
-    let a = sent-by kind sends g cs ms sent y.0 y.1 in
-    subst (λ z. lower f z ≡ f) (sym (y.2 ∙ ap F.total_fault a.2)) (behind spots shows f a.0.total has (ends a.0 a.1).0 (ends a.0 a.1).1)
-
-pub totals-last : (kind : ℕ) (sends : List Away) (g : NumberedGraph) (spots : List Spot) (r : Store) (faults : List Fault) (given : List Contribution) (ms : List Message)
-    → ShowOne spots
-    → ((f : Fault) → IsIn f (faults ++ total_faults r (filter is_to_scalars given)) → HasSpot (spot_of_fault f) spots)
-    → AreSent kind sends g (filter is_to_nodes given) ms
-    → ((a : Away) → IsIn a sends → HasSpot (spot_of_total a.total) spots × ((s : Spot) → IsIn s spots → spot_lt (spot_of_total a.total) s ≡ false))
-    → TotalsLast faults r given
-totals-last kind sends g spots r faults given ms shows spotted sent ends f x i j = sent-behind kind sends g spots r (filter is_to_nodes given) ms shows sent ends f (spotted f i) x j

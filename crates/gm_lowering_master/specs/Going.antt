@@ -35,8 +35,10 @@ use Rattle.gm_lowering.specs.Shown.{ShowOne}
 use Rattle.gm_lowering.specs.Lowered as L
 use Rattle.gm_lowering.specs.OwnSends.{sending_gives}
 use Rattle.gm_lowering.specs.TakingSteps.{IsTaken}
+use Rattle.gm_lowering.specs.Sent.{sender_gives}
 use Rattle.gm_lowering.specs.SenderLoops.{TotalsLast}
-use Rattle.gm_lowering.specs.ReceiverSends.{receiver_sends}
+use Rattle.gm_lowering.specs.ReceiverSends.{tells_sent}
+use Rattle.gm_lowering.specs.SentBehind.{SentBehind}
 use Rattle.gm_lowering.specs.ReceiverSendLoops.{SentLast}
 use Rattle.gm_lowering_master.specs.Cells.{Setting, IsSetting, HasSpareGlobals, is_scalar}
 use Rattle.gm_lowering_master.specs.Follows.{tells, IsPoint, LoopGoes, StatementGoes}
@@ -171,14 +173,14 @@ HomeLoopsGo =
     → GiveApartInside s k place outer mask j inner_place h test body
     → LoopGoes s at k place outer mask inner
 
--- a loop that sends along its edges: the mask is found at the node; the filter reads no locals; and filter and body are found at the node, but for the neighbour itself and the edge's values. It reduces to scalars of the procedure and to the neighbour's properties, by one reduction at least, whose totals are among its spots, and at once to its locals
+-- a loop whose eaches send: the mask is found at the node; the filter reads no locals; and filter and body are found at the node, but for the neighbour itself and the edge's values. It reduces to scalars of the procedure, to the neighbour's properties and through node variables, sends by one reduction at least, whose totals are among its spots, and reduces at once to its locals
 pub record IsSending (c : Layout) (n : ℕ) (k : Key) (mask : Expr) (j : Key) (h : Head) (test : Expr) (body : Stmt) : Type 0 where
   pub nested : AreNested c n h
   pub each : is_here c.declarations n h test body ≡ true
   pub masked : own_finds c n mask ≡ true
   pub plain : (x : ℕ) → is_local c x ≡ true → reads_scalar x test ≡ false
   pub found : home_finds c n h.iterator test ≡ true
-  pub fits : is_body c (home_finds c n h.iterator) sets_nothing (inner_gives c h.iterator (home_finds c n h.iterator)) body ≡ true
+  pub fits : is_body c (home_finds c n h.iterator) sets_nothing (sender_gives c n h.iterator (home_finds c n h.iterator)) body ≡ true
   pub sends : are_any (aways c.declarations n body) ≡ true
   pub taken : (a : Away) → IsIn a (aways c.declarations n body) → IsTaken c (home_spots c n h.iterator k mask j test body) a
   pub shows : ShowOne (home_spots c n h.iterator k mask j test body)
@@ -200,21 +202,29 @@ SendingLoopsGo =
     → SentTotalsLast s k place outer mask j inner_place h test body
     → LoopGoes s at k place outer mask inner
 
--- a message loop whose receivers send through node variables: as one whose receivers do not, and it reduces besides through node variables, by one reduction at least, whose totals are among its spots; no property to which it reduces so is reduced at a receiver
-pub record IsReceiverSending (c : Layout) (n : ℕ) (k : Key) (mask : Expr) (j : Key) (h : Head) (out : List ℕ) (test : Expr) (body : Stmt) : Type 0 where
+-- a message loop whose receivers send through node variables: as one whose receivers do not, and it reduces besides through node variables, by one reduction at least, whose totals are among its spots; properties and statements tell which reductions these are
+pub record IsReceiverSending (c : Layout) (n : ℕ) (k : Key) (mask : Expr) (j : Key) (h : Head) (out : List (ℕ × ℕ)) (test : Expr) (body : Stmt) : Type 0 where
   pub nested : AreNested c n h
   pub away : is_here c.declarations n h test body ≡ false
   pub masked : own_finds c n mask ≡ true
   pub quiet : spots_in mask k ≡ []
   pub readable : list_all (is_readable c) (carried n test body) ≡ true
   pub found : receiver_finds c n h.iterator (carried n test body) test ≡ true
-  pub fits : is_body c (receiver_finds c n h.iterator (carried n test body)) sets_nothing (receiver_sends c n h.iterator out (receiver_finds c n h.iterator (carried n test body))) body ≡ true
+  pub fits : is_body c (receiver_finds c n h.iterator (carried n test body)) sets_nothing (sender_gives c n h.iterator (receiver_finds c n h.iterator (carried n test body))) body ≡ true
+  pub told : tells_sent c.declarations h.iterator out body ≡ true
   pub sends : are_any (aways c.declarations h.iterator body) ≡ true
   pub taken : (a : Away) → IsIn a (aways c.declarations h.iterator body) → IsTaken c (spots_in mask k ++ inner_spots c n h.iterator j test body) a
   pub shows : ShowOne (spots_in mask k ++ inner_spots c n h.iterator j test body)
 
+-- what its receivers send to a property comes behind what they reduce to it themselves, at each point where it begins
+abbrev pub ReceiversSendBehind : Setting → Key → Place → Head → Expr → Key → Place → Head → List (ℕ × ℕ) → Expr → Stmt → Type 0
+ReceiversSendBehind s k place outer mask j inner_place h out test body =
+    let inner = Foreach j inner_place h test body in
+    (its : List ℕ) (state : State) → IsPoint s its (Foreach k place outer mask inner) state
+    → SentBehind out (given_in (phase_loop s outer.iterator inner) k mask inner state.store)
+
 -- the totals of what its receivers send come behind all its other faults, at each point where it begins
-abbrev pub ReceiversTotalsLast : Setting → Key → Place → Head → Expr → Key → Place → Head → List ℕ → Expr → Stmt → Type 0
+abbrev pub ReceiversTotalsLast : Setting → Key → Place → Head → Expr → Key → Place → Head → List (ℕ × ℕ) → Expr → Stmt → Type 0
 ReceiversTotalsLast s k place outer mask j inner_place h out test body =
     let inner = Foreach j inner_place h test body in
     let loop = phase_loop s outer.iterator inner in
@@ -224,8 +234,9 @@ ReceiversTotalsLast s k place outer mask j inner_place h out test body =
 -- the three supersteps of such a loop are the loop, where there are spare registers for its tuples
 abbrev pub ReceiverSendingLoopsGo : Type 0
 ReceiverSendingLoopsGo =
-    (s : Setting) (at : L.At) (k : Key) (place : Place) (outer : Head) (mask : Expr) (j : Key) (inner_place : Place) (h : Head) (out : List ℕ) (test : Expr) (body : Stmt)
+    (s : Setting) (at : L.At) (k : Key) (place : Place) (outer : Head) (mask : Expr) (j : Key) (inner_place : Place) (h : Head) (out : List (ℕ × ℕ)) (test : Expr) (body : Stmt)
     → let inner = Foreach j inner_place h test body in
     IsSetting s → IsReceiverSending s.frame.layout outer.iterator k mask j h out test body → HasBodySpares s body → GiveApart s k place outer mask inner
+    → ReceiversSendBehind s k place outer mask j inner_place h out test body
     → ReceiversTotalsLast s k place outer mask j inner_place h out test body
     → LoopGoes s at k place outer mask inner

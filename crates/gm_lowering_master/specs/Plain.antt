@@ -27,15 +27,17 @@ use Rattle.gm_lowering.specs.Sites.{is_body, is_local, same_length}
 use Rattle.gm_lowering.specs.OwnLoops.{are_any, own_finds, own_sets, own_gives, is_kept_property}
 use Rattle.gm_lowering.specs.Phases.{own_spots}
 use Rattle.gm_lowering.specs.OwnSends.{sending_gives}
-use Rattle.gm_lowering.specs.ReceiverSends.{receiver_sends}
+use Rattle.gm_lowering.specs.ReceiverSends.{tells_sent}
+use Rattle.gm_lowering.specs.SentBehind.{made_stands}
 use Rattle.gm_lowering.specs.MessageLoops.{receiver_finds, sets_nothing, inner_gives}
 use Rattle.gm_lowering.specs.Receiving.{inner_spots}
 use Rattle.gm_lowering.specs.TwoSupersteps.{is_readable}
 use Rattle.gm_lowering.specs.HomeTurns.{home_finds}
 use Rattle.gm_lowering.specs.HomeLoops.{home_spots}
+use Rattle.gm_lowering.specs.Sent.{sender_gives}
 use Rattle.gm_lowering.specs.Lowered as L
 use Rattle.gm_lowering.specs.Lowered.{lowered}
-use Rattle.gm_lowering.specs.Made.{gives_apart}
+use Rattle.gm_lowering.specs.Made.{made, gives_apart}
 use Rattle.gm_lowering_master.specs.Cells.{Setting, IsSetting}
 use Rattle.gm_lowering_master.specs.Follows.{tells, is_followed, LoopsGo}
 use Rattle.gm_lowering_master.specs.Going.{HasBodySpares, HasPhaseSpares, is_phase_target}
@@ -69,16 +71,9 @@ own_goes c n k test body =
     && (is_body c (own_finds c n) (own_sets c n) (own_gives c n (own_finds c n)) body
     && (all_show_one (own_spots c n k test body) && gives_apart c.declarations n body)))
 
--- whether a spot is among some, and none of them comes behind it
+-- whether two spots are one
 abbrev pub is_same_spot : Spot → Spot → Bool
 is_same_spot a b = not (spot_lt a b) && (not (spot_lt b a) && same_place a.shown b.shown)
-
-abbrev pub is_last_among : List Spot → Spot → Bool
-is_last_among spots z = list_any (is_same_spot z) spots && list_all (λ s. not (spot_lt z s)) spots
-
--- whether a reduction that is sent goes to properties of an iterator that have fields, and its total is the last of some spots
-abbrev pub is_sent_last : Layout → ℕ → List Spot → Away → Bool
-is_sent_last c i spots a = are_any a.targets && (list_all (is_kept_property c i) a.targets && is_last_among spots (spot_of_total a.total))
 
 -- whether the total of a reduction that is sent is among some spots, and none of them comes behind that of a Sum or a Product. No total of another reduction is out of range
 abbrev pub is_spotted_last : List Spot → Away → Bool
@@ -86,11 +81,11 @@ is_spotted_last spots a =
     let z = spot_of_total a.total in
     list_any (is_same_spot z) spots && (not (can_overflow a.reduce) || list_all (λ s. not (spot_lt z s)) spots)
 
--- whether such a reduction goes to properties of an iterator that have fields
+-- whether such a reduction goes to properties of a variable that have fields
 abbrev pub is_sent_well : Layout → ℕ → List Spot → Away → Bool
 is_sent_well c i spots a = are_any a.targets && (list_all (is_kept_property c i) a.targets && is_spotted_last spots a)
 
--- whether one through a node variable does
+-- whether one does so through its first target's
 abbrev pub is_sent_through : Layout → List Spot → Away → List Target → Bool
 is_sent_through c spots a (T.Property x p at ∷ ts) = is_sent_well c x spots a
 is_sent_through c spots a _ = false
@@ -125,36 +120,38 @@ home_goes c n k mask j h test body =
     is_here c.declarations n h test body && (own_finds c n mask && (reads_no_local c test
     && (found test && (is_body c found sets_nothing (inner_gives c n found) body && all_show_one (home_spots c n h.iterator k mask j test body)))))
 
--- whether a loop sends along its edges, and no spot comes behind the totals of what it sends
+-- whether a loop sends at the outer node, along its edges or through node variables, and no spot comes behind the totals of Sums and Products that it sends
 abbrev pub sending_goes : Layout → ℕ → Key → Expr → Key → Head → Expr → Stmt → Bool
 sending_goes c n k mask j h test body =
     let found = home_finds c n h.iterator in
     let spots = home_spots c n h.iterator k mask j test body in
     let sends = aways c.declarations n body in
     is_here c.declarations n h test body && (own_finds c n mask && (reads_no_local c test
-    && (found test && (is_body c found sets_nothing (inner_gives c h.iterator found) body
-    && (all_show_one spots && (are_any sends && list_all (is_sent_last c h.iterator spots) sends))))))
+    && (found test && (is_body c found sets_nothing (sender_gives c n h.iterator found) body
+    && (all_show_one spots && (are_any sends && list_all (λ a. is_sent_through c spots a a.targets) sends))))))
 
--- the properties to which some reductions are sent
-abbrev pub properties_of : List Target → List ℕ
-properties_of [] = []
-properties_of (T.Scalar x at ∷ ts) = properties_of ts
-properties_of (T.Property x p at ∷ ts) = p ∷ properties_of ts
+-- the properties to which some reductions are sent, each with the statement
+abbrev pub parts_of : ℕ → List Target → List (ℕ × ℕ)
+parts_of k [] = []
+parts_of k (T.Scalar x at ∷ ts) = parts_of k ts
+parts_of k (T.Property x p at ∷ ts) = (p, k) ∷ parts_of k ts
 
-abbrev pub sent_properties : List Away → List ℕ
-sent_properties [] = []
-sent_properties (a ∷ rest) = properties_of a.targets ++ sent_properties rest
+abbrev pub sent_parts : List Away → List (ℕ × ℕ)
+sent_parts [] = []
+sent_parts (a ∷ rest) = parts_of a.total.key.statement a.targets ++ sent_parts rest
 
--- whether a loop goes by messages whose receivers send through node variables, to other properties than they reduce themselves, and no spot comes behind the totals of Sums and Products that they send
+-- whether a loop goes by messages whose receivers send through node variables, behind what they reduce to the same properties themselves, and no spot comes behind the totals of Sums and Products that they send
 abbrev pub receiver_sending_goes : Layout → ℕ → Key → Expr → Key → Head → Expr → Stmt → Bool
 receiver_sending_goes c n k mask j h test body =
     let loads = carried n test body in
     let found = receiver_finds c n h.iterator loads in
     let spots = spots_in mask k ++ inner_spots c n h.iterator j test body in
     let sends = aways c.declarations h.iterator body in
+    let out = sent_parts sends in
     not (is_here c.declarations n h test body) && (own_finds c n mask && (not (are_any (spots_in mask k)) && (list_all (is_readable c) loads
-    && (found test && (is_body c found sets_nothing (receiver_sends c n h.iterator (sent_properties sends) found) body
-    && (all_show_one spots && (are_any sends && list_all (λ a. is_sent_through c spots a a.targets) sends)))))))
+    && (found test && (is_body c found sets_nothing (sender_gives c n h.iterator found) body
+    && (tells_sent c.declarations h.iterator out body && (list_all (made_stands out) (made c.declarations n true body)
+    && (all_show_one spots && (are_any sends && list_all (λ a. is_sent_through c spots a a.targets) sends)))))))))
 
 -- whether a loop over nodes is plain
 abbrev pub loop_goes : Layout → ℕ → Key → Expr → Stmt → Bool

@@ -42,10 +42,11 @@ pub fn runs_are_followed()
 {}
 
 /// The supersteps of an own loop, of a home loop, of a message loop, of one that sends along its edges or through node
-/// variables, and of a message loop whose receivers send through node variables are the loop, at each point of a run where it begins: with the store that it leaves, or with its fault at the
-/// place that the fault shows. The loop finds what it reads where its kind has it, spots of one fault show one place, and what
-/// the loop gives to one slot is by one reduction. Of what is sent the totals come behind all other faults. And the lines of
-/// a reduction that is done at once, by Min or Max in scalars of the procedure, do what it does.
+/// variables, from own statements or from eachs, and of a message loop whose receivers send through node variables are the
+/// loop, at each point of a run where it begins: with the store that it leaves, or with its fault at the place that the fault
+/// shows. The loop finds what it reads where its kind has it, spots of one fault show one place, and what the loop gives to one
+/// slot is by one reduction. Of what is sent the totals come behind all other faults. And the lines of a reduction that is done
+/// at once, by Min or Max in scalars of the procedure, do what it does.
 pub fn loops_go()
     ensures own { OwnLoopsGo }
     ensures message { MessageLoopsGo }
@@ -61,9 +62,10 @@ pub fn loops_go()
 /// where a test of its text says so: it is of own statements that reduce to scalars of the procedure, at once to properties
 /// of their node and to locals, of values or tuples, and through node variables; or it is one inner loop along edges that
 /// reduces to scalars of the procedure and to properties of one node, that at which it is evaluated or its neighbour, and at
-/// once to its locals, by Min or Max, and at the receivers of messages through node variables, to other properties. No other
-/// fault comes behind the totals of what it sends. Between loops scalars of the procedure may keep the better of what they
-/// hold and new values, a tuple at once too.
+/// once to its locals, by Min or Max; at the receivers of messages also through node variables, behind what they reduce to the
+/// same properties; and at the outer node through these, where it reduces to no property of that. No other fault comes behind
+/// the totals of Sums and Products that it sends. Between loops scalars of the procedure may keep the better of what they hold
+/// and new values, a tuple at once too.
 pub fn plain_programs_run()
     ensures loops { PlainLoopsGo }
     ensures runs { PlainProgramsRun }

@@ -28,7 +28,8 @@ use Rattle.gm_semantics.specs.Statements.{variable_at}
 use Rattle.gm_lowering.specs.Layouts.{Layout, layout, is_global, is_register, is_scalar_of, has_field}
 use Rattle.gm_lowering.specs.Sites.{is_local, is_body, same_length}
 use Rattle.gm_lowering.specs.OwnLoops.{are_any, own_finds, own_sets, puts_to_scalars, is_declared, folds_to, folds_at_once, is_kept_property, asks_always, picks_at_once, tuples_at_once, is_own_target, keeps_at_once, own_gives}
-use Rattle.gm_lowering.specs.OwnSends.{may_hold_node, sends_through, sending_gives}
+use Rattle.gm_lowering.specs.Sent.{may_hold_node, sends_through}
+use Rattle.gm_lowering.specs.OwnSends.{sending_gives}
 use Rattle.gm_plain_loops.specs.Tests.{asks_inside, end_together, total_follows, suits_body, goes_well}
 use Rattle.gm_plain_loops.proofs.Names.{Fine, split, role-of, below, has-field, found, all-found, or-split, a-local, declared-scalar}
 

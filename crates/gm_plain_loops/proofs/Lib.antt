@@ -8,6 +8,7 @@ mod Spots
 mod Orders
 mod Sends
 mod Picks
+mod InnerSends
 mod Receivers
 pub mod Plain
 pub mod Running

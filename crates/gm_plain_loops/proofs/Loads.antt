@@ -244,7 +244,7 @@ module _ (p : Program) where
       join-all is_at_edge (loads_in i e) (loads_in i a ++ loads_in i b) (at-edges n i edge e d q.0) (join-all is_at_edge (loads_in i a) (loads_in i b) (at-edges n i edge a d r.0) (at-edges n i edge b d r.1))
   at-edges n i edge (S.Folded w h t e) d f = refl
 
-  module _ (n i : ℕ) (edge : Bool) (apart : nat_eq i n ≡ false) where
+  module _ (n i : ℕ) (edge inner : Bool) (apart : nat_eq i n ≡ false) where
     abbrev both_its : List ℕ
     both_its = n ∷ (i ∷ [])
 
@@ -264,7 +264,7 @@ module _ (p : Program) where
         and_from (finds_here e) (list_all finds_here es) (here e f2.0 g2.0 u2.0 h2.0) (all-here es f2.1 g2.1 u2.1 h2.1)
 
     abbrev suits_here : Stmt → Bool
-    suits_here st = suits_body ds true both_its st
+    suits_here st = suits_body ds inner both_its st
 
     abbrev is_form : Stmt → Bool
     is_form st = is_inner_body ds both_its true st
@@ -289,7 +289,7 @@ module _ (p : Program) where
     body-here (S.Combine k total r ts es) f g u h =
         let f2 = both-true (are_reduced (is_inner_given ds) (is_within ds 2) r ts) (list_all (is_flat both_its true) es) f in
         let g2 = both-true (are_reduced (is_inner_given ds) (is_within ds 2) r ts) (list_all (is_flat (n ∷ []) edge) es) g in
-        let h1 = both-true (list_all (asks_inside ds both_its) es) (list_all (goes_well ds true both_its) ts && (end_together ds ts && total_follows both_its k total ts es)) h in
+        let h1 = both-true (list_all (asks_inside ds both_its) es) (list_all (goes_well ds inner both_its) ts && (end_together ds ts && total_follows both_its k total ts es)) h in
         all-here es f2.1 g2.1 (split p (uses_of_targets ts) (uses_in_all es) u).1 h1.0
     body-here (S.If k e a b) f g u h =
         let f1 = both-true (is_flat both_its true e) (is_form a && is_form b) f in

@@ -37,17 +37,20 @@ use Rattle.gm_lowering.specs.Blocks.{reads_scalar}
 use Rattle.gm_lowering.specs.Bodies.{spots_of}
 use Rattle.gm_lowering.specs.Sites.{is_local, is_body}
 use Rattle.gm_lowering.specs.OwnLoops.{are_any, own_finds, own_sets, own_gives}
-use Rattle.gm_lowering.specs.OwnSends.{sending_gives, sends_through}
-use Rattle.gm_lowering.specs.ReceiverSends.{receiver_sends}
+use Rattle.gm_lowering.specs.Sent.{sends_through, sender_gives}
+use Rattle.gm_lowering.specs.OwnSends.{sending_gives}
+use Rattle.gm_lowering.specs.ReceiverSends.{tells_sent}
+use Rattle.gm_lowering.specs.SentBehind.{made_stands}
 use Rattle.gm_lowering.specs.Phases.{own_spots}
 use Rattle.gm_lowering.specs.HomeLoops.{home_spots}
 use Rattle.gm_lowering.specs.HomeTurns.{home_finds}
 use Rattle.gm_lowering.specs.MessageLoops.{has_load, receiver_finds, sets_nothing, inner_gives}
 use Rattle.gm_lowering.specs.TwoSupersteps.{is_readable}
-use Rattle.gm_lowering.specs.Made.{gives_apart}
-use Rattle.gm_lowering_master.specs.Plain.{all_show_one, is_neighbours, reads_no_local, own_goes, own_sending_goes, is_sent_through, are_nested, message_goes, home_goes, sending_goes, sent_properties, receiver_sending_goes, is_sent_last, loop_goes, is_plain}
+use Rattle.gm_lowering.specs.Made.{made, gives_apart}
+use Rattle.gm_lowering.proofs.FoldFacts.{body-weaker}
+use Rattle.gm_lowering_master.specs.Plain.{all_show_one, is_neighbours, reads_no_local, own_goes, own_sending_goes, is_sent_through, are_nested, message_goes, home_goes, sending_goes, sent_parts, receiver_sending_goes, loop_goes, is_plain}
 use Rattle.gm_plain_loops.specs.Laws.{ReadyIsPlain}
-use Rattle.gm_plain_loops.specs.Tests.{is_around, asks_around, asks_inside, suits_body, sends_any, folds_apart, sends_last, suits_receivers, suits_loop, suits_phase}
+use Rattle.gm_plain_loops.specs.Tests.{is_around, asks_around, asks_inside, suits_body, sends_any, folds_first, sends_last, suits_receivers, suits_loop, suits_phase, suits_senders}
 use Rattle.gm_plain_loops.proofs.Names.{Fine, fine-body, split, role-of, found, or-split, around-inside, global-no-local}
 use Rattle.gm_plain_loops.proofs.Bodies.{own-body}
 use Rattle.gm_plain_loops.proofs.Inners.{goes_to, avoiding, last-here, first-end, second-end, exprs_pass, inner-body}
@@ -56,7 +59,8 @@ use Rattle.gm_plain_loops.proofs.Apart.{inner-apart, own-apart, is_flat_code, al
 use Rattle.gm_plain_loops.proofs.Spots.{no-spots, expr-spots}
 use Rattle.gm_plain_loops.proofs.Orders.{filtered-show, spots-within, part-before}
 use Rattle.gm_plain_loops.proofs.Picks.{pick-plain}
-use Rattle.gm_plain_loops.proofs.Receivers.{all-within, some-sent, sent-at, receiver-body}
+use Rattle.gm_plain_loops.proofs.InnerSends.{sent-at}
+use Rattle.gm_plain_loops.proofs.Receivers.{all-within, some-sent, sender-body, told-body, made-body, parts-property}
 use Rattle.gm_plain_loops.proofs.Sends.{Sent, sent-behind, all-sent, through, adds, own-sent, all_asked, along, edge-sent, edge-some}
 
 -- ---- parts of what is known of a loop
@@ -319,10 +323,10 @@ module _ (p : Program) where
     at-sending w out s =
         let i = h.iterator in
         let loads = carried n test body in
-        let s1 = both-true (not (is_here ds n h test body)) (suits_body ds false its body && (sends_any ds i body && (folds_apart ds i body body && sends_last ds i false body))) s in
-        let s2 = both-true (suits_body ds false its body) (sends_any ds i body && (folds_apart ds i body body && sends_last ds i false body)) s1.1 in
-        let s3 = both-true (sends_any ds i body) (folds_apart ds i body body && sends_last ds i false body) s2.1 in
-        let s4 = both-true (folds_apart ds i body body) (sends_last ds i false body) s3.1 in
+        let s1 = both-true (not (is_here ds n h test body)) (suits_body ds false its body && (sends_any ds i body && (folds_first ds i body body && sends_last ds i false body))) s in
+        let s2 = both-true (suits_body ds false its body) (sends_any ds i body && (folds_first ds i body body && sends_last ds i false body)) s1.1 in
+        let s3 = both-true (sends_any ds i body) (folds_first ds i body body && sends_last ds i false body) s2.1 in
+        let s4 = both-true (folds_first ds i body body) (sends_last ds i false body) s3.1 in
         let away = not-true (is_here ds n h test body) s1.0 in
         let push = or-split (is_home ds n h test body) (is_push ds n h test body) out (λ x. absurd (both_ways (is_here ds n h test body) away (or_left (is_home ds n h test body) (is_senders ds n h test body) x))) (λ x. x) in
         let q = both-true (is_flat its (is_along h.domain) test) (is_inner_body ds its (is_along h.domain) body && avoids n body) push in
@@ -331,6 +335,7 @@ module _ (p : Program) where
         let t : receiver_finds c n i loads test ≡ true = there p n i loads false test w.filter w.uses_test (around-inside ds its test w.asked) cover.0 in
         let b : exprs_pass p (λ e. receiver_finds c n i loads e) body ≡ true = body-there p n i loads false body w.form w.uses_body w.suited cover.1 in
         let sends = aways ds i body in
+        let out = sent_parts sends in
         let found' : Expr → Bool = λ e. receiver_finds c n i loads e in
         let all = spots_in mask k ++ (spots_in test j ++ spots_of c i its false body) in
         and_from (not (is_here ds n h test body)) _ s1.0
@@ -338,16 +343,18 @@ module _ (p : Program) where
         (and_from (not (are_any (spots_in mask k))) _ (ap (λ l. not (are_any l)) (no-spots mask k w.quiet))
         (and_from (list_all (is_readable c) loads) _ (carried-readable p n test body w.uses_test w.uses_body)
         (and_from (receiver_finds c n i loads test) _ t
-        (and_from (is_body c found' sets_nothing (receiver_sends c n i (sent_properties sends) found') body) _
-        (receiver-body p n i found' true body result body w.form b w.uses_body w.typed w.alike w.suited w.spares r.1 s4.0 (λ a l. all-within sends a l))
+        (and_from (is_body c found' sets_nothing (sender_gives c n i found') body) _ (sender-body p n i found' true result body w.form b w.uses_body w.typed w.alike w.suited w.spares r.1)
+        (and_from (tells_sent ds i out body) _ (told-body p n i body body w.alike s4.0 (λ a l. all-within sends a l))
+        (and_from (list_all (made_stands out) (made ds n true body)) _
+        (made-body p n i body (λ e j. parts-property p n i body w.uses_body e j) body w.form w.uses_body w.alike s4.0 (λ a l. all-within sends a l))
         (and_from (all_show_one all) _ (edge-shows false i w)
         (and_from (are_any sends) (list_all (λ (a : Away). is_sent_through c all a a.targets) sends) (some-sent ds i body s3.0)
         (all-sent (adds p i false) (through p i false) all sends (λ a l.
-        let x = sent-at p n i body w.uses_body w.alike w.suited w.ordered false s4.1 a l in
+        let x = sent-at p n i i body w.uses_body w.alike w.suited w.ordered false s4.1 a l in
         subst (λ m. Sent (adds p i false) (through p i false) (m ++ (spots_in test j ++ spots_of c i its false body)) a) (sym (no-spots mask k w.quiet))
         (sent-behind (adds p i false) (through p i false) (spots_in test j) (spots_of c i its false body) a x
         (λ z y. part-before c i its js false (turned h.iterator n) false (faults_in test j) (faults_of js body) z (spot_of_total a.total) w.leads' (expr-spots test j z y).1
-        (spots-within c i its js false (turned h.iterator n) false body (spot_of_total a.total) x.there))))))))))))
+        (spots-within c i its js false (turned h.iterator n) false body (spot_of_total a.total) x.there))))))))))))))
 
     -- at the outer node
     abbrev finds_home : Expr → Bool
@@ -356,7 +363,7 @@ module _ (p : Program) where
     home-fits : Known true → (m : ℕ) → is_inner_body ds (n ∷ []) (is_along h.domain) body ≡ true → goes_to m body ≡ true
         → is_body c finds_home sets_nothing (inner_gives c m finds_home) body ≡ true
     home-fits w m f g =
-        inner-body p finds_home its true m result body w.form (body-here p n h.iterator (is_along h.domain) w.apart body w.form f w.uses_body w.suited) w.uses_body w.typed w.alike w.suited g w.spares
+        inner-body p finds_home its true m result body w.form (body-here p n h.iterator (is_along h.domain) true w.apart body w.form f w.uses_body w.suited) w.uses_body w.typed w.alike w.suited g w.spares
 
     at-home : Known true → is_home ds n h test body ≡ true → home_goes c n k mask j h test body ≡ true
     at-home w home =
@@ -365,7 +372,7 @@ module _ (p : Program) where
         and_from (is_here ds n h test body) _ (or_left (is_home ds n h test body) (is_senders ds n h test body) home)
         (and_from (own_finds c n mask) _ w.masked
         (and_from (reads_no_local c test) _ (no-local its test w.off w.asked)
-        (and_from (finds_home test) _ (here p n h.iterator (is_along h.domain) w.apart test w.filter q.0 w.uses_test (around-inside ds its test w.asked))
+        (and_from (finds_home test) _ (here p n h.iterator (is_along h.domain) true w.apart test w.filter q.0 w.uses_test (around-inside ds its test w.asked))
         (and_from (is_body c finds_home sets_nothing (inner_gives c n finds_home) body) (all_show_one (home_spots c n h.iterator k mask j test body))
         (home-fits w n r.0 (avoiding ds its n h.iterator (first-end n h.iterator) body w.suited r.1)) (edge-shows true n w)))))
 
@@ -380,16 +387,56 @@ module _ (p : Program) where
         and_from (is_here ds n h test body) _ (or_right (is_home ds n h test body) (is_senders ds n h test body) sends)
         (and_from (own_finds c n mask) _ w.masked
         (and_from (reads_no_local c test) _ (no-local its test w.off w.asked)
-        (and_from (finds_home test) _ (here p n h.iterator (is_along h.domain) w.apart test w.filter q.0 w.uses_test (around-inside ds its test w.asked))
-        (and_from (is_body c finds_home sets_nothing (inner_gives c h.iterator finds_home) body) _ (home-fits w h.iterator r.0 (last-here ds h.iterator body r.1))
+        (and_from (finds_home test) _ (here p n h.iterator (is_along h.domain) true w.apart test w.filter q.0 w.uses_test (around-inside ds its test w.asked))
+        (and_from (is_body c finds_home sets_nothing (sender_gives c n h.iterator finds_home) body) _
+        (body-weaker c finds_home finds_home sets_nothing (inner_gives c h.iterator finds_home) (sender_gives c n h.iterator finds_home) (λ e o. o)
+        (λ r' ts es o. or_left (inner_gives c h.iterator finds_home r' ts es) (sends_through c its finds_home r' ts es) o) body (home-fits w h.iterator r.0 (last-here ds h.iterator body r.1)))
         (and_from (all_show_one all) _ (edge-shows true n w)
-        (and_from (are_any (aways ds n body)) (list_all (is_sent_last c h.iterator all) (aways ds n body)) (edge-some p n h.iterator w.apart its js (turned h.iterator n) true result body r.1 w.typed)
+        (and_from (are_any (aways ds n body)) (list_all (λ (a : Away). is_sent_through c all a a.targets) (aways ds n body)) (edge-some p n h.iterator w.apart its js (turned h.iterator n) true result body r.1 w.typed)
         (all-sent asks good all (aways ds n body) (λ a l.
         let x = edge-sent p n h.iterator w.apart its js (turned h.iterator n) true result body r.1 w.uses_body w.typed w.suited w.ordered a l in
         subst (λ m. Sent asks good (m ++ (spots_in test j ++ spots_of c n its false body)) a) (sym (no-spots mask k w.quiet))
         (sent-behind asks good (spots_in test j) (spots_of c n its false body) a x
         (λ z y. part-before c n its js false (turned h.iterator n) true (faults_in test j) (faults_of js body) z (spot_of_total a.total) w.leads' (expr-spots test j z y).1
         (spots-within c n its js false (turned h.iterator n) true body (spot_of_total a.total) x.there)))))))))))
+
+    -- at the outer node, through node variables
+    here-parts : is_here ds n h test body ≡ true → (is_flat (n ∷ []) (is_along h.domain) test ≡ true) × (is_inner_body ds (n ∷ []) (is_along h.domain) body ≡ true)
+    here-parts o =
+        or-split (is_home ds n h test body) (is_senders ds n h test body) o
+        (λ x.
+        let q = both-true (is_flat (n ∷ []) (is_along h.domain) test) (is_inner_body ds (n ∷ []) (is_along h.domain) body && avoids h.iterator body) x in
+        (q.0, (both-true (is_inner_body ds (n ∷ []) (is_along h.domain) body) (avoids h.iterator body) q.1).0))
+        (λ x.
+        let q = both-true (is_flat (n ∷ []) (is_along h.domain) test) (is_inner_body ds (n ∷ []) (is_along h.domain) body && gives_last ds h.iterator body) x in
+        (q.0, (both-true (is_inner_body ds (n ∷ []) (is_along h.domain) body) (gives_last ds h.iterator body) q.1).0))
+
+    through-nodes : Known false → suits_senders ds n h test body ≡ true → sending_goes c n k mask j h test body ≡ true
+    through-nodes w s =
+        let i = h.iterator in
+        let s1 = both-true (is_here ds n h test body) (suits_body ds false its body && (sends_any ds n body && (avoids n body && sends_last ds n false body))) s in
+        let s2 = both-true (suits_body ds false its body) (sends_any ds n body && (avoids n body && sends_last ds n false body)) s1.1 in
+        let s3 = both-true (sends_any ds n body) (avoids n body && sends_last ds n false body) s2.1 in
+        let s4 = both-true (avoids n body) (sends_last ds n false body) s3.1 in
+        let q = here-parts s1.0 in
+        let good = through p n false in
+        let asks = adds p n false in
+        let all = home_spots c n i k mask j test body in
+        let sends = aways ds n body in
+        and_from (is_here ds n h test body) _ s1.0
+        (and_from (own_finds c n mask) _ w.masked
+        (and_from (reads_no_local c test) _ (no-local its test w.off w.asked)
+        (and_from (finds_home test) _ (here p n i (is_along h.domain) false w.apart test w.filter q.0 w.uses_test (around-inside ds its test w.asked))
+        (and_from (is_body c finds_home sets_nothing (sender_gives c n i finds_home) body) _
+        (sender-body p n i finds_home true result body w.form (body-here p n i (is_along h.domain) false w.apart body w.form q.1 w.uses_body w.suited) w.uses_body w.typed w.alike w.suited w.spares s4.0)
+        (and_from (all_show_one all) _ (edge-shows false n w)
+        (and_from (are_any sends) (list_all (λ (a : Away). is_sent_through c all a a.targets) sends) (some-sent ds n body s3.0)
+        (all-sent asks good all sends (λ a l.
+        let x = sent-at p n i n body w.uses_body w.alike w.suited w.ordered false s4.1 a l in
+        subst (λ m. Sent asks good (m ++ (spots_in test j ++ spots_of c n its false body)) a) (sym (no-spots mask k w.quiet))
+        (sent-behind asks good (spots_in test j) (spots_of c n its false body) a x
+        (λ z y. part-before c n its js false (turned h.iterator n) false (faults_in test j) (faults_of js body) z (spot_of_total a.total) w.leads' (expr-spots test j z y).1
+        (spots-within c n its js false (turned h.iterator n) false body (spot_of_total a.total) x.there)))))))))))
 
     edge-goes : Known true → goes_out ds n h test body ≡ true → message_goes c n k mask j h test body || (home_goes c n k mask j h test body || sending_goes c n k mask j h test body) ≡ true
     edge-goes w g = by (is_home ds n h test body) (is_senders ds n h test body) refl refl where
@@ -420,6 +467,11 @@ module _ (p : Program) where
   wider false true d e h = refl
   wider false false true e h = refl
   wider false false false e h = absurd (both_ways false refl h)
+
+  third : (a b d e : Bool) → d ≡ true → a || (b || (d || e)) ≡ true
+  third true b d e h = refl
+  third false true d e h = refl
+  third false false d e h = ap (λ z. z || e) h
 
   widest : (a b d e : Bool) → e ≡ true → a || (b || (d || e)) ≡ true
   widest true b d e h = refl
@@ -453,7 +505,7 @@ module _ (p : Program) where
       let yb = (both-true (has_type ds V.Flag test) (is_typed_in ds result body) y).1 in
       let sh = shared-parts ds n mask inner s in
       let o = inner-parts (n ∷ []) j place h test body (ordered-parts (n ∷ []) k at mask inner ord).0 in
-      let suited = suits_body ds true its2 body || suits_receivers ds n h test body in
+      let suited = suits_body ds true its2 body || (suits_receivers ds n h test body || suits_senders ds n h test body) in
       let s1 = both-true (asks_inside ds (n ∷ []) mask) (asks_around ds its2 test && suited) su in
       let s2 = both-true (asks_around ds its2 test) suited s1.1 in
       let ui = head-iterates h u1.0 in
@@ -479,11 +531,15 @@ module _ (p : Program) where
       (and_from (not (is_register (variable_at ds h.iterator))) _ (iterator-off h.iterator ui)
       (and_from (not (nat_eq h.iterator n)) _ hq.1 (and_from (is_neighbours h.domain) (nat_eq h.owner n) (by-neighbours h.domain hp.0) hq.0))))
       (and_from (gives_apart ds n inner) _ (inner-apart ds n result body yb sh.1 e6.0 sh.0)
-      (or-split (suits_body ds true its2 body) (suits_receivers ds n h test body) s2.1
+      (or-split (suits_body ds true its2 body) (suits_receivers ds n h test body || suits_senders ds n h test body) s2.1
       (λ sb. wider (message_goes c n k mask j h test body) (home_goes c n k mask j h test body) (sending_goes c n k mask j h test body) (receiver_sending_goes c n k mask j h test body)
       (edge-goes n k mask j h test body (known true sb) e2.0))
+      (λ so.
+      or-split (suits_receivers ds n h test body) (suits_senders ds n h test body) so
       (λ sr. widest (message_goes c n k mask j h test body) (home_goes c n k mask j h test body) (sending_goes c n k mask j h test body) (receiver_sending_goes c n k mask j h test body)
-      (at-sending n k mask j h test body (known false (both-true (suits_body ds false its2 body) _ (both-true (not (is_here ds n h test body)) _ sr).1).0) e2.0 sr)))) where
+      (at-sending n k mask j h test body (known false (both-true (suits_body ds false its2 body) _ (both-true (not (is_here ds n h test body)) _ sr).1).0) e2.0 sr))
+      (λ ss. third (message_goes c n k mask j h test body) (home_goes c n k mask j h test body) (sending_goes c n k mask j h test body) (receiver_sending_goes c n k mask j h test body)
+      (through-nodes n k mask j h test body (known false (both-true (suits_body ds false its2 body) _ (both-true (is_here ds n h test body) _ ss).1).0) ss))))) where
         either : (a b : ℕ) → not (is_register (variable_at ds a)) ≡ true → not (is_register (variable_at ds b)) ≡ true → (y : ℕ) → is_in (a ∷ (b ∷ [])) y ≡ true → not (is_register (variable_at ds y)) ≡ true
         either a b u v y i =
             or-split (nat_eq y a) (nat_eq y b || false) i (λ e. ap (λ z. not (is_register (variable_at ds z))) (eqb-true y a e) ∙ u)

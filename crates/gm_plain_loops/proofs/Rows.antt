@@ -210,11 +210,25 @@ folds_what_it_sends = program (
     ∷ Return (key 5) (at 1 5) (Some (variable 5))
     ∷ [])
 
-folds_what_it_sends_tested : tested folds_what_it_sends ≡ true ∷ true ∷ false ∷ []
+folds_what_it_sends_tested : tested folds_what_it_sends ≡ true ∷ true ∷ true ∷ []
 folds_what_it_sends_tested = refl
 
-folds_what_it_sends_facts : facts folds_what_it_sends ≡ true ∷ false ∷ []
+folds_what_it_sends_facts : facts folds_what_it_sends ≡ true ∷ true ∷ []
 folds_what_it_sends_facts = refl
+
+-- Foreach (n: G.Nodes) { Foreach (t: n.Nbrs) { r.a min= t.v; t.a min= n.v; } }: to the same one, behind what is sent
+abbrev sends_what_it_folds : Program
+sends_what_it_folds = program (
+    Foreach (key 1) (at 1 1) (over 9 Nodes 0) always (
+    Foreach (key 2) (at 1 2) (over 10 OutNbrs 9) always (sequence (reduces 3 (at 1 3) reduce.Min (to_property 2 3) (property 10 1) ∷ reduces 4 (at 1 4) reduce.Min (to_property 10 3) (property 9 1) ∷ [])))
+    ∷ Return (key 5) (at 1 5) (Some (variable 5))
+    ∷ [])
+
+sends_what_it_folds_tested : tested sends_what_it_folds ≡ true ∷ true ∷ false ∷ []
+sends_what_it_folds_tested = refl
+
+sends_what_it_folds_facts : facts sends_what_it_folds ≡ true ∷ false ∷ []
+sends_what_it_folds_facts = refl
 
 -- Foreach (n: G.Nodes) { Foreach (t: n.Nbrs) { r.a min= t.v; s max= t.v + n.v; } }: what may fault stands behind what receivers send, the total of which cannot
 abbrev receivers_send_first : Program
@@ -256,11 +270,53 @@ goes_elsewhere_at_home = program (
     ∷ Return (key 4) (at 1 4) (Some (variable 5))
     ∷ [])
 
-goes_elsewhere_at_home_tested : tested goes_elsewhere_at_home ≡ true ∷ true ∷ false ∷ []
+goes_elsewhere_at_home_tested : tested goes_elsewhere_at_home ≡ true ∷ true ∷ true ∷ []
 goes_elsewhere_at_home_tested = refl
 
-goes_elsewhere_at_home_facts : facts goes_elsewhere_at_home ≡ true ∷ false ∷ []
+goes_elsewhere_at_home_facts : facts goes_elsewhere_at_home ≡ true ∷ true ∷ []
 goes_elsewhere_at_home_facts = refl
+
+-- Foreach (n: G.Nodes) { Foreach (t: n.Nbrs) { Node u = n.p; u.a += n.v; } }: through a local of the inner body
+abbrev goes_through_local : Program
+goes_through_local = program (
+    Foreach (key 1) (at 1 1) (over 9 Nodes 0) always (
+    Foreach (key 2) (at 1 2) (over 10 OutNbrs 9) always (sequence (Declare (key 3) 17 (Some (property 9 7)) ∷ reduces 4 (at 1 4) reduce.Sum (to_property 17 3) (property 9 1) ∷ [])))
+    ∷ Return (key 5) (at 1 5) (Some (variable 5))
+    ∷ [])
+
+goes_through_local_tested : tested goes_through_local ≡ true ∷ true ∷ true ∷ []
+goes_through_local_tested = refl
+
+goes_through_local_facts : facts goes_through_local ≡ true ∷ true ∷ []
+goes_through_local_facts = refl
+
+-- Foreach (n: G.Nodes) { Foreach (t: n.Nbrs) { n.b += n.v; r.a += n.v; } }: the outer node reduces to a property of its own too
+abbrev folds_and_sends_at_home : Program
+folds_and_sends_at_home = program (
+    Foreach (key 1) (at 1 1) (over 9 Nodes 0) always (
+    Foreach (key 2) (at 1 2) (over 10 OutNbrs 9) always (sequence (reduces 3 (at 1 3) reduce.Sum (to_property 9 4) (property 9 1) ∷ reduces 4 (at 1 4) reduce.Sum (to_property 2 3) (property 9 1) ∷ [])))
+    ∷ Return (key 5) (at 1 5) (Some (variable 5))
+    ∷ [])
+
+folds_and_sends_at_home_tested : tested folds_and_sends_at_home ≡ true ∷ true ∷ false ∷ []
+folds_and_sends_at_home_tested = refl
+
+folds_and_sends_at_home_facts : facts folds_and_sends_at_home ≡ true ∷ false ∷ []
+folds_and_sends_at_home_facts = refl
+
+-- Foreach (n: G.Nodes) { Foreach (t: n.Nbrs) { r.a += n.v; s max= n.v; } }: a total stands behind a Sum that the outer node sends
+abbrev adds_first_at_home : Program
+adds_first_at_home = program (
+    Foreach (key 1) (at 1 1) (over 9 Nodes 0) always (
+    Foreach (key 2) (at 1 2) (over 10 OutNbrs 9) always (sequence (reduces 3 (at 1 3) reduce.Sum (to_property 2 3) (property 9 1) ∷ reduces 4 (at 1 4) reduce.Max (scalar 5) (property 9 1) ∷ [])))
+    ∷ Return (key 5) (at 1 5) (Some (variable 5))
+    ∷ [])
+
+adds_first_at_home_tested : tested adds_first_at_home ≡ true ∷ true ∷ false ∷ []
+adds_first_at_home_tested = refl
+
+adds_first_at_home_facts : facts adds_first_at_home ≡ true ∷ false ∷ []
+adds_first_at_home_facts = refl
 
 -- For (c: G.Nodes) { Foreach (n: G.Nodes) { c.a += n.v; } }: through the iterator of a For
 abbrev goes_to_turn : Program

@@ -32,7 +32,7 @@ use Rattle.gm_lowering.specs.Plans.{Way, Puts, Folds, Sends, Picks, way_of, is_p
 use Rattle.gm_lowering.specs.Bodies.{target_spots, reduce_spots, spots_of}
 use Rattle.gm_lowering.specs.OwnLoops.{are_any, is_kept_property}
 use Rattle.gm_lowering.proofs.Orders.{lt-itself}
-use Rattle.gm_lowering_master.specs.Plain.{is_same_spot, is_last_among, is_sent_last, is_sent_through, same_place}
+use Rattle.gm_lowering_master.specs.Plain.{is_same_spot, is_sent_through, same_place}
 use Rattle.gm_plain_loops.specs.Tests.{asks_inside, total_follows, suits_body, is_picked, is_sent, is_quiet, adds_any, sends_last}
 use Rattle.gm_plain_loops.proofs.Names.{Fine, split, or-split}
 use Rattle.gm_plain_loops.proofs.Bodies.{all-kept}
@@ -348,11 +348,12 @@ module _ (p : Program) (n i : ℕ) (apart : nat_eq i n ≡ false) (its js : List
   abbrev table2 : List Declaration
   table2 = p.declarations
 
+  -- all are asked to be last
   abbrev pub all_asked : Away → Bool
   all_asked a = true
 
   abbrev pub along : Away → List Spot → Bool
-  along a ys = is_sent_last c2 i ys a
+  along a ys = is_sent_through c2 ys a a.targets
 
   abbrev edge_spots : Stmt → List Spot
   edge_spots st = spots_of c2 n its false st
@@ -437,9 +438,14 @@ module _ (p : Program) (n i : ℕ) (apart : nat_eq i n ≡ false) (its js : List
       → (ys : List Spot) → list_any (is_same_spot (spot_of_total total)) ys ≡ true → (true ≡ true → list_all (λ s. not (spot_lt (spot_of_total total) s)) ys ≡ true)
       → along (record { total = total; reduce = r; targets = ts }) ys ≡ true
   goes-along total r [] y g u ys m l = absurd (both_ways false refl y)
-  goes-along total r (t ∷ ts) y g u ys m l =
-      and_from (list_all (is_kept_property c2 i) (t ∷ ts)) (is_last_among ys (spot_of_total total)) (all-kept p i (t ∷ ts) u (to-through (t ∷ ts) g))
-      (and_from (list_any (is_same_spot (spot_of_total total)) ys) (list_all (λ s. not (spot_lt (spot_of_total total) s)) ys) m (l refl))
+  goes-along total r (T.Scalar x at ∷ ts) y g u ys m l = absurd (both_ways false refl g)
+  goes-along total r (T.Property x q at ∷ ts) y g u ys m l =
+      let all = T.Property x q at ∷ ts in
+      let last = list_all (λ s. not (spot_lt (spot_of_total total) s)) ys in
+      let k = both-true (nat_eq x i) (list_all (is_property_of i) ts) g in
+      let thr : list_all (is_through x) all ≡ true = subst (λ z. list_all (is_through z) all ≡ true) (sym (eqb-true x i k.0)) (to-through all g) in
+      and_from (list_all (is_kept_property c2 x) all) (list_any (is_same_spot (spot_of_total total)) ys && (not (can_overflow r) || last)) (all-kept p x all u thr)
+      (and_from (list_any (is_same_spot (spot_of_total total)) ys) (not (can_overflow r) || last) m (or_right (not (can_overflow r)) last (l refl)))
 
   pub edge-sent : (result : Option VType) (st : Stmt) → gives_last table2 i st ≡ true → Fine p (uses_of st) → is_typed_in table2 result st ≡ true → suit_edge st ≡ true → body_in_order js st ≡ true
       → (a : Away) → IsIn a (aways table2 n st) → Sent all_asked along (edge_spots st) a

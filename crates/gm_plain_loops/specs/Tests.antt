@@ -1,5 +1,5 @@
 -- What is left to ask of a program in the last form of the passes, so that its sequential phases are told by a master list and its loops are plain.
-use Rattle.std.specs.Prelude.{ℕ, nat_eq, Bool, true, false, not, ◌&&◌, ◌||◌, List, [], ◌∷◌}
+use Rattle.std.specs.Prelude.{ℕ, nat_eq, nat_le, Bool, true, false, not, ◌&&◌, ◌||◌, List, [], ◌∷◌}
 use Rattle.std.specs.List.{list_all, list_any}
 use Rattle.gm_ast.specs.declared.tree.Declaration.{Declaration}
 use Rattle.gm_ast.specs.declared.tree.Head.{Head}
@@ -13,7 +13,7 @@ use Rattle.gm_ast.specs.Names.{is}
 use Rattle.gm_ast.specs.Program.{Expr, Var, Live, Unary, Binary, Both, Either, Choose, Stmt, Then, Declare, Assign, Combine, Foreach, For, If, While, Do, Return, Program}
 use Rattle.gm_ast.specs.Ways.{is_in}
 use Rattle.gm_forms.specs.Cut.{can_overflow}
-use Rattle.gm_forms.specs.Forms.{may}
+use Rattle.gm_forms.specs.Forms.{may, avoids}
 use Rattle.gm_forms.specs.Order.{can_fail1, can_fail2, cannot_fail, fault_of}
 use Rattle.gm_semantics.specs.Statements.{variable_at}
 use Rattle.gm_lowering.specs.Layouts.{is_global, has_value, is_scalar_of}
@@ -143,24 +143,24 @@ abbrev pub is_to : ℕ → Target → Bool
 is_to p (T.Scalar x at) = false
 is_to p (T.Property x q at) = nat_eq q p
 
--- whether they send to a property
-abbrev pub sends_to : List Declaration → ℕ → ℕ → Stmt → Bool
-sends_to ds n p (Then a b) = sends_to ds n p a || sends_to ds n p b
-sends_to ds n p (Combine k total r ts es) = is_sent (way_of ds n ts) && list_any (is_to p) ts
-sends_to ds n p (If k c a b) = sends_to ds n p a || sends_to ds n p b
-sends_to ds n p _ = false
+-- whether they send to a property by a statement with a number up to one
+abbrev pub sends_upto : List Declaration → ℕ → ℕ → ℕ → Stmt → Bool
+sends_upto ds n p number (Then a b) = sends_upto ds n p number a || sends_upto ds n p number b
+sends_upto ds n p number (Combine k total r ts es) = is_sent (way_of ds n ts) && (list_any (is_to p) ts && nat_le total.key.statement number)
+sends_upto ds n p number (If k c a b) = sends_upto ds n p number a || sends_upto ds n p number b
+sends_upto ds n p number _ = false
 
--- whether a target is no property to which a body sends
-abbrev pub is_unsent : List Declaration → ℕ → Stmt → Target → Bool
-is_unsent ds n body (T.Scalar x at) = true
-is_unsent ds n body (T.Property x p at) = not (sends_to ds n p body)
+-- whether a target is no property to which a body sends by such a statement
+abbrev pub is_unsent : List Declaration → ℕ → Stmt → ℕ → Target → Bool
+is_unsent ds n body number (T.Scalar x at) = true
+is_unsent ds n body number (T.Property x p at) = not (sends_upto ds n p number body)
 
--- whether statements reduce to no property of the node to which a body sends
-abbrev pub folds_apart : List Declaration → ℕ → Stmt → Stmt → Bool
-folds_apart ds n body (Then a b) = folds_apart ds n body a && folds_apart ds n body b
-folds_apart ds n body (Combine k total r ts es) = not (is_folded (way_of ds n ts)) || list_all (is_unsent ds n body) ts
-folds_apart ds n body (If k c a b) = folds_apart ds n body a && folds_apart ds n body b
-folds_apart ds n body _ = true
+-- whether statements reduce to properties of the node by lesser numbers alone than those by which a body sends to the same ones
+abbrev pub folds_first : List Declaration → ℕ → Stmt → Stmt → Bool
+folds_first ds n body (Then a b) = folds_first ds n body a && folds_first ds n body b
+folds_first ds n body (Combine k total r ts es) = not (is_folded (way_of ds n ts)) || list_all (is_unsent ds n body total.key.statement) ts
+folds_first ds n body (If k c a b) = folds_first ds n body a && folds_first ds n body b
+folds_first ds n body _ = true
 
 -- whether what they send is a Sum or a Product, whose total may be out of range
 abbrev pub adds_any : List Declaration → ℕ → Stmt → Bool
@@ -179,18 +179,25 @@ sends_last ds n sent s = not sent || is_quiet ds n s
 abbrev pub suits_own : List Declaration → ℕ → Expr → Stmt → Bool
 suits_own ds n test body = asks_inside ds (n ∷ []) test && (suits_body ds false (n ∷ []) body && sends_last ds n false body)
 
--- whether an inner loop suits whose receivers send through node variables, Sums and Products at their end, and reduce besides to no property to which they send
+-- whether an inner loop suits whose receivers send through node variables, Sums and Products at their end, and reduce to the same properties before
 abbrev pub suits_receivers : List Declaration → ℕ → Head → Expr → Stmt → Bool
 suits_receivers ds n h test body =
     let its = n ∷ (h.iterator ∷ []) in
     not (is_here ds n h test body)
-    && (suits_body ds false its body && (sends_any ds h.iterator body && (folds_apart ds h.iterator body body && sends_last ds h.iterator false body)))
+    && (suits_body ds false its body && (sends_any ds h.iterator body && (folds_first ds h.iterator body body && sends_last ds h.iterator false body)))
+
+-- whether an inner loop suits that is evaluated at the outer node and sends through node variables, Sums and Products at its end, and reduces to no property of the outer node
+abbrev pub suits_senders : List Declaration → ℕ → Head → Expr → Stmt → Bool
+suits_senders ds n h test body =
+    let its = n ∷ (h.iterator ∷ []) in
+    is_here ds n h test body
+    && (suits_body ds false its body && (sends_any ds n body && (avoids n body && sends_last ds n false body)))
 
 -- whether a loop suits that is one inner loop under a mask
 abbrev pub suits_edges : List Declaration → ℕ → Expr → Head → Expr → Stmt → Bool
 suits_edges ds n mask h test body =
     let its = n ∷ (h.iterator ∷ []) in
-    asks_inside ds (n ∷ []) mask && (asks_around ds its test && (suits_body ds true its body || suits_receivers ds n h test body))
+    asks_inside ds (n ∷ []) mask && (asks_around ds its test && (suits_body ds true its body || (suits_receivers ds n h test body || suits_senders ds n h test body)))
 
 -- whether a loop over nodes suits
 abbrev pub suits_loop : List Declaration → ℕ → Expr → Stmt → Bool

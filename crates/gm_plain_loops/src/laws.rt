@@ -10,8 +10,9 @@ pub fn ready_programs_are_followed()
 
 /// The loops of such a program are plain, where it does no reduction at once in a sequential phase; filters name no locals,
 /// and bodies no graph; the targets of each reduction end together, and its total follows what may fault in its values and
-/// targets; inner loops reduce to properties at the ends of their edges alone; and loops of own statements send through
-/// scalars, and have nothing that may fault behind what they send.
+/// targets; what goes through scalars and iterators around is sent, from own statements, from receivers, behind what they
+/// reduce to the same properties, or from the outer nodes of inner loops, which reduce to no property of their own; and nothing
+/// that may fault stands behind a Sum or a Product that is sent.
 pub fn ready_programs_are_plain()
     ensures { ReadyIsPlain }
 {}

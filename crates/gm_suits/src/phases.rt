@@ -9,9 +9,10 @@ use crate::names::{
     all_ask_around, all_ask_inside, asks_around, asks_inside, may_ask_around, may_ask_inside,
 };
 use crate::reductions::{end_together, go_well, total_follows};
-use crate::sends::{folds_apart, sends_any, sends_last};
+use crate::sends::{folds_first, sends_any, sends_last};
 use gm_ast::forms::Work;
 use gm_ast::tree::{Declaration, Expr, Head, Key, Stmt, Target, TotalKey};
+use gm_facts::ways::avoids;
 use gm_message::{is_global, is_here, variable_at};
 
 // Whether a reduction of a body among some iterators names what it may, goes well, ends together, and has a total that
@@ -93,8 +94,8 @@ fn suits_own(declarations: &[Declaration], node: u32, filter: &Expr, body: &Stmt
             && sends_last(declarations, node, false, body))
 }
 
-// Whether an inner loop suits whose receivers send through node variables, Sums and Products at their end, and reduce besides
-// to no property to which they send.
+// Whether an inner loop suits whose receivers send through node variables, Sums and Products at their end, and reduce to the
+// same properties before.
 fn suits_receivers(
     declarations: &[Declaration],
     node: u32,
@@ -108,8 +109,25 @@ fn suits_receivers(
     !is_here(declarations, node, head, filter, body)
         && (suits_body(declarations, false, &[node, inner], body)
             && (sends_any(declarations, inner, body)
-                && (folds_apart(declarations, inner, body, body)
+                && (folds_first(declarations, inner, body, body)
                     && sends_last(declarations, inner, false, body))))
+}
+
+// Whether an inner loop suits that is evaluated at the outer node and sends through node variables, Sums and Products at its
+// end, and reduces to no property of the outer node.
+fn suits_senders(
+    declarations: &[Declaration],
+    node: u32,
+    head: Head,
+    filter: &Expr,
+    body: &Stmt,
+) -> bool
+    ensures { result ≡ Tests.suits_senders declarations.now node head (expr_of filter.now) (stmt_of body.now) }
+{
+    is_here(declarations, node, head, filter, body)
+        && (suits_body(declarations, false, &[node, head.iterator], body)
+            && (sends_any(declarations, node, body)
+                && (avoids(node, body) && sends_last(declarations, node, false, body))))
 }
 
 // Whether a loop over nodes suits whose body is one inner loop.
@@ -126,7 +144,8 @@ fn suits_edges(
     asks_inside(declarations, &[node], mask)
         && (asks_around(declarations, &[node, head.iterator], filter)
             && (suits_body(declarations, true, &[node, head.iterator], body)
-                || suits_receivers(declarations, node, head, filter, body)))
+                || (suits_receivers(declarations, node, head, filter, body)
+                    || suits_senders(declarations, node, head, filter, body))))
 }
 
 // Whether a loop over nodes suits.

@@ -1,7 +1,7 @@
 //! What stands behind what loops send through node variables.
 
 ghost use Rattle.std.specs.List.{list_all, list_any};
-ghost use Rattle.std.specs.Prelude.{◌≡◌, map, option_map, false};
+ghost use Rattle.std.specs.Prelude.{◌≡◌, ◌||◌, map, not, option_map, false};
 ghost use Rattle.gm_ast.specs.Program.{sequence};
 ghost use Rattle.gm_ast.specs.Tree.{expr_of, stmt_of};
 ghost use Rattle.gm_forms.specs.Forms as Forms;
@@ -159,82 +159,115 @@ fn some_to(property: u32, targets: &[Target]) -> bool
     targets.iter().any(|target| is_to(property, *target))
 }
 
-// Whether a statement of a block sends to a property.
+// Whether a statement of a block sends to a property under a number up to one.
 #[cycle(sending_to)]
-fn some_send_to(declarations: &[Declaration], node: u32, property: u32, stmts: &Vec<Stmt>) -> bool
-    ensures { result ≡ Tests.sends_to declarations.now node property (sequence (map stmt_of stmts.now.items)) }
+fn some_send_upto(
+    declarations: &[Declaration],
+    node: u32,
+    property: u32,
+    number: u32,
+    stmts: &Vec<Stmt>,
+) -> bool
+    ensures { result ≡ Tests.sends_upto declarations.now node property number (sequence (map stmt_of stmts.now.items)) }
 {
     for stmt in stmts {
-        if sends_to(declarations, node, property, stmt) {
+        if sends_upto(declarations, node, property, number, stmt) {
             return true;
         }
     }
     false
 }
 
-// Whether a statement that is evaluated at a node sends to a property.
+// Whether a statement that is evaluated at a node sends to a property under such a number.
 #[cycle(sending_to)]
-fn sends_to(declarations: &[Declaration], node: u32, property: u32, s: &Stmt) -> bool
-    ensures { result ≡ Tests.sends_to declarations.now node property (stmt_of s.now) }
+fn sends_upto(declarations: &[Declaration], node: u32, property: u32, number: u32, s: &Stmt) -> bool
+    ensures { result ≡ Tests.sends_upto declarations.now node property number (stmt_of s.now) }
 {
     match s {
-        Stmt::Block(stmts) => some_send_to(declarations, node, property, stmts),
-        Stmt::Reduce { targets, .. } => {
-            is_sent(declarations, node, targets) && some_to(property, targets)
+        Stmt::Block(stmts) => some_send_upto(declarations, node, property, number, stmts),
+        Stmt::Reduce { total, targets, .. } => {
+            is_sent(declarations, node, targets)
+                && (some_to(property, targets) && total.key.statement <= number)
         }
         Stmt::If { yes, no, .. } => {
-            sends_to(declarations, node, property, yes)
-                || sends_to(declarations, node, property, no)
+            sends_upto(declarations, node, property, number, yes)
+                || sends_upto(declarations, node, property, number, no)
         }
         _ => false,
     }
 }
 
-// Whether a target is no property to which a body sends.
-fn is_unsent(declarations: &[Declaration], node: u32, body: &Stmt, target: Target) -> bool
-    ensures { result ≡ Tests.is_unsent declarations.now node (stmt_of body.now) target }
+// Whether a target is no property to which a body sends under a number up to one.
+fn is_unsent(
+    declarations: &[Declaration],
+    node: u32,
+    body: &Stmt,
+    number: u32,
+    target: Target,
+) -> bool
+    ensures { result ≡ Tests.is_unsent declarations.now node (stmt_of body.now) number target }
 {
     match target {
         Target::Scalar { .. } => true,
-        Target::Property { property, .. } => !sends_to(declarations, node, property, body),
+        Target::Property { property, .. } => {
+            !sends_upto(declarations, node, property, number, body)
+        }
     }
 }
 
 // Whether all targets are none.
-fn are_unsent(declarations: &[Declaration], node: u32, body: &Stmt, targets: &[Target]) -> bool
-    ensures { result ≡ list_all (Tests.is_unsent declarations.now node (stmt_of body.now)) targets.now }
+fn are_unsent(
+    declarations: &[Declaration],
+    node: u32,
+    body: &Stmt,
+    number: u32,
+    targets: &[Target],
+) -> bool
+    ensures { result ≡ list_all (Tests.is_unsent declarations.now node (stmt_of body.now) number) targets.now }
 {
-    targets
-        .iter()
-        .all(|target| is_unsent(declarations, node, body, *target))
+    targets.iter().all(|target| is_unsent(declarations, node, body, number, *target))
 }
 
-// Whether the statements of a block reduce to no property of the node to which a body sends.
+// Whether a reduction of a number is to no property of the node to which a body sends under a number up to it.
+fn folds_before(
+    declarations: &[Declaration],
+    node: u32,
+    body: &Stmt,
+    number: u32,
+    targets: &[Target],
+) -> bool
+    ensures { result ≡ (not (Tests.is_folded (Plans.way_of declarations.now node targets.now)) || list_all (Tests.is_unsent declarations.now node (stmt_of body.now) number) targets.now) }
+{
+    !is_folded(declarations, node, targets) || are_unsent(declarations, node, body, number, targets)
+}
+
+// Whether the statements of a block reduce to properties of the node by lesser numbers alone than those by which a body sends
+// to the same ones.
 #[cycle(folding)]
-fn fold_apart(declarations: &[Declaration], node: u32, stmts: &Vec<Stmt>, body: &Stmt) -> bool
-    ensures { result ≡ Tests.folds_apart declarations.now node (stmt_of body.now) (sequence (map stmt_of stmts.now.items)) }
+fn fold_first(declarations: &[Declaration], node: u32, stmts: &Vec<Stmt>, body: &Stmt) -> bool
+    ensures { result ≡ Tests.folds_first declarations.now node (stmt_of body.now) (sequence (map stmt_of stmts.now.items)) }
 {
     for stmt in stmts {
-        if !folds_apart(declarations, node, stmt, body) {
+        if !folds_first(declarations, node, stmt, body) {
             return false;
         }
     }
     true
 }
 
-/// Whether a statement that is evaluated at a node reduces to none of its properties to which a body sends. The body is gone
-/// through once for each property to which the statement reduces.
+/// Whether a statement that is evaluated at a node reduces to its properties by lesser numbers alone than those by which a body
+/// sends to the same ones. The body is gone through once for each property to which the statement reduces.
 #[cycle(folding)]
-pub fn folds_apart(declarations: &[Declaration], node: u32, s: &Stmt, body: &Stmt) -> bool
-    ensures { result ≡ Tests.folds_apart declarations.now node (stmt_of body.now) (stmt_of s.now) }
+pub fn folds_first(declarations: &[Declaration], node: u32, s: &Stmt, body: &Stmt) -> bool
+    ensures { result ≡ Tests.folds_first declarations.now node (stmt_of body.now) (stmt_of s.now) }
 {
     match s {
-        Stmt::Block(stmts) => fold_apart(declarations, node, stmts, body),
-        Stmt::Reduce { targets, .. } => {
-            !is_folded(declarations, node, targets) || are_unsent(declarations, node, body, targets)
+        Stmt::Block(stmts) => fold_first(declarations, node, stmts, body),
+        Stmt::Reduce { total, targets, .. } => {
+            folds_before(declarations, node, body, total.key.statement, targets)
         }
         Stmt::If { yes, no, .. } => {
-            folds_apart(declarations, node, yes, body) && folds_apart(declarations, node, no, body)
+            folds_first(declarations, node, yes, body) && folds_first(declarations, node, no, body)
         }
         _ => true,
     }
