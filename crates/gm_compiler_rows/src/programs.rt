@@ -519,6 +519,94 @@ node b count
 1 4 0
 2 2 0
 turns 0
+~ r=0
+Procedure both(G: Graph, a: N_P<Int>, r: Node; count: N_P<Int>) {
+  Foreach (n: G.Nodes) {
+    Foreach (t: n.Nbrs) { t.count += 1; r.count += t.a; }
+  }
+}
+%%
+0 1
+2 1
+1 2
+1 0
+v 0 1
+v 1 2
+v 2 3
+=>
+node count
+0 9
+1 2
+2 1
+turns 0
+~ r=0
+Procedure edges(G: Graph, r: Node; count: N_P<Int>) {
+  Foreach (n: G.Nodes) { Foreach (t: n.Nbrs) { r.count += 1; } }
+}
+%%
+0 1
+2 1
+1 2
+=>
+node count
+0 3
+1 0
+2 0
+turns 0
+~ r=1
+Procedure lead(G: Graph, r: Node; b: N_P<Node>, count: N_P<Int>) {
+  Foreach (n: G.Nodes) (n != r) { n.b = r; }
+  Foreach (n: G.Nodes) {
+    Node v = n.b;
+    Foreach (t: n.Nbrs) { v.count += 1; }
+  }
+}
+%%
+0 1
+2 1
+2 0
+=>
+node b count
+0 1 0
+1 NIL 3
+2 1 0
+turns 0
+~ r=1
+Procedure lead(G: Graph, r: Node; b: N_P<Node>, count: N_P<Int>) {
+  Foreach (n: G.Nodes) (n != r) { n.b = r; }
+  Foreach (n: G.Nodes) {
+    Node v = n.b;
+    Foreach (t: n.Nbrs) { v.count += 1; }
+  }
+}
+%%
+0 1
+1 2
+=>
+fault NilNode at 5:27
+~ r=0
+Procedure most(G: Graph, v: N_P<Int>, r: Node; top, sum: N_P<Int>) : Int {
+  Int s = 0;
+  Foreach (n: G.Nodes) {
+    Foreach (t: n.Nbrs) (t != r) { s += n.v; r.top max= n.v; r.sum += n.v; }
+  }
+  Return s;
+}
+%%
+0 1
+2 1
+1 2
+1 0
+v 0 1
+v 1 2
+v 2 3
+=>
+return = 6
+node top sum
+0 3 6
+1 0 0
+2 0 0
+turns 0
 ~ s=1 --turns=5
 Procedure p(G: Graph, s: Node; c: N_P<Int>) {
   InBFS (v: G.Nodes From s) { v.c = 1; } InReverse { v.c = 2; }

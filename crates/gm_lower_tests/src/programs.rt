@@ -30,6 +30,6 @@ fn worked_programs_run_as_images(rt: HostRuntime) -> Result<(), Fail> {
             read = read.saturating_add(1);
         }
     }
-    all_read(&rt, read, 35);
+    all_read(&rt, read, 40);
     Ok(())
 }
